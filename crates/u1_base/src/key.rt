@@ -1,0 +1,42 @@
+//! The key of a document in an index.
+ghost use Rattle.std.specs.Prelude.{◌≡◌, ◌≤◌, length};
+
+use crate::{Items, Text, Texts};
+use std::marker::Model;
+
+/// One to eight texts, seen as their list.
+#[derive(Debug, Drop)]
+pub struct Key {
+    texts: Texts,
+}
+
+/// A list of keys.
+pub type Keys = Items<Key>;
+
+impl Model for Key {
+    ghost use Rattle.std.specs.Prelude.{◌≤◌, List, ℕ, length};
+
+    ghost Value = { List (List ℕ) };
+
+    ghost view = { λ k. k.texts };
+
+    ghost invariant = { λ k. (1 ≤ length k.texts) × (length k.texts ≤ 8) };
+}
+
+impl Key {
+    pub fn of(texts: Texts) -> Key
+        requires some { 1 ≤ length texts }
+        requires few { length texts ≤ 8 }
+        ensures { result ≡ texts }
+    {
+        Key { texts }
+    }
+
+    pub fn texts(&self) -> &[Text]
+        ensures value { result.now ≡ self.now }
+        ensures some { 1 ≤ length self.now }
+        ensures few { length self.now ≤ 8 }
+    {
+        self.texts.as_slice()
+    }
+}
