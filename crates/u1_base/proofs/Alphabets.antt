@@ -16,3 +16,15 @@ all_from_position p (x ∷ xs) i none = passed (p x) i _ _ none (all_from_positi
 -- no byte outside: all are in
 pub list_all-position : (p : ℕ → Bool) (xs : List ℕ) → position (λ x. not (p x)) xs ≡ None → list_all p xs ≡ true
 list_all-position p xs none = all_from_position p xs 0 (sym (position_from-zero (λ x. not (p x)) xs) ∙ none)
+
+stopped : (b : Bool) (i : ℕ) (found : Option ℕ) (all : Bool) → (b && all) ≡ true → (all ≡ true → found ≡ None) → cond (not b) (Some i) found ≡ None
+stopped true i found all each later = later each
+stopped false i found all each later = absurd (cc each)
+
+none_outside : (p : ℕ → Bool) (xs : List ℕ) (i : ℕ) → list_all p xs ≡ true → position_from (λ x. not (p x)) i xs ≡ None
+none_outside p [] i each = refl
+none_outside p (x ∷ xs) i each = stopped (p x) i _ _ each (none_outside p xs (i + 1))
+
+-- all bytes in: none is found outside
+pub position-list_all : (p : ℕ → Bool) (xs : List ℕ) → list_all p xs ≡ true → position (λ x. not (p x)) xs ≡ None
+position-list_all p xs each = position_from-zero (λ x. not (p x)) xs ∙ none_outside p xs 0 each

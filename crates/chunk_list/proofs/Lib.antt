@@ -1,0 +1,10 @@
+pub mod Cuts
+pub mod Each
+pub mod Edits
+pub mod Emptied
+pub mod Found
+pub mod Halves
+pub mod Pieces
+pub mod Places
+pub mod Room
+pub mod Sorted

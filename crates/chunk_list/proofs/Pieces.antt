@@ -1,0 +1,158 @@
+-- A list that is joined from pieces: where each piece begins, and what a change in one piece does to the whole.
+use Rattle.std.proofs.Common.{◌≡◌, ℕ, ◌+◌, ◌<◌, ◌≤◌, List, [], ◌∷◌, ◌++◌, length, get_or, set, zero, suc, refl, sym, ◌∙◌, ap, arith, append_assoc, length-append}
+use Rattle.std.proofs.lemmas.List.{get_or-append-add, get_or_append_left, set-append_left, set-append_right}
+use Rattle.std.proofs.lemmas.List.Edits.{insert-append_left, insert-append_right, remove-append_left, remove-append_right}
+use Rattle.std.specs.List.{flat_map, insert, remove}
+use Rattle.std.specs.Prelude.{slice_get, Some, None}
+use Rattle.chunk_list.specs.Chunks.{start_at}
+
+module _ {T : Type 0} where
+  pub slice_get-past : (xs : List T) (j : ℕ) → length xs ≤ j → slice_get xs j ≡ None
+  slice_get-past [] j le = refl
+  slice_get-past (x ∷ xs) zero le = absurd (omega arith)
+  slice_get-past (x ∷ xs) (suc j) le = slice_get-past xs j (omega arith)
+
+  pub slice_get-at : (xs : List T) (j : ℕ) (x : T) → j < length xs → x ≡ get_or xs j x → Some x ≡ slice_get xs j
+  slice_get-at [] j x lt e = absurd (omega arith)
+  slice_get-at (y ∷ xs) zero x lt e = ap Some e
+  slice_get-at (y ∷ xs) (suc j) x lt e = slice_get-at xs j x (omega arith) e
+
+module _ {X T : Type 0} (f : X → List T) where
+  pub start_at-first : (xs : List X) → start_at f xs 0 ≡ 0
+  start_at-first [] = refl
+  start_at-first (x ∷ xs) = refl
+
+  pub start_at-end : (xs : List X) (n : ℕ) → n ≡ length xs → start_at f xs n ≡ length (flat_map f xs)
+  start_at-end [] n e = refl
+  start_at-end (x ∷ xs) zero e = absurd (omega arith)
+  start_at-end (x ∷ xs) (suc n) e = omega (arith, start_at-end xs n (omega arith), length-append (f x) (flat_map f xs))
+
+  pub start_at-next : (xs : List X) (k : ℕ) (d : X) → k < length xs → start_at f xs (suc k) ≡ start_at f xs k + length (f (get_or xs k d))
+  start_at-next [] k d lt = absurd (omega arith)
+  start_at-next (x ∷ xs) zero d lt = omega (arith, start_at-first xs)
+  start_at-next (x ∷ xs) (suc k) d lt = omega (arith, start_at-next xs k d (omega arith))
+
+  -- all pieces begin inside the whole, and later ones later
+  pub start_at-most : (xs : List X) (k : ℕ) → start_at f xs k ≤ length (flat_map f xs)
+  start_at-most [] k = omega arith
+  start_at-most (x ∷ xs) zero = omega arith
+  start_at-most (x ∷ xs) (suc k) = omega (arith, start_at-most xs k, length-append (f x) (flat_map f xs))
+
+  pub start_at-rises : (xs : List X) (j k : ℕ) → j ≤ k → start_at f xs j ≤ start_at f xs k
+  start_at-rises [] j k le = omega arith
+  start_at-rises (x ∷ xs) zero k le = omega (arith, start_at-first (x ∷ xs))
+  start_at-rises (x ∷ xs) (suc j) zero le = absurd (omega arith)
+  start_at-rises (x ∷ xs) (suc j) (suc k) le = omega (arith, start_at-rises xs j k (omega arith))
+
+  pub start_at-inside : (xs : List X) (k : ℕ) (d : X) → k < length xs → start_at f xs k + length (f (get_or xs k d)) ≤ length (flat_map f xs)
+  start_at-inside xs k d lt = omega (arith, start_at-next xs k d lt, start_at-most xs (suc k))
+
+  -- the item at a place of a piece
+  pub get_or-joined : (xs : List X) (i j : ℕ) (d : X) (e : T) → i < length xs → j < length (f (get_or xs i d)) → get_or (f (get_or xs i d)) j e ≡ get_or (flat_map f xs) (start_at f xs i + j) e
+  get_or-joined [] i j d e lt inside = absurd (omega arith)
+  get_or-joined (x ∷ xs) zero j d e lt inside =
+      sym (get_or_append_left (f x) (flat_map f xs) e j inside) ∙ ap (λ (n : ℕ). get_or (f x ++ flat_map f xs) n e) (omega arith)
+  get_or-joined (x ∷ xs) (suc i) j d e lt inside =
+      get_or-joined xs i j d e (omega arith) inside ∙ sym (get_or-append-add (f x) (flat_map f xs) (start_at f xs i + j) e)
+      ∙ ap (λ (n : ℕ). get_or (f x ++ flat_map f xs) n e) (omega arith)
+
+  -- one piece with an item more, an item less, or another item
+  pub insert-joined : (xs : List X) (i p : ℕ) (c d : X) (x : T) → i < length xs → p ≤ length (f (get_or xs i d)) → f c ≡ insert (f (get_or xs i d)) p x
+      → flat_map f (set xs i c) ≡ insert (flat_map f xs) (start_at f xs i + p) x
+  insert-joined [] i p c d x lt inside is = absurd (omega arith)
+  insert-joined (y ∷ xs) zero p c d x lt inside is =
+      ap (λ (l : List T). l ++ flat_map f xs) is ∙ sym (insert-append_left (f y) (flat_map f xs) p x inside)
+      ∙ ap (λ (n : ℕ). insert (f y ++ flat_map f xs) n x) (omega arith)
+  insert-joined (y ∷ xs) (suc i) p c d x lt inside is =
+      ap (λ (l : List T). f y ++ l) (insert-joined xs i p c d x (omega arith) inside is)
+      ∙ ap (λ (n : ℕ). f y ++ insert (flat_map f xs) n x) (omega arith)
+      ∙ sym (insert-append_right (f y) (flat_map f xs) (length (f y)) (length (f y) + start_at f xs i + p) x refl (omega arith))
+
+  pub remove-joined : (xs : List X) (i p : ℕ) (c d : X) → i < length xs → p < length (f (get_or xs i d)) → f c ≡ remove (f (get_or xs i d)) p
+      → flat_map f (set xs i c) ≡ remove (flat_map f xs) (start_at f xs i + p)
+  remove-joined [] i p c d lt inside is = absurd (omega arith)
+  remove-joined (y ∷ xs) zero p c d lt inside is =
+      ap (λ (l : List T). l ++ flat_map f xs) is ∙ sym (remove-append_left (f y) (flat_map f xs) p inside)
+      ∙ ap (λ (n : ℕ). remove (f y ++ flat_map f xs) n) (omega arith)
+  remove-joined (y ∷ xs) (suc i) p c d lt inside is =
+      ap (λ (l : List T). f y ++ l) (remove-joined xs i p c d (omega arith) inside is)
+      ∙ ap (λ (n : ℕ). f y ++ remove (flat_map f xs) n) (omega arith)
+      ∙ sym (remove-append_right (f y) (flat_map f xs) (length (f y)) (length (f y) + start_at f xs i + p) refl (omega arith))
+
+  pub set-joined : (xs : List X) (i p : ℕ) (c d : X) (x : T) → i < length xs → p < length (f (get_or xs i d)) → f c ≡ set (f (get_or xs i d)) p x
+      → flat_map f (set xs i c) ≡ set (flat_map f xs) (start_at f xs i + p) x
+  set-joined [] i p c d x lt inside is = absurd (omega arith)
+  set-joined (y ∷ xs) zero p c d x lt inside is =
+      ap (λ (l : List T). l ++ flat_map f xs) is ∙ sym (set-append_left (f y) (flat_map f xs) p x inside)
+      ∙ ap (λ (n : ℕ). set (f y ++ flat_map f xs) n x) (omega arith)
+  set-joined (y ∷ xs) (suc i) p c d x lt inside is =
+      ap (λ (l : List T). f y ++ l) (set-joined xs i p c d x (omega arith) inside is)
+      ∙ ap (λ (n : ℕ). f y ++ set (flat_map f xs) n x) (omega arith)
+      ∙ sym (set-append_right (f y) (flat_map f xs) (length (f y)) (length (f y) + start_at f xs i + p) x refl (omega arith))
+
+  -- one piece with the same items
+  pub same-joined : (xs : List X) (i : ℕ) (c d : X) → i < length xs → f c ≡ f (get_or xs i d) → flat_map f (set xs i c) ≡ flat_map f xs
+  same-joined [] i c d lt is = absurd (omega arith)
+  same-joined (y ∷ xs) zero c d lt is = ap (λ (l : List T). l ++ flat_map f xs) is
+  same-joined (y ∷ xs) (suc i) c d lt is = ap (λ (l : List T). f y ++ l) (same-joined xs i c d (omega arith) is)
+
+  -- one piece changed: those up to it begin where they did, and the later ones as much later as it is longer
+  pub start_at-set_low : (xs : List X) (i k : ℕ) (c : X) → k ≤ i → start_at f (set xs i c) k ≡ start_at f xs k
+  start_at-set_low [] i k c le = refl
+  start_at-set_low (y ∷ xs) i zero c le = start_at-first (set (y ∷ xs) i c)
+  start_at-set_low (y ∷ xs) zero (suc k) c le = absurd (omega arith)
+  start_at-set_low (y ∷ xs) (suc i) (suc k) c le = ap (λ (n : ℕ). length (f y) + n) (start_at-set_low xs i k c (omega arith))
+
+  pub start_at-set_high : (xs : List X) (i k : ℕ) (c d : X) → i < length xs → i < k → start_at f (set xs i c) k + length (f (get_or xs i d)) ≡ start_at f xs k + length (f c)
+  start_at-set_high [] i k c d lt gt = absurd (omega arith)
+  start_at-set_high (y ∷ xs) i zero c d lt gt = absurd (omega arith)
+  start_at-set_high (y ∷ xs) zero (suc k) c d lt gt = omega arith
+  start_at-set_high (y ∷ xs) (suc i) (suc k) c d lt gt = omega (arith, start_at-set_high xs i k c d (omega arith) (omega arith))
+
+  -- one piece cut in two
+  pub halved-joined : (xs : List X) (i : ℕ) (lower upper d : X) → i < length xs → f lower ++ f upper ≡ f (get_or xs i d) → flat_map f (insert (set xs i lower) (suc i) upper) ≡ flat_map f xs
+  halved-joined [] i lower upper d lt e = absurd (omega arith)
+  halved-joined (x ∷ xs) zero lower upper d lt e = sym (append_assoc (f lower) (f upper) (flat_map f xs)) ∙ ap (λ (l : List T). l ++ flat_map f xs) e
+  halved-joined (x ∷ xs) (suc i) lower upper d lt e = ap (λ (l : List T). f x ++ l) (halved-joined xs i lower upper d (omega arith) e)
+
+  pub start_at-halved_low : (xs : List X) (i k : ℕ) (lower upper : X) → i < length xs → k ≤ i → start_at f (insert (set xs i lower) (suc i) upper) k ≡ start_at f xs k
+  start_at-halved_low [] i k lower upper lt le = absurd (omega arith)
+  start_at-halved_low (x ∷ xs) zero zero lower upper lt le = refl
+  start_at-halved_low (x ∷ xs) zero (suc k) lower upper lt le = absurd (omega arith)
+  start_at-halved_low (x ∷ xs) (suc i) zero lower upper lt le = refl
+  start_at-halved_low (x ∷ xs) (suc i) (suc k) lower upper lt le = ap (λ (n : ℕ). length (f x) + n) (start_at-halved_low xs i k lower upper (omega arith) (omega arith))
+
+  pub start_at-halved_here : (xs : List X) (i : ℕ) (lower upper : X) → i < length xs → start_at f (insert (set xs i lower) (suc i) upper) (suc i) ≡ start_at f xs i + length (f lower)
+  start_at-halved_here [] i lower upper lt = absurd (omega arith)
+  start_at-halved_here (x ∷ xs) zero lower upper lt = omega arith
+  start_at-halved_here (x ∷ xs) (suc i) lower upper lt = omega (arith, start_at-halved_here xs i lower upper (omega arith))
+
+  pub start_at-halved_high : (xs : List X) (i k : ℕ) (lower upper d : X) → i < length xs → length (f lower) + length (f upper) ≡ length (f (get_or xs i d)) → i < k
+      → start_at f (insert (set xs i lower) (suc i) upper) (suc k) ≡ start_at f xs k
+  start_at-halved_high [] i k lower upper d lt e gt = absurd (omega arith)
+  start_at-halved_high (x ∷ xs) i zero lower upper d lt e gt = absurd (omega arith)
+  start_at-halved_high (x ∷ xs) zero (suc k) lower upper d lt e gt = omega arith
+  start_at-halved_high (x ∷ xs) (suc i) (suc k) lower upper d lt e gt = omega (arith, start_at-halved_high xs i k lower upper d (omega arith) e (omega arith))
+
+  -- an empty piece gone
+  pub gone-joined : (xs : List X) (i : ℕ) (d : X) → i < length xs → f (get_or xs i d) ≡ [] → flat_map f (remove xs i) ≡ flat_map f xs
+  gone-joined [] i d lt e = absurd (omega arith)
+  gone-joined (x ∷ xs) zero d lt e = ap (λ (l : List T). l ++ flat_map f xs) (sym e)
+  gone-joined (x ∷ xs) (suc i) d lt e = ap (λ (l : List T). f x ++ l) (gone-joined xs i d (omega arith) e)
+
+  pub start_at-gone_low : (xs : List X) (i k : ℕ) → i < length xs → k < i → start_at f (remove xs i) k ≡ start_at f xs k
+  start_at-gone_low [] i k lt low = absurd (omega arith)
+  start_at-gone_low (x ∷ xs) zero k lt low = absurd (omega arith)
+  start_at-gone_low (x ∷ xs) (suc i) zero lt low = refl
+  start_at-gone_low (x ∷ xs) (suc i) (suc k) lt low = ap (λ (n : ℕ). length (f x) + n) (start_at-gone_low xs i k (omega arith) (omega arith))
+
+  pub start_at-gone_high : (xs : List X) (i k : ℕ) (d : X) → i < length xs → f (get_or xs i d) ≡ [] → i ≤ k → start_at f (remove xs i) k ≡ start_at f xs (suc k)
+  start_at-gone_high [] i k d lt e high = absurd (omega arith)
+  start_at-gone_high (x ∷ xs) zero k d lt e high = omega (arith, ap length e)
+  start_at-gone_high (x ∷ xs) (suc i) zero d lt e high = absurd (omega arith)
+  start_at-gone_high (x ∷ xs) (suc i) (suc k) d lt e high = ap (λ (n : ℕ). length (f x) + n) (start_at-gone_high xs i k d (omega arith) e (omega arith))
+
+  -- pieces that are not empty are no more than the items
+  pub length-pieces : (xs : List X) → ((k : ℕ) (d : X) → k < length xs → 0 < length (f (get_or xs k d))) → length xs ≤ length (flat_map f xs)
+  length-pieces [] full = omega arith
+  length-pieces (x ∷ xs) full = omega (arith, full 0 x (omega arith), length-append (f x) (flat_map f xs), length-pieces xs (λ k d lt. full (suc k) d (omega arith)))

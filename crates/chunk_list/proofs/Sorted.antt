@@ -1,0 +1,160 @@
+-- Sorted entries, by any total order of their keys: what it says of the whole list where a key stands or would
+-- stand, and what is left when an entry is put, replaced or taken out there.
+use Rattle.std.proofs.Common.{◌≡◌, ◌≢◌, ℕ, ◌-◌, ◌<◌, ◌≤◌, Bool, true, false, cond, not, ◌&&◌, List, [], ◌∷◌, length, set, get_or, zero, suc, refl, sym, subst, ◌∙◌, ap, arith, Some, None, Ordering, Less, Equal, Greater}
+use Rattle.std.specs.Prelude.{IsTrue, T}
+use Rattle.std.specs.List.{HoldsAt, insert, remove}
+use Rattle.std.specs.Ordering.{eq_by_cmp, is_lt, is_eq, ordering_reverse}
+use Rattle.std.specs.Cmp.{IsTotalOrder}
+use Rattle.std.specs.FinMap.Entries.{find, put, where_key, is_sorted, below_all, is_sorted-put, by_order, is_sorted-where_key}
+use Rattle.chunk_list.specs.Sorted.{StandsAt, FitsAt}
+
+both_first : (a b : Bool) → IsTrue (a && b) → IsTrue a
+both_first true b p = refl
+both_first false b p = p
+
+both_second : (a b : Bool) → IsTrue (a && b) → IsTrue b
+both_second true b p = p
+both_second false b p = absurd (cc)
+
+is_less : (r : Ordering) → IsTrue (is_lt r) → r ≡ Less
+is_less Less p = refl
+is_less Equal p = absurd (cc)
+is_less Greater p = absurd (cc)
+
+is_greater : (r : Ordering) → is_lt r ≡ false → r ≢ Equal → r ≡ Greater
+is_greater Less p ne = absurd (cc)
+is_greater Equal p ne = absurd (ne refl)
+is_greater Greater p ne = refl
+
+to_test : (b : Bool) → IsTrue b → T b
+to_test true p = tt
+to_test false p = absurd (cc)
+
+from_test : (b : Bool) → T b → IsTrue b
+from_test true p = refl
+from_test false p = absurd p
+
+greater : {K : Type 0} (R : K → K → Ordering) (o : IsTotalOrder R) (k x : K) → R x k ≡ Less → R k x ≡ Greater
+greater R o k x less = o.antisymm k x ∙ ap ordering_reverse less
+
+module _ {K V : Type 0} (R : K → K → Ordering) (o : IsTotalOrder R) where
+  -- an entry behind one that all are above
+  above : (x : K) (es : List (K × V)) (q : ℕ) (d : K × V) → IsTrue (below_all R x es) → q < length es → R x (get_or es q d).0 ≡ Less
+  above x [] q d p lt = absurd (omega arith)
+  above x (e ∷ es) zero d p lt = is_less _ (both_first _ _ p)
+  above x (e ∷ es) (suc q) d p lt = above x es q d (both_second _ _ p) (omega arith)
+
+  -- what is below one that all are above is below all
+  below_more : (k x : K) (es : List (K × V)) → R k x ≡ Less → IsTrue (below_all R x es) → IsTrue (below_all R k es)
+  below_more k x [] less p = refl
+  below_more k x (e ∷ es) less p =
+      subst (λ (r : Ordering). IsTrue (is_lt r && below_all R k es)) (sym (o.trans k x e.0 less (is_less _ (both_first _ _ p)))) (below_more k x es less (both_second _ _ p))
+
+  find_below : (k : K) (es : List (K × V)) → IsTrue (below_all R k es) → find R k es ≡ None
+  find_below k [] p = refl
+  find_below k (e ∷ es) p = ap (λ (r : Ordering). cond (is_eq r) (Some e.1) (find R k es)) (is_less _ (both_first _ _ p)) ∙ find_below k es (both_second _ _ p)
+
+  -- the first entry is below a key that a later one is below
+  first_below : (k : K) (e : K × V) (es : List (K × V)) (q : ℕ) → IsTrue (below_all R e.0 es) → q ≤ length es → HoldsAt (λ y. R y.0 k ≡ Less) (e ∷ es) q → R e.0 k ≡ Less
+  first_below k e es zero p le less = less e
+  first_below k e es (suc q) p le less = o.trans e.0 (get_or es q e).0 k (above e.0 es q e p (omega arith)) (less e)
+
+  -- the last one before a place of the rest
+  rest_before : (k : K) (e : K × V) (es : List (K × V)) (q : ℕ) → HoldsAt (λ y. R y.0 k ≡ Less) (e ∷ es) q → 0 < q → HoldsAt (λ y. R y.0 k ≡ Less) es (q - 1)
+  rest_before k e es zero less lt = absurd (omega arith)
+  rest_before k e es (suc q) less lt = subst (HoldsAt (λ (y : K × V). R y.0 k ≡ Less) es) (omega arith) (λ d. less d)
+
+  put_new : (k : K) (v : V) (es : List (K × V)) (q : ℕ) → IsTrue (is_sorted R es) → q ≤ length es → (0 < q → HoldsAt (λ e. R e.0 k ≡ Less) es (q - 1)) → (q < length es → HoldsAt (λ e. R k e.0 ≡ Less) es q)
+      → (put R k v es ≡ insert es q (k, v)) × (find R k es ≡ None)
+  put_new k v [] zero p le before after = (refl, refl)
+  put_new k v [] (suc q) p le before after = absurd (omega arith)
+  put_new k v (e ∷ es) zero p le before after =
+      let less : R k e.0 ≡ Less = after (omega arith) e in (
+        ap (λ (r : Ordering). by_order r ((k, v) ∷ e ∷ es) ((e.0, v) ∷ es) (e ∷ put R k v es)) less,
+        ap (λ (r : Ordering). cond (is_eq r) (Some e.1) (find R k es)) less ∙ find_below k es (below_more k e.0 es less (both_first _ _ p)),
+      )
+  put_new k v (e ∷ es) (suc q) p le before after =
+      let here : HoldsAt (λ (y : K × V). R y.0 k ≡ Less) (e ∷ es) q = subst (HoldsAt (λ (y : K × V). R y.0 k ≡ Less) (e ∷ es)) (omega arith) (before (omega arith)) in
+      let big : R k e.0 ≡ Greater = greater R o k e.0 (first_below k e es q (both_first _ _ p) (omega arith) here) in
+      let rest : (put R k v es ≡ insert es q (k, v)) × (find R k es ≡ None) =
+      put_new k v es q (both_second _ _ p) (omega arith) (rest_before k e es q here) (λ (lt : q < length es). λ d. after (omega arith) d) in (
+        ap (λ (r : Ordering). by_order r ((k, v) ∷ e ∷ es) ((e.0, v) ∷ es) (e ∷ put R k v es)) big ∙ ap (λ (l : List (K × V)). e ∷ l) rest.0,
+        ap (λ (r : Ordering). cond (is_eq r) (Some e.1) (find R k es)) big ∙ rest.1,
+      )
+
+  -- nothing goes where the key is not found
+  where_none : (k : K) (es : List (K × V)) → find R k es ≡ None → where_key R (λ x. not (eq_by_cmp R k x)) es ≡ es
+  where_none k [] none = refl
+  where_none k (e ∷ es) none =
+      elim (eq_by_cmp R k e.0) as (λ (b : Bool). cond b (Some e.1) (find R k es) ≡ None → cond (not b) (e ∷ where_key R (λ x. not (eq_by_cmp R k x)) es) (where_key R (λ x. not (eq_by_cmp R k x)) es) ≡ e ∷ es) [
+        | true ↦ λ is. absurd (cc)
+        | false ↦ λ is. ap (λ (l : List (K × V)). e ∷ l) (where_none k es is)
+      ] none
+
+  pub sorted_put : (k : K) (v : V) (es : List (K × V)) → IsTrue (is_sorted R es) → IsTrue (is_sorted R (put R k v es))
+  sorted_put k v es p = from_test (is_sorted R (put R k v es)) (is_sorted-put R o k v es (to_test (is_sorted R es) p))
+
+  pub sorted_where : (keep : K → Bool) (es : List (K × V)) → IsTrue (is_sorted R es) → IsTrue (is_sorted R (where_key R keep es))
+  sorted_where keep es p = from_test (is_sorted R (where_key R keep es)) (is_sorted-where_key R keep es (to_test (is_sorted R es) p))
+
+  -- a search for the first entry that is not below the key found the key, or where it would stand
+  pub fits_at : (k : K) (es : List (K × V)) (q : ℕ) → q ≤ length es → (0 < q → HoldsAt (λ e. is_lt (R e.0 k) ≡ true) es (q - 1)) → (q < length es → HoldsAt (λ e. is_lt (R e.0 k) ≡ false) es q)
+      → (q < length es → HoldsAt (λ e. R e.0 k ≢ Equal) es q) → FitsAt R es k q
+  fits_at k es q le before after other = record {
+    within = le;
+    before = λ some d. is_less _ (before some d);
+    after = λ less d. o.antisymm k (get_or es q d).0 ∙ ap ordering_reverse (is_greater _ (after less d) (other less d));
+  }
+
+  -- the key is not there
+  module _ (k : K) (es : List (K × V)) (q : ℕ) (p : IsTrue (is_sorted R es)) (f : FitsAt R es k q) where
+    pub put_fits : (v : V) → put R k v es ≡ insert es q (k, v)
+    put_fits v = (put_new k v es q p f.within f.before f.after).0
+
+    pub find_fits : find R k es ≡ None
+    find_fits = find_nothing es p f
+      where
+        find_nothing : (xs : List (K × V)) → IsTrue (is_sorted R xs) → FitsAt R xs k q → find R k xs ≡ None
+        find_nothing [] s g = refl
+        find_nothing (e ∷ xs) s g = (put_new k e.1 (e ∷ xs) q s g.within g.before g.after).1
+
+    pub where_fits : where_key R (λ x. not (eq_by_cmp R k x)) es ≡ es
+    where_fits = where_none k es find_fits
+
+  -- the key stands there; keys that tie are the same
+  module _ (same : (x y : K) → R x y ≡ Equal → x ≡ y) where
+    put_there : (k : K) (v : V) (es : List (K × V)) (q : ℕ) (w : K × V) → IsTrue (is_sorted R es) → q < length es → HoldsAt (λ e. R k e.0 ≡ Equal) es q → w ≡ get_or es q w
+        → (put R k v es ≡ set es q (k, v)) × (find R k es ≡ Some w.1)
+    put_there k v [] q w p lt at is = absurd (omega arith)
+    put_there k v (e ∷ es) zero w p lt at is = (
+      ap (λ (r : Ordering). by_order r ((k, v) ∷ e ∷ es) ((e.0, v) ∷ es) (e ∷ put R k v es)) (at e) ∙ ap (λ (x : K). (x, v) ∷ es) (sym (same _ _ (at e))),
+      ap (λ (r : Ordering). cond (is_eq r) (Some e.1) (find R k es)) (at e) ∙ ap (λ (y : K × V). Some y.1) (sym is),
+    )
+    put_there k v (e ∷ es) (suc q) w p lt at is =
+        let less : R e.0 (get_or es q e).0 ≡ Less = above e.0 es q e (both_first _ _ p) (omega arith) in
+        let big : R k e.0 ≡ Greater = greater R o k e.0 (subst (λ (x : K). R e.0 x ≡ Less) (sym (same _ _ (at e))) less) in
+        let rest : (put R k v es ≡ set es q (k, v)) × (find R k es ≡ Some w.1) = put_there k v es q w (both_second _ _ p) (omega arith) (λ d. at d) is in (
+          ap (λ (r : Ordering). by_order r ((k, v) ∷ e ∷ es) ((e.0, v) ∷ es) (e ∷ put R k v es)) big ∙ ap (λ (l : List (K × V)). e ∷ l) rest.0,
+          ap (λ (r : Ordering). cond (is_eq r) (Some e.1) (find R k es)) big ∙ rest.1,
+        )
+
+    where_there : (k : K) (es : List (K × V)) (q : ℕ) → IsTrue (is_sorted R es) → q < length es → HoldsAt (λ e. R k e.0 ≡ Equal) es q → where_key R (λ x. not (eq_by_cmp R k x)) es ≡ remove es q
+    where_there k [] q p lt at = absurd (omega arith)
+    where_there k (e ∷ es) zero p lt at =
+        let none : find R k es ≡ None = find_below k es (subst (λ (x : K). IsTrue (below_all R x es)) (sym (same _ _ (at e))) (both_first _ _ p)) in
+        ap (λ (r : Ordering). cond (not (is_eq r)) (e ∷ where_key R (λ x. not (eq_by_cmp R k x)) es) (where_key R (λ x. not (eq_by_cmp R k x)) es)) (at e) ∙ where_none k es none
+    where_there k (e ∷ es) (suc q) p lt at =
+        let less : R e.0 (get_or es q e).0 ≡ Less = above e.0 es q e (both_first _ _ p) (omega arith) in
+        let big : R k e.0 ≡ Greater = greater R o k e.0 (subst (λ (x : K). R e.0 x ≡ Less) (sym (same _ _ (at e))) less) in
+        ap (λ (r : Ordering). cond (not (is_eq r)) (e ∷ where_key R (λ x. not (eq_by_cmp R k x)) es) (where_key R (λ x. not (eq_by_cmp R k x)) es)) big
+        ∙ ap (λ (l : List (K × V)). e ∷ l) (where_there k es q (both_second _ _ p) (omega arith) (λ d. at d))
+
+    module _ (k : K) (es : List (K × V)) (q : ℕ) (p : IsTrue (is_sorted R es)) (s : StandsAt R es k q) where
+      pub find_stands : (w : K × V) → w ≡ get_or es q w → find R k es ≡ Some w.1
+      find_stands w is = (put_there k w.1 es q w p s.within s.same is).1
+
+      pub where_stands : where_key R (λ x. not (eq_by_cmp R k x)) es ≡ remove es q
+      where_stands = where_there k es q p s.within s.same
+
+      pub put_stands : (v : V) (w : K × V) → w ≡ get_or es q w → put R k v es ≡ set es q (k, v)
+      put_stands v w is = (put_there k v es q w p s.within s.same is).0

@@ -1,0 +1,50 @@
+-- The chunk that the place falls into takes the item.
+use Rattle.std.proofs.Common.{◌+◌, ◌-◌, List, arith, sym, ◌∙◌, ap, subst}
+use Rattle.std.specs.Global.{Vec}
+use Rattle.chunk_list.specs.Chunks.{joined, IsSound}
+use Rattle.chunk_list.proofs.Places.{first_start}
+use Rattle.chunk_list.proofs.Edits.{put_place, put_spare, raise_fits, put_joined, put_sound}
+use Rattle.chunk_list.proofs.list.ChunkList.insert.Goals as goal
+
+pub home-at-requires-clause-first : goal.home-at-requires-clause-first
+home-at-requires-clause-first g c =
+    let i = c.self.inside in
+    let s = c.self.invariant.laid_out in
+    let more = rw (← c.self.view_is) at c.requires.room in
+    omega (arith, first_start i.chunks.items i.starts.items i.len i.room i.made s (s.some more))
+
+pub home-at-requires-clause-some : goal.home-at-requires-clause-some
+home-at-requires-clause-some g c =
+    let s = c.self.invariant.laid_out in
+    let more = rw (← c.self.view_is) at c.requires.room in
+    omega (arith, s.as_many, s.some more)
+
+pub put-requires-clause-place : goal.put-requires-clause-place
+put-requires-clause-place g c =
+    let i = c.self.inside in
+    put_place i.chunks.items i.starts.items i.len i.room i.made c.self.invariant c.home-at.result c.args.place _ c.home-at.ensures c.index-start.ensures (rw (← c.self.view_is) at c.requires.place)
+
+pub put-requires-clause-spare : goal.put-requires-clause-spare
+put-requires-clause-spare g c =
+    let i = c.self.inside in
+    put_spare i.chunks.items i.starts.items i.len i.room i.made c.self.invariant c.home-at.result c.args.place _ c.home-at.ensures c.index-start.ensures (rw (← c.self.view_is) at c.requires.room)
+
+pub raise-requires-clause-fits : goal.raise-requires-clause-fits
+raise-requires-clause-fits g c =
+    let i = c.self.inside in
+    raise_fits i.chunks.items i.starts.items i.len i.room i.made c.self.invariant c.home-at.result c.args.place _ c.home-at.ensures c.index-start.ensures (rw (← c.self.view_is) at c.requires.room)
+
+pub invariant_of-self : goal.invariant_of-self
+invariant_of-self g c =
+    let i = c.self.inside in
+    subst (λ (l : List (Vec g.row.T.Denot)). IsSound l c.raise.new.starts.items (i.len + 1) (i.room - 1) i.made) (sym c.put.ensures.1)
+    (put_sound i.chunks.items i.starts.items i.len i.room i.made c.self.invariant c.home-at.result c.args.place _ c.home-at.ensures c.index-start.ensures
+    c.args.item c.put.ensures.0 (rw (← c.self.view_is) at c.requires.place) (rw (← c.self.view_is) at c.requires.room) c.put.ensures.2
+    c.raise.new.starts.items c.raise.ensures.len c.raise.ensures.low c.raise.ensures.high)
+
+pub returns-clause-items : goal.returns-clause-items
+returns-clause-items g c =
+    let i = c.self.inside in
+    rw (← c.self.view_is)
+    (ap joined c.put.ensures.1 ∙ put_joined i.chunks.items i.starts.items i.len i.room i.made c.self.invariant c.home-at.result c.args.place _ c.home-at.ensures c.index-start.ensures
+    c.args.item c.put.ensures.0 (rw (← c.self.view_is) at c.requires.place) (rw (← c.self.view_is) at c.requires.room) c.put.ensures.2)

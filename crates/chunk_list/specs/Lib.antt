@@ -1,0 +1,4 @@
+pub mod Chunks
+pub mod Halves
+pub mod Kept
+pub mod Sorted

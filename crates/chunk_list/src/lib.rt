@@ -1,0 +1,13 @@
+//! A list kept in chunks, so that an insertion or a removal moves the items of one chunk alone.
+//!
+//! A contract sees the items, how many more may be inserted without memory, and where the chunks begin.
+#![tactic(auto)]
+
+mod chunks;
+mod list;
+mod search;
+mod starts;
+#[cfg(test)]
+mod tests;
+
+pub use list::ChunkList;

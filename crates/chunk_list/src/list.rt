@@ -1,0 +1,247 @@
+//! The list, and what a caller may do with it.
+ghost use Rattle.std.specs.Prelude.{◌≡◌, ◌+◌, ◌*◌, ◌-◌, ◌^◌, ◌<◌, ◌≤◌, ℕ, [], max, true, false, length, slice_get, slice_index_or, slice_set, IsTrue, ◌↔◌, OnOk};
+ghost use Rattle.std.specs.Fn.{FnReturnsAt};
+ghost use Rattle.std.specs.Option.{option_copied};
+ghost use Rattle.std.specs.List.{HoldsAt, insert, remove};
+ghost use Rattle.chunk_list.specs.Kept.{AreCuts, limit, slack};
+
+use crate::chunks::{exchange, first_chunk, give_back, halve, put, take_out, widen};
+use crate::search::{chunk_of, place_in};
+use crate::starts::{home, lower, raise};
+use std::alloc::Global;
+use std::marker::{Brand, Model};
+use std::sync::ledger::{Blank, Ledger};
+use u1_base::{Memory, Steps};
+
+// A chunk that has grown past this is cut in two when room is made.
+pub(crate) const LIMIT: usize = 512;
+
+// Room is made for at least so many items, so that it is seldom made.
+const SLACK: usize = 16;
+
+/// A list of items in chunks of a few hundred.
+#[derive(Drop)]
+pub struct ChunkList<T> {
+    chunks: Vec<Vec<T>>,
+    // Where each chunk begins in the list.
+    starts: Vec<usize>,
+    len: usize,
+    // Each chunk has spare capacity for so many items.
+    room: usize,
+    // The room when it was last made.
+    made: usize,
+}
+
+impl<T> Model for ChunkList<T> {
+    ghost use Rattle.std.specs.Prelude.{◌+◌};
+    ghost use Rattle.chunk_list.specs.Kept.{Kept, kept_code, limit};
+
+    ghost Value = { Kept T };
+
+    ghost coded = { kept_code T.code };
+
+    ghost use Rattle.chunk_list.specs.Chunks.{joined, IsSound};
+
+    ghost view = { λ s. record { items = joined s.chunks.items; room = s.room; cuts = s.starts.items; longest = limit + s.made } };
+
+    ghost invariant = { λ s. IsSound s.chunks.items s.starts.items s.len s.room s.made };
+}
+
+impl<T> ChunkList<T> {
+    /// An empty list without room.
+    pub fn new(alloc: Global) -> ChunkList<T>
+        ensures items { result.items ≡ [] }
+        ensures room { result.room ≡ 0 }
+        ensures longest { result.longest ≡ limit }
+    {
+        ChunkList {
+            chunks: Vec::new(alloc),
+            starts: Vec::new(alloc),
+            len: 0,
+            room: 0,
+            made: 0,
+        }
+    }
+
+    pub fn len(&self) -> usize
+        ensures { result ≡ length self.now.items }
+    {
+        self.len
+    }
+
+    pub fn is_empty(&self) -> bool
+        ensures { IsTrue result ↔ (self.now.items ≡ []) }
+    {
+        self.len == 0
+    }
+
+    /// How many items may be inserted without memory.
+    pub fn room(&self) -> usize
+        ensures { result ≡ self.now.room }
+    {
+        self.room
+    }
+
+    /// The places where the chunks begin, the first one first. Each chunk ends where the next one begins.
+    pub fn cuts(&self) -> &[usize]
+        ensures value { result.now ≡ self.now.cuts }
+        ensures cuts { AreCuts self.now.cuts (length self.now.items) self.now.longest }
+    {
+        let _ = &self.chunks;
+        self.starts.as_slice()
+    }
+
+    /// The item at a place, which counts from 0. None past the end.
+    pub fn get(&self, place: usize) -> Option<&T>
+        ensures { option_copied result ≡ slice_get self.now.items place }
+    {
+        if place >= self.len {
+            return None;
+        }
+        let at = home(&self.starts, place);
+        let start = self.starts[at];
+        let chunk = &self.chunks[at];
+        Some(&chunk[place - start])
+    }
+
+    /// The place of the first item that does not pass the test, where those that pass stand first; the length
+    /// where all pass. It looks at no more than two times as many items as the length has bits.
+    pub fn search<L: Ledger, F: Fn(&T) -> bool>(&self, passes: F, steps: &mut Steps<L>) -> usize
+        requires { F.IsAlwaysCallable passes }
+        ensures within { result ≤ length self.now.items }
+        ensures before { 0 < result → HoldsAt (λ x. FnReturnsAt F.Fn passes x true) self.now.items (result - 1) }
+        ensures after { result < length self.now.items → HoldsAt (λ x. FnReturnsAt F.Fn passes x false) self.now.items result }
+        ensures looks { (k : ℕ) → length self.now.items < 2 ^ k → steps.new ≤ steps.old + 2 * k }
+    {
+        if self.len == 0 {
+            return 0;
+        }
+        let at = chunk_of(&self.chunks, &passes, steps);
+        let start = self.starts[at];
+        // The first item of the chunk passes, unless it is the first chunk, of which nothing is known.
+        let known = at.min(1);
+        start + place_in(&self.chunks[at], known, &passes, steps)
+    }
+
+    /// `search` for who counts nothing.
+    pub fn find_place<F: Fn(&T) -> bool>(&self, passes: F) -> usize
+        requires { F.IsAlwaysCallable passes }
+        ensures within { result ≤ length self.now.items }
+        ensures before { 0 < result → HoldsAt (λ x. FnReturnsAt F.Fn passes x true) self.now.items (result - 1) }
+        ensures after { result < length self.now.items → HoldsAt (λ x. FnReturnsAt F.Fn passes x false) self.now.items result }
+    {
+        counted::<T, Brand, F>(self, passes, Blank::new(1))
+    }
+
+    /// Makes room for so many more items, in each chunk. Chunks that have grown long are cut here and nowhere
+    /// else. At an error the items stand and the room is no less.
+    pub fn reserve(&mut self, more: usize) -> Result<(), Memory>
+    where
+        T: Drop,
+        ensures items { self.new.items ≡ self.old.items }
+        ensures ok { OnOk result (more ≤ self.new.room) }
+        ensures room { self.old.room ≤ self.new.room }
+        ensures longest { self.new.longest ≤ max self.old.longest (limit + max more slack) }
+    {
+        if more <= self.room {
+            return Ok(());
+        }
+        let wanted = more.max(SLACK);
+        if usize::MAX - self.len < wanted {
+            return Err(Memory);
+        }
+        self.make_room(wanted)
+    }
+
+    fn make_room(&mut self, wanted: usize) -> Result<(), Memory>
+    where
+        T: Drop,
+        requires fits { length self.old.items + wanted < 2 ^ 64 }
+        requires wider { self.old.room ≤ wanted }
+        ensures items { self.new.items ≡ self.old.items }
+        ensures ok { OnOk result (self.new.room ≡ wanted) }
+        ensures room { self.old.room ≤ self.new.room }
+        ensures longest { self.new.longest ≤ max self.old.longest (limit + wanted) }
+    {
+        if self.chunks.len() == 0 {
+            first_chunk(&mut self.chunks, &mut self.starts, wanted)?;
+        }
+        let mut at = 0;
+        while at < self.chunks.len() {
+            if self.chunks[at].len() > LIMIT {
+                halve(&mut self.chunks, &mut self.starts, at, wanted)?;
+            } else {
+                widen(&mut self.chunks, at, wanted)?;
+                at += 1;
+            }
+        }
+        self.room = wanted;
+        self.made = wanted;
+        Ok(())
+    }
+
+    /// Puts the item at a place; those from there on move up by one. It takes no memory.
+    pub fn insert(&mut self, place: usize, item: T)
+    where
+        T: Drop,
+        requires place { place ≤ length self.old.items }
+        requires room { 0 < self.old.room }
+        ensures items { self.new.items ≡ insert self.old.items place item }
+        ensures room { self.new.room + 1 ≡ self.old.room }
+        ensures longest { self.new.longest ≡ self.old.longest }
+    {
+        let at = home(&self.starts, place);
+        let start = self.starts[at];
+        put(&mut self.chunks, at, place - start, item);
+        raise(&mut self.starts, at);
+        self.len += 1;
+        self.room -= 1;
+    }
+
+    /// Puts the item in the place of another, which comes back.
+    pub fn replace(&mut self, place: usize, item: T) -> T
+        requires { place < length self.old.items }
+        ensures value { result ≡ slice_index_or self.old.items place result }
+        ensures items { self.new.items ≡ slice_set self.old.items place item }
+        ensures room { self.new.room ≡ self.old.room }
+        ensures longest { self.new.longest ≡ self.old.longest }
+    {
+        let at = home(&self.starts, place);
+        let start = self.starts[at];
+        exchange(&mut self.chunks, at, place - start, item)
+    }
+
+    /// Takes the item at a place out; those behind it move down by one. An empty chunk is given back, where it
+    /// is not the only one.
+    pub fn remove(&mut self, place: usize) -> T
+    where
+        T: Drop,
+        requires { place < length self.old.items }
+        ensures value { result ≡ slice_index_or self.old.items place result }
+        ensures items { self.new.items ≡ remove self.old.items place }
+        ensures room { self.new.room ≡ self.old.room }
+        ensures longest { self.new.longest ≡ self.old.longest }
+    {
+        let at = home(&self.starts, place);
+        let start = self.starts[at];
+        let item = take_out(&mut self.chunks, at, place - start);
+        lower(&mut self.starts, at);
+        self.len -= 1;
+        give_back(&mut self.chunks, &mut self.starts, at);
+        item
+    }
+}
+
+// A search with a counter of its own.
+fn counted<T, L: Ledger, F: Fn(&T) -> bool>(list: &ChunkList<T>, passes: F, blank: Blank) -> usize
+    requires callable { F.IsAlwaysCallable passes }
+    requires name { blank.name ≡ L.name }
+    requires parts { blank.parts ≡ L.parts }
+    requires some { 0 < L.parts }
+    ensures within { result ≤ length list.now.items }
+    ensures before { 0 < result → HoldsAt (λ x. FnReturnsAt F.Fn passes x true) list.now.items (result - 1) }
+    ensures after { result < length list.now.items → HoldsAt (λ x. FnReturnsAt F.Fn passes x false) list.now.items result }
+{
+    let mut steps = Steps::<L>::new(blank);
+    list.search(passes, &mut steps)
+}

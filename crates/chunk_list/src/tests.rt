@@ -1,0 +1,182 @@
+//! The list against a plain one, and each call on its own.
+use crate::ChunkList;
+use std::test::Fail;
+
+// Pseudo-random numbers: xorshift of 64 bits with the shifts 13, 7 and 17 (Marsaglia, 2003).
+#[derive(Drop)]
+struct Random {
+    state: u64,
+}
+
+impl Random {
+    // A number below the limit, or 0.
+    fn below(&mut self, limit: usize) -> usize {
+        self.state ^= self.state << 13;
+        self.state ^= self.state >> 7;
+        self.state ^= self.state << 17;
+        match self.state.checked_rem(limit as u64) {
+            Some(place) => place as usize,
+            None => 0,
+        }
+    }
+}
+
+fn insert_into_both(
+    list: &mut ChunkList<u64>,
+    plain: &mut Vec<u64>,
+    place: usize,
+    item: u64,
+) -> Result<(), Fail> {
+    list.reserve(1)?;
+    if place <= list.len() && place <= plain.len() {
+        list.insert(place, item);
+        plain.insert(place, item)?;
+    }
+    Ok(())
+}
+
+// Whether both gave the same item.
+fn remove_from_both(list: &mut ChunkList<u64>, plain: &mut Vec<u64>, place: usize) -> bool {
+    if place >= list.len() || place >= plain.len() {
+        return false;
+    }
+    list.remove(place) == plain.remove(place)
+}
+
+// Whether both gave the same item.
+fn replace_in_both(
+    list: &mut ChunkList<u64>,
+    plain: &mut Vec<u64>,
+    place: usize,
+    item: u64,
+) -> bool {
+    if place >= list.len() || place >= plain.len() {
+        return false;
+    }
+    let old = plain[place];
+    plain[place] = item;
+    list.replace(place, item) == old
+}
+
+fn is_same(list: &ChunkList<u64>, plain: &Vec<u64>) -> bool {
+    if list.len() != plain.len() || list.get(plain.len()).is_some() {
+        return false;
+    }
+    for (place, item) in plain.iter().enumerate() {
+        if list.get(place) != Some(item) {
+            return false;
+        }
+    }
+    true
+}
+
+// Whether the cuts begin at 0, rise, stay below the length and are no further apart than `longest`.
+fn are_lawful(list: &ChunkList<u64>, longest: usize) -> bool {
+    let cuts = list.cuts();
+    let mut end = list.len();
+    for cut in cuts.iter().rev() {
+        let is_short = *cut <= end && end - *cut <= longest;
+        let is_full = *cut < end || cuts.len() == 1;
+        if !is_short || !is_full {
+            return false;
+        }
+        end = *cut;
+    }
+    end == 0
+}
+
+#[test]
+fn starts_empty(rt: HostRuntime) -> Result<(), Fail> {
+    let mut list = ChunkList::<u64>::new(rt.alloc());
+    assert!(rt; list.is_empty());
+    assert_eq!(rt; list.len(), 0);
+    assert_eq!(rt; list.room(), 0);
+    assert_eq!(rt; list.get(0), None);
+    assert!(rt; list.cuts().is_empty());
+    assert_eq!(rt; list.find_place(|_| true), 0);
+    list.reserve(1)?;
+    assert!(rt; 1 <= list.room());
+    list.insert(0, 7);
+    assert_eq!(rt; list.get(0), Some(&7));
+    assert_eq!(rt; list.replace(0, 8), 7);
+    assert_eq!(rt; list.remove(0), 8);
+    assert!(rt; list.is_empty());
+    Ok(())
+}
+
+#[test]
+fn is_as_a_plain_list(rt: HostRuntime) -> Result<(), Fail> {
+    let mut random = Random {
+        state: 0x9e37_79b9_7f4a_7c15,
+    };
+    let mut list = ChunkList::new(rt.alloc());
+    let mut plain = Vec::new(rt.alloc());
+    for item in 0..8000 {
+        let end = plain.len();
+        let place = if item % 7 == 6 {
+            end
+        } else {
+            random.below(end)
+        };
+        insert_into_both(&mut list, &mut plain, place, item)?;
+        if item % 3 == 2 {
+            let place = random.below(plain.len());
+            assert!(rt; remove_from_both(&mut list, &mut plain, place));
+        }
+        if item % 5 == 4 {
+            let place = random.below(plain.len());
+            assert!(rt; replace_in_both(&mut list, &mut plain, place, item + 10_000));
+        }
+    }
+    assert_eq!(rt; list.len(), 5334);
+    assert!(rt; is_same(&list, &plain));
+    assert!(rt; are_lawful(&list, 512 + 16));
+    assert!(rt; list.cuts().len() > 10);
+    for round in 0..5333 {
+        let place = random.below(plain.len());
+        assert!(rt; remove_from_both(&mut list, &mut plain, place));
+        if round % 500 == 0 {
+            assert!(rt; is_same(&list, &plain));
+            assert!(rt; are_lawful(&list, 512 + 16));
+        }
+    }
+    assert!(rt; is_same(&list, &plain));
+    assert_eq!(rt; list.cuts(), [0].as_slice());
+    Ok(())
+}
+
+#[test]
+fn a_chunk_made_with_much_room_is_cut_later(rt: HostRuntime) -> Result<(), Fail> {
+    let mut list = ChunkList::new(rt.alloc());
+    list.reserve(3000)?;
+    for item in 0..3000 {
+        if list.room() > 0 {
+            list.insert(0, item);
+        }
+    }
+    assert_eq!(rt; list.len(), 3000);
+    assert_eq!(rt; list.room(), 0);
+    assert_eq!(rt; list.cuts(), [0].as_slice());
+    list.reserve(1)?;
+    assert!(rt; are_lawful(&list, 512));
+    for item in 0..3000 {
+        assert_eq!(rt; list.get(2999 - item as usize), Some(&item));
+    }
+    Ok(())
+}
+
+#[test]
+fn finds_places(rt: HostRuntime) -> Result<(), Fail> {
+    let mut list = ChunkList::<u64>::new(rt.alloc());
+    for item in 0..2000 {
+        list.reserve(1)?;
+        let end = list.len();
+        list.insert(end, item);
+    }
+    assert!(rt; list.cuts().len() > 2);
+    for key in 0..1100 {
+        let want = if key < 1000 { key as usize * 2 } else { 2000 };
+        assert_eq!(rt; list.find_place(|item| *item / 2 < key), want, "{key}");
+    }
+    Ok(())
+}

@@ -1,0 +1,14 @@
+mod Converted
+mod Refused
+mod SameTrees
+mod Ordered
+mod Texts
+mod ReadBack
+mod NumberLength
+mod Sizes
+mod Placed
+mod Quoted
+mod Lexed
+mod Shorter
+pub mod CanonicalTexts
+mod Examples

@@ -1,0 +1,7 @@
+pub mod Tree
+pub mod TreeCode
+pub mod Canonical
+pub mod Contents
+pub mod Faults
+pub mod TreeOf
+pub mod Values

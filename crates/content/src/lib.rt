@@ -1,0 +1,21 @@
+//! Contents of documents: JSON objects with whole numbers only, read with every fault told apart, and written as one
+//! canonical text.
+//!
+//! A contract sees a content as the tree of its root. A content that was read has a text that is never longer than what
+//! was read, and that text reads as the same content.
+#![tactic(auto)]
+
+mod check;
+mod contents;
+mod convert;
+mod copy;
+mod fault;
+mod same;
+#[cfg(test)]
+mod tests;
+mod value;
+mod write;
+
+pub use contents::Content;
+pub use fault::ContentFault;
+pub use value::{Field, Json};

@@ -1,0 +1,4 @@
+pub mod Images
+pub mod Histories
+pub mod Runs
+pub mod Syncs

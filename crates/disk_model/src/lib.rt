@@ -1,0 +1,21 @@
+//! Disks: what a read gives, what a crash may leave, and the failures that are counted.
+//!
+//! `Disk` is the trait. `MemDisk` keeps a file in memory and answers what a crash during each of its calls may
+//! leave; `FileDisk` is the adapter to a file. Layers above make no device call of their own: they write, cut
+//! and read by the functions here, which sync what they do.
+#![tactic(auto)]
+
+mod calls;
+mod device;
+mod file;
+mod losses;
+mod memory;
+mod synced;
+#[cfg(test)]
+mod tests;
+
+pub use device::{Disk, DiskFailed};
+pub use file::FileDisk;
+pub use losses::Choice;
+pub use memory::MemDisk;
+pub use synced::{ReadFault, cut_synced, cut_write_synced, first_byte, read_synced, write_synced};

@@ -1,0 +1,10 @@
+-- The entries that pairs of the program stand for.
+use Rattle.std.specs.Prelude.{List, map}
+use Rattle.index_tables.specs.Order.{Entry}
+use Rattle.index_tables.specs.declared.pairs.Pair.{Pair}
+
+abbrev pub entry_of : Pair → Entry
+entry_of pair = (pair.key, pair.id)
+
+abbrev pub seen : List Pair → List Entry
+seen pairs = map entry_of pairs

@@ -1,0 +1,114 @@
+//! What is done to the sorted list of pairs.
+ghost use Rattle.std.specs.Prelude.{◌≡◌, ◌+◌, ◌-◌, ◌<◌, ◌≤◌, ℕ, true, false, not, length, filter, vec_len, ◌||◌};
+ghost use Rattle.std.specs.List.{HoldsAt};
+ghost use Rattle.std.specs.Ordering.{is_lt};
+ghost use Rattle.index_tables.specs.Entries.{AreDistinct, AreNew, HoldsBoth, entries_of, has, is_of, same};
+ghost use Rattle.index_tables.specs.Order.{IsInOrder, entry_cmp};
+ghost use Rattle.index_tables.specs.Seen.{entry_of, seen};
+
+use crate::order::compare_pair;
+use crate::pairs::Pair;
+use chunk_list::ChunkList;
+use u1_base::{DocId, Key, Text};
+
+// The place of the first pair that is not below a key and an id.
+fn place_of(list: &ChunkList<Pair>, key: &[Text], id: &DocId) -> usize
+    ensures within { result ≤ length list.now.items }
+    ensures before { 0 < result → HoldsAt (λ p. is_lt (entry_cmp (entry_of p) (key.now, id.now)) ≡ true) list.now.items (result - 1) }
+    ensures after { result < length list.now.items → HoldsAt (λ p. is_lt (entry_cmp (entry_of p) (key.now, id.now)) ≡ false) list.now.items result }
+{
+    list.find_place(|pair| compare_pair(pair, key, id).is_lt())
+}
+
+// Whether the pair of a key and an id stands at a place.
+fn stands_at(list: &ChunkList<Pair>, place: usize, key: &[Text], id: &DocId) -> bool
+    ensures yes { result ≡ true → (place < length list.now.items) × HoldsAt (λ p. same (entry_of p) (key.now, id.now) ≡ true) list.now.items place }
+    ensures no { result ≡ false → place < length list.now.items → HoldsAt (λ p. same (entry_of p) (key.now, id.now) ≡ false) list.now.items place }
+{
+    match list.get(place) {
+        Some(pair) => compare_pair(pair, key, id).is_eq(),
+        None => false,
+    }
+}
+
+// Puts a pair in its place.
+fn put(list: &mut ChunkList<Pair>, pair: Pair)
+    requires room { 0 < list.old.room }
+    requires order { IsInOrder (seen list.old.items) }
+    requires fresh { has (seen list.old.items) (entry_of pair) ≡ false }
+    ensures order { IsInOrder (seen list.new.items) }
+    ensures members { (p : _) → has (seen list.new.items) p ≡ (has (seen list.old.items) p || same p (entry_of pair)) }
+    ensures count { length (seen list.new.items) ≡ length (seen list.old.items) + 1 }
+    ensures room { list.new.room + 1 ≡ list.old.room }
+{
+    let place = place_of(list, pair.key.texts(), &pair.id);
+    list.insert(place, pair);
+}
+
+// Puts each pair in its place.
+pub(crate) fn put_all(list: &mut ChunkList<Pair>, mut pairs: Vec<Pair>)
+    requires room { vec_len pairs ≤ list.old.room }
+    requires order { IsInOrder (seen list.old.items) }
+    requires distinct { AreDistinct (seen pairs.items) }
+    requires fresh { AreNew (seen list.old.items) (seen pairs.items) }
+    ensures order { IsInOrder (seen list.new.items) }
+    ensures members { HoldsBoth (seen list.old.items) (seen pairs.items) (seen list.new.items) }
+    ensures count { length (seen list.new.items) ≡ length (seen list.old.items) + vec_len pairs }
+    ensures room { list.new.room + vec_len pairs ≡ list.old.room }
+{
+    while let Some(pair) = pairs.pop() {
+        put(list, pair);
+    }
+}
+
+// Takes the pair of a key and an id out, where it stands.
+fn take_out(list: &mut ChunkList<Pair>, key: &[Text], id: &DocId)
+    requires { IsInOrder (seen list.old.items) }
+    ensures order { IsInOrder (seen list.new.items) }
+    ensures pairs { seen list.new.items ≡ filter (λ p. not (same p (key.now, id.now))) (seen list.old.items) }
+    ensures room { list.new.room ≡ list.old.room }
+{
+    let place = place_of(list, key, id);
+    if stands_at(list, place, key, id) {
+        list.remove(place);
+    }
+}
+
+// Takes the pairs of the keys and an id out.
+pub(crate) fn take_keys(list: &mut ChunkList<Pair>, keys: &[Key], id: &DocId)
+    requires { IsInOrder (seen list.old.items) }
+    ensures order { IsInOrder (seen list.new.items) }
+    ensures pairs { seen list.new.items ≡ filter (λ p. not (has (entries_of id.now keys.now) p)) (seen list.old.items) }
+    ensures room { list.new.room ≡ list.old.room }
+{
+    for key in keys {
+        take_out(list, key.texts(), id);
+    }
+}
+
+// Whether the pair at a place is of the id.
+fn is_of_at(list: &ChunkList<Pair>, place: usize, id: &DocId) -> bool
+    requires { place < length list.now.items }
+    ensures { HoldsAt (λ p. is_of id.now (entry_of p) ≡ result) list.now.items place }
+{
+    match list.get(place) {
+        Some(pair) => pair.id == *id,
+        None => false,
+    }
+}
+
+// Takes all pairs of an id out, from the last to the first.
+pub(crate) fn take_id(list: &mut ChunkList<Pair>, id: &DocId)
+    requires { IsInOrder (seen list.old.items) }
+    ensures order { IsInOrder (seen list.new.items) }
+    ensures pairs { seen list.new.items ≡ filter (λ p. not (is_of id.now p)) (seen list.old.items) }
+    ensures room { list.new.room ≡ list.old.room }
+{
+    let mut place = list.len();
+    while place > 0 {
+        place -= 1;
+        if is_of_at(list, place, id) {
+            list.remove(place);
+        }
+    }
+}

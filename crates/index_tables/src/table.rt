@@ -1,0 +1,152 @@
+//! The table of an index.
+ghost use Rattle.std.specs.Prelude.{◌≡◌, ◌≢◌, ◌+◌, ◌-◌, ◌*◌, ◌^◌, ◌<◌, ◌≤◌, ℕ, [], true, false, not, map, filter, length, slice_get, option_map, IfOk, OnOk, OnErr};
+ghost use Rattle.std.specs.List.{AllPairs, HoldsAt};
+ghost use Rattle.std.specs.Ordering.{is_lt};
+ghost use Rattle.index_tables.specs.Entries.{AreNew, HoldsBoth, entries_of, has, is_of};
+ghost use Rattle.index_tables.specs.Order.{FallsAt, IsInOrder, key_cmp};
+
+use crate::edits::{put_all, take_id, take_keys};
+use crate::order::compare_keys;
+use crate::pairs::{Pair, Pairs, make_pairs};
+use chunk_list::ChunkList;
+use std::alloc::Global;
+use std::marker::Model;
+use std::sync::ledger::Ledger;
+use u1_base::{DocId, Key, Keys, Memory, Steps, Text};
+
+/// The pairs of a key and the id of a document that has it: by key, those of one key by id, each once.
+#[derive(Drop)]
+pub struct IndexTable {
+    pairs: ChunkList<Pair>,
+}
+
+impl Model for IndexTable {
+    ghost use Rattle.index_tables.specs.Table.{Indexed, indexed_code};
+
+    ghost Value = { Indexed };
+
+    ghost coded = { indexed_code };
+
+    ghost use Rattle.index_tables.specs.Order.{IsInOrder};
+    ghost use Rattle.index_tables.specs.Seen.{seen};
+
+    ghost view = { λ s. record { pairs = seen s.pairs.items; room = s.pairs.room } };
+
+    ghost invariant = { λ s. IsInOrder (seen s.pairs.items) };
+}
+
+impl IndexTable {
+    /// An empty table without room.
+    pub fn new(alloc: Global) -> IndexTable
+        ensures pairs { result.pairs ≡ [] }
+        ensures room { result.room ≡ 0 }
+    {
+        IndexTable {
+            pairs: ChunkList::new(alloc),
+        }
+    }
+
+    /// The number of pairs.
+    pub fn length(&self) -> u64
+        ensures value { result ≡ length self.now.pairs }
+        ensures order { IsInOrder self.now.pairs }
+    {
+        self.pairs.len() as u64
+    }
+
+    /// Makes room for so many more pairs. At an error the pairs stand and the room is no less.
+    pub fn reserve(&mut self, more: u64) -> Result<(), Memory>
+        ensures pairs { self.new.pairs ≡ self.old.pairs }
+        ensures ok { OnOk result (more ≤ self.new.room) }
+        ensures room { self.old.room ≤ self.new.room }
+    {
+        self.pairs.reserve(more as usize)
+    }
+
+    /// The pairs of the keys and an id, to be put in later.
+    pub fn pairs(id: &DocId, keys: Keys) -> Result<Pairs, Memory>
+        requires { AllPairs (λ key other. key ≢ other) keys }
+        ensures { IfOk result (λ pairs. pairs ≡ entries_of id.now keys) }
+    {
+        Ok(Pairs {
+            inner: make_pairs(id, keys)?,
+        })
+    }
+
+    /// Puts the pairs in. It takes no memory.
+    pub fn put_pairs(&mut self, pairs: Pairs)
+        requires room { length pairs ≤ self.old.room }
+        requires fresh { AreNew self.old.pairs pairs }
+        ensures members { HoldsBoth self.old.pairs pairs self.new.pairs }
+        ensures order { IsInOrder self.new.pairs }
+        ensures count { length self.new.pairs ≡ length self.old.pairs + length pairs }
+        ensures room { self.new.room + length pairs ≡ self.old.room }
+    {
+        put_all(&mut self.pairs, pairs.inner);
+    }
+
+    /// Adds the pairs of the keys and an id, all of them or, at an error, none.
+    pub fn add(&mut self, id: &DocId, keys: Keys) -> Result<(), Memory>
+        requires distinct { AllPairs (λ key other. key ≢ other) keys }
+        requires fresh { AreNew self.old.pairs (entries_of id.now keys) }
+        ensures ok { OnOk result (HoldsBoth self.old.pairs (entries_of id.now keys) self.new.pairs) }
+        ensures err { OnErr result (self.new.pairs ≡ self.old.pairs) }
+        ensures order { OnOk result (IsInOrder self.new.pairs) }
+        ensures count { OnOk result (length self.new.pairs ≡ length self.old.pairs + length keys) }
+    {
+        let pairs = IndexTable::pairs(id, keys)?;
+        self.reserve(pairs.len() as u64)?;
+        self.put_pairs(pairs);
+        Ok(())
+    }
+
+    /// Drops all pairs of an id. It looks at each pair of the table: `drop_pairs` looks for those of known keys.
+    pub fn remove(&mut self, id: &DocId)
+        ensures pairs { self.new.pairs ≡ filter (λ p. not (is_of id.now p)) self.old.pairs }
+        ensures order { IsInOrder self.new.pairs }
+        ensures room { self.new.room ≡ self.old.room }
+    {
+        take_id(&mut self.pairs, id);
+    }
+
+    /// Drops the pairs of the keys and an id, those that are there. It takes no memory.
+    pub fn drop_pairs(&mut self, id: &DocId, keys: &[Key])
+        ensures pairs { self.new.pairs ≡ filter (λ p. not (has (entries_of id.now keys.now) p)) self.old.pairs }
+        ensures order { IsInOrder self.new.pairs }
+        ensures room { self.new.room ≡ self.old.room }
+    {
+        take_keys(&mut self.pairs, keys, id);
+    }
+
+    /// The pair at a place, which counts from 0. None past the end. It counts one step.
+    pub fn entry<L: Ledger>(&self, place: u64, steps: &mut Steps<L>) -> Option<(&Key, &DocId)>
+        ensures value { option_map (λ p. (p.0.now, p.1.now)) result ≡ slice_get self.now.pairs place }
+        ensures looks { steps.new ≡ steps.old + 1 }
+    {
+        steps.tick();
+        match self.pairs.get(place as usize) {
+            Some(pair) => Some((&pair.key, &pair.id)),
+            None => None,
+        }
+    }
+
+    /// The first place whose key is not below the key. Each pair that it looks at counts one step: at most two
+    /// for each bit of the length.
+    pub fn seek<L: Ledger>(&self, key: &[Text], steps: &mut Steps<L>) -> u64
+        ensures place { FallsAt self.now.pairs key.now result }
+        ensures order { IsInOrder self.now.pairs }
+        ensures looks { (k : ℕ) → length self.now.pairs < 2 ^ k → steps.new ≤ steps.old + 2 * k }
+    {
+        first_from(&self.pairs, key, steps) as u64
+    }
+}
+
+// The place of the first pair whose key is not below the key.
+fn first_from<L: Ledger>(list: &ChunkList<Pair>, key: &[Text], steps: &mut Steps<L>) -> usize
+    ensures within { result ≤ length list.now.items }
+    ensures before { 0 < result → HoldsAt (λ p. is_lt (key_cmp p.key key.now) ≡ true) list.now.items (result - 1) }
+    ensures after { result < length list.now.items → HoldsAt (λ p. is_lt (key_cmp p.key key.now) ≡ false) list.now.items result }
+    ensures looks { (k : ℕ) → length list.now.items < 2 ^ k → steps.new ≤ steps.old + 2 * k }
+{
+    list.search(|pair| compare_keys(pair.key.texts(), key).is_lt(), steps)
+}

@@ -1,0 +1,351 @@
+//! Tables against plain lists, the order of keys, and each call on its own.
+ghost use Rattle.std.specs.Prelude.{◌≡◌, ◌≢◌, ◌<◌, true};
+ghost use Rattle.std.specs.List.{All, AllPairs};
+
+use crate::{IndexTable, compare_keys};
+use std::alloc::Global;
+use std::marker::Brand;
+use std::sync::ledger::{Blank, Ledger};
+use std::test::Fail;
+use u1_base::{DocId, Key, Keys, Memory, Steps, Text, Texts};
+
+// Pseudo-random numbers: xorshift of 64 bits with the shifts 13, 7 and 17 (Marsaglia, 2003).
+#[derive(Drop)]
+struct Random {
+    state: u64,
+}
+
+impl Random {
+    // A number below the limit, or 0.
+    fn below(&mut self, limit: u64) -> u64 {
+        self.state ^= self.state << 13;
+        self.state ^= self.state >> 7;
+        self.state ^= self.state << 17;
+        self.state.checked_rem(limit).unwrap_or(0)
+    }
+}
+
+// Keys of which none stands twice.
+#[derive(Drop)]
+struct KeySet {
+    keys: Keys,
+    ghost distinct: { AllPairs (λ key other. key ≢ other) keys },
+}
+
+impl KeySet {
+    fn new(alloc: Global) -> KeySet {
+        KeySet {
+            keys: Keys::new(alloc),
+        }
+    }
+
+    fn insert(&mut self, key: Key) -> Result<(), Memory> {
+        if is_new(self.keys.as_slice(), key.texts()) {
+            self.keys.push(key)?;
+        }
+        Ok(())
+    }
+}
+
+// Whether a key stands nowhere in a list.
+fn is_new(keys: &[Key], key: &[Text]) -> bool
+    ensures { result ≡ true → All (λ other. other ≢ key.now) keys.now }
+{
+    for other in keys {
+        if compare_keys(other.texts(), key).is_eq() {
+            return false;
+        }
+    }
+    true
+}
+
+// The texts of a key, with a bar between them.
+fn texts(alloc: Global, key: &str) -> Result<Texts, Fail> {
+    let mut texts = Texts::new(alloc);
+    for text in key.split('|') {
+        texts.push(Text::copy(alloc, text)?)?;
+    }
+    Ok(texts)
+}
+
+fn counted_entry<L: Ledger>(table: &IndexTable, place: u64, blank: Blank) -> Option<(&Key, &DocId)>
+    requires name { blank.name ≡ L.name }
+    requires parts { blank.parts ≡ L.parts }
+    requires some { 0 < L.parts }
+{
+    let mut steps = Steps::<L>::new(blank);
+    table.entry(place, &mut steps)
+}
+
+fn entry(table: &IndexTable, place: u64) -> Option<(&Key, &DocId)> {
+    counted_entry::<Brand>(table, place, Blank::new(1))
+}
+
+fn counted_seek<L: Ledger>(table: &IndexTable, key: &[Text], blank: Blank) -> u64
+    requires name { blank.name ≡ L.name }
+    requires parts { blank.parts ≡ L.parts }
+    requires some { 0 < L.parts }
+{
+    let mut steps = Steps::<L>::new(blank);
+    table.seek(key, &mut steps)
+}
+
+fn seek(table: &IndexTable, key: &[Text]) -> u64 {
+    counted_seek::<Brand>(table, key, Blank::new(1))
+}
+
+fn document(alloc: Global, number: u64) -> Result<DocId, Fail> {
+    let text = format!(in alloc; "w{number:02}")?;
+    Ok(DocId::read(alloc, text.as_str())?)
+}
+
+// The text of a number below 100 in two digits, and of one below 10 in one: they go as the numbers do.
+fn numbered(alloc: Global, number: u64) -> Result<Option<Key>, Fail> {
+    let mut texts = Texts::new(alloc);
+    texts.push(Text::from_string(format!(in alloc; "{:02}", number / 10)?))?;
+    texts.push(Text::from_string(format!(in alloc; "{}", number % 10)?))?;
+    Ok(key_of(texts))
+}
+
+fn key_of(texts: Texts) -> Option<Key> {
+    if texts.len() < 1 || texts.len() > 8 {
+        return None;
+    }
+    Some(Key::of(texts))
+}
+
+// Puts the pairs of a document in the place of those that it had, in one call or in three.
+fn put(table: &mut IndexTable, id: &DocId, set: KeySet, at_once: bool) -> Result<(), Memory> {
+    table.remove(id);
+    if at_once {
+        return table.add(id, set.keys);
+    }
+    let pairs = IndexTable::pairs(id, set.keys)?;
+    table.reserve(pairs.len() as u64)?;
+    table.put_pairs(pairs);
+    Ok(())
+}
+
+// A pair as a key number below 1000 times 100, and a document number below 100.
+fn shows(table: &IndexTable, place: u64, alloc: Global, code: u64) -> Result<bool, Fail> {
+    let Some((key, id)) = entry(table, place) else {
+        return Ok(false);
+    };
+    let Some(want) = numbered(alloc, code / 100)? else {
+        return Ok(false);
+    };
+    let is_key = compare_keys(key.texts(), want.texts()).is_eq();
+    Ok(is_key && *id == document(alloc, code % 100)?)
+}
+
+fn is_same(table: &IndexTable, plain: &[u64], alloc: Global) -> Result<bool, Fail> {
+    if table.length() != plain.len() as u64 || entry(table, plain.len() as u64).is_some() {
+        return Ok(false);
+    }
+    for (place, code) in plain.iter().enumerate() {
+        if !shows(table, place as u64, alloc, *code)? {
+            return Ok(false);
+        }
+    }
+    Ok(true)
+}
+
+#[test]
+fn orders_keys(rt: HostRuntime) -> Result<(), Fail> {
+    let alloc = rt.alloc();
+    // In order: a front comes first, and the first texts decide before the second ones.
+    let keys = [
+        "",
+        "|z",
+        "a",
+        "a|",
+        "a|b",
+        "a|z",
+        "ab",
+        "abcdefghijklmnopqr|a",
+        "é",
+    ];
+    for (i, a) in keys.iter().enumerate() {
+        for (j, b) in keys.iter().enumerate() {
+            let left = texts(alloc, a)?;
+            let right = texts(alloc, b)?;
+            let order = compare_keys(left.as_slice(), right.as_slice());
+            assert!(rt; order == i.cmp(&j), "{i} {j}");
+        }
+    }
+    Ok(())
+}
+
+#[test]
+fn starts_empty(rt: HostRuntime) -> Result<(), Fail> {
+    let alloc = rt.alloc();
+    let mut table = IndexTable::new(alloc);
+    let id = document(alloc, 1)?;
+    table.remove(&id);
+    table.drop_pairs(&id, Keys::new(alloc).as_slice());
+    table.reserve(3)?;
+    assert_eq!(rt; table.length(), 0);
+    assert!(rt; entry(&table, 0).is_none());
+    assert_eq!(rt; seek(&table, texts(alloc, "a")?.as_slice()), 0);
+    Ok(())
+}
+
+fn set_of(alloc: Global, keys: &[&str]) -> Result<KeySet, Fail> {
+    let mut set = KeySet::new(alloc);
+    for key in keys {
+        if let Some(key) = key_of(texts(alloc, key)?) {
+            set.insert(key)?;
+        }
+    }
+    Ok(set)
+}
+
+// The texts of a pair's key and its id, with a bar behind each text.
+fn spelled(alloc: Global, table: &IndexTable, place: u64) -> Result<String, Fail> {
+    let mut spelling = String::new(alloc);
+    if let Some((key, id)) = entry(table, place) {
+        for text in key.texts() {
+            spelling.push_str(text.as_str())?;
+            spelling.push('|')?;
+        }
+        spelling.push_str(id.as_str())?;
+    }
+    Ok(spelling)
+}
+
+fn put_keys(alloc: Global, table: &mut IndexTable, number: u64, keys: &[&str]) -> Result<(), Fail> {
+    let set = set_of(alloc, keys)?;
+    put(table, &document(alloc, number)?, set, number == 1)?;
+    Ok(())
+}
+
+fn are_spelled(alloc: Global, table: &IndexTable, rows: &[&str]) -> Result<bool, Fail> {
+    for (place, row) in rows.iter().enumerate() {
+        if spelled(alloc, table, place as u64)?.as_str() != *row {
+            return Ok(false);
+        }
+    }
+    Ok(true)
+}
+
+fn is_sought(alloc: Global, table: &IndexTable, key: &str, place: u64) -> Result<bool, Fail> {
+    Ok(seek(table, texts(alloc, key)?.as_slice()) == place)
+}
+
+// Three documents share keys, one key begins with another, and some share their first text.
+#[test]
+fn seeks_among_equal_keys(rt: HostRuntime) -> Result<(), Fail> {
+    let alloc = rt.alloc();
+    let mut table = IndexTable::new(alloc);
+    put_keys(alloc, &mut table, 3, &["ab", "a", "a|z", "a|"])?;
+    put_keys(alloc, &mut table, 1, &["a|z", "ab", "a|", "a"])?;
+    put_keys(alloc, &mut table, 2, &["a", "a|", "a|z", "a"])?;
+    let rows = [
+        "a|w01", "a|w02", "a|w03", "a||w01", "a||w02", "a||w03", "a|z|w01", "a|z|w02", "a|z|w03",
+        "ab|w01", "ab|w03", "",
+    ];
+    assert!(rt; are_spelled(alloc, &table, &rows)?);
+    let places = [
+        ("", 0),
+        ("a", 0),
+        ("a|", 3),
+        ("a|a", 6),
+        ("a|z", 6),
+        ("ab", 9),
+        ("b", 11),
+    ];
+    for (key, place) in places {
+        assert!(rt; is_sought(alloc, &table, key, place)?, "{key}");
+    }
+    Ok(())
+}
+
+// The keys that a document has in a plain list.
+fn old_keys(alloc: Global, plain: &[u64], number: u64) -> Result<Keys, Fail> {
+    let mut keys = Keys::new(alloc);
+    for code in plain {
+        if *code % 100 == number
+            && let Some(key) = numbered(alloc, *code / 100)?
+        {
+            keys.push(key)?;
+        }
+    }
+    Ok(keys)
+}
+
+// Up to 24 keys for a document, which go to the plain list too.
+fn draw(
+    alloc: Global,
+    random: &mut Random,
+    plain: &mut Vec<u64>,
+    number: u64,
+) -> Result<KeySet, Fail> {
+    let mut set = KeySet::new(alloc);
+    for _ in 0..random.below(25) {
+        let drawn = random.below(300);
+        let code = drawn.saturating_mul(100).saturating_add(number);
+        if !plain.contains(&code)
+            && let Some(key) = numbered(alloc, drawn)?
+        {
+            set.insert(key)?;
+            plain.push(code)?;
+        }
+    }
+    plain.sort()?;
+    Ok(set)
+}
+
+// Drops the pairs of a document from both, by a walk or by its keys.
+fn drop_document(
+    alloc: Global,
+    table: &mut IndexTable,
+    plain: &mut Vec<u64>,
+    number: u64,
+    walks: bool,
+) -> Result<(), Fail> {
+    let id = document(alloc, number)?;
+    if walks {
+        table.remove(&id);
+    } else {
+        table.drop_pairs(&id, old_keys(alloc, plain.as_slice(), number)?.as_slice());
+    }
+    plain.retain(|code| *code % 100 != number);
+    Ok(())
+}
+
+// One document gets other keys, in both. False where the two differ in between.
+fn change(
+    alloc: Global,
+    random: &mut Random,
+    table: &mut IndexTable,
+    plain: &mut Vec<u64>,
+    round: u64,
+) -> Result<bool, Fail> {
+    let number = random.below(100);
+    drop_document(alloc, table, plain, number, round % 4 == 3)?;
+    if round % 50 == 49 && !is_same(table, plain.as_slice(), alloc)? {
+        return Ok(false);
+    }
+    let set = draw(alloc, random, plain, number)?;
+    put(table, &document(alloc, number)?, set, round % 2 == 0)?;
+    Ok(true)
+}
+
+#[test]
+fn is_as_a_plain_list(rt: HostRuntime) -> Result<(), Fail> {
+    let alloc = rt.alloc();
+    let mut random = Random {
+        state: 0x9e37_79b9_7f4a_7c15,
+    };
+    let mut table = IndexTable::new(alloc);
+    let mut plain: Vec<u64> = Vec::new(alloc);
+    for round in 0..2000 {
+        assert!(rt;
+            change(alloc, &mut random, &mut table, &mut plain, round)?,
+            "{round}"
+        );
+    }
+    assert!(rt; table.length() > 700);
+    assert!(rt; is_same(&table, plain.as_slice(), alloc)?);
+    Ok(())
+}

@@ -1,0 +1,8 @@
+pub mod Fields
+pub mod Places
+pub mod Appends
+pub mod Entries
+pub mod Restarts
+pub mod ReaderFields
+pub mod Readings
+mod Examples

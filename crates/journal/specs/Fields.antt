@@ -1,0 +1,69 @@
+-- What the readers of single fields say.
+use Rattle.std.specs.Prelude.{◌≡◌, ◌≢◌, ◌⊎◌, ℕ, ◌+◌, ◌<◌, ◌≤◌, List, ◌∷◌, ◌++◌, length, drop}
+use Rattle.std.specs.Str.{IsUtf8}
+use Rattle.u1_base.specs.Fields.{text_field, u64_bytes}
+use Rattle.u1_base.specs.Ids.{IsId}
+use Rattle.u1_base.specs.declared.ids.Form.{Form}
+use Rattle.journal.specs.Image.{IsFormat, IsLimit, IsHeader, AreBodies, first_field, IsBody, body_field, entries, header_bytes}
+use Rattle.journal.specs.Damage.{Begins, DamagedAt}
+use Rattle.journal.specs.Opening.{head_of}
+use Rattle.journal.specs.declared.found.Found.{Found}
+use Rattle.journal.specs.declared.found.Found.TheVariants as found
+use Rattle.journal.specs.declared.found.Start.{Start}
+use Rattle.journal.specs.declared.found.Entries.{Entries}
+
+-- the bytes begin with no field of the kind
+abbrev pub NoFirst : List ℕ → Type 0
+NoFirst bytes = (format : ℕ) → IsFormat format → ¬ (Begins (first_field format) bytes)
+
+abbrev pub NoLimit : List ℕ → Type 0
+NoLimit bytes = (limit : ℕ) → IsLimit limit → ¬ (Begins (u64_bytes limit) bytes)
+
+abbrev pub NoBody : List ℕ → Type 0
+NoBody bytes = (body : List ℕ) → IsBody body → ¬ (Begins (body_field body) bytes)
+
+-- the bytes begin with no text that is UTF-8
+abbrev pub NoText : List ℕ → Type 0
+NoText bytes = (text : List ℕ) → length text < 65536 → IsUtf8 text → ¬ (Begins (text_field text) bytes)
+
+-- with no id of the form
+abbrev pub NoId : Form → List ℕ → Type 0
+NoId form bytes = (id : List ℕ) → IsId form id → ¬ (Begins (text_field id) bytes)
+
+abbrev pub ReadsIdField : Form → List ℕ → Found (List ℕ) → Type 0
+ReadsIdField form bytes (found.Whole id) = IsId form id × Begins (text_field id) bytes
+ReadsIdField form bytes (found.Broken place) = NoId form bytes
+ReadsIdField form bytes found.Memory = Unit {0}
+
+-- the bytes stand behind these, from the place on
+pub record IsAt (front : List ℕ) (place : ℕ) (bytes : List ℕ) : Type 0 where
+  pub there : length front ≡ place
+  pub split : bytes ≡ front ++ drop place bytes
+
+-- the header, and where the entries begin
+abbrev pub ReadsHeader : List ℕ → Found Start → Type 0
+ReadsHeader bytes (found.Whole start) =
+    IsHeader start.format (head_of start.header) × IsAt (header_bytes start.format (head_of start.header)) start.length bytes
+ReadsHeader bytes (found.Broken place) = DamagedAt place bytes
+ReadsHeader bytes found.Memory = Unit {0}
+
+-- the bytes are entries, and then a gate is missing or has no body behind it
+abbrev pub BreaksAt : ℕ → List ℕ → Type 0
+BreaksAt place bytes =
+    (bodies : List (List ℕ)) × AreBodies bodies
+    × (((bytes ≡ entries bodies) × (place ≡ length (entries bodies)))
+    ⊎ ((tail : List ℕ) × (bytes ≡ entries bodies ++ 1 ∷ tail) × (place ≡ length (entries bodies) + 1)
+    × NoBody tail))
+
+abbrev pub ReadsEntries : List ℕ → Found Entries → Type 0
+ReadsEntries bytes (found.Whole read) =
+    AreBodies read.bodies × (read.length ≡ length (entries read.bodies))
+    × ((gate : ℕ) × (rest : List ℕ) × (gate ≢ 1) × (bytes ≡ entries read.bodies ++ gate ∷ rest))
+ReadsEntries bytes (found.Broken place) = BreaksAt place bytes
+ReadsEntries bytes found.Memory = Unit {0}
+
+-- the entries of these bodies stand before the place
+pub record Reached (bodies : List (List ℕ)) (place : ℕ) (bytes : List ℕ) : Type 0 where
+  pub fit : AreBodies bodies
+  pub there : IsAt (entries bodies) place bytes
+  pub in_range : place ≤ length bytes

@@ -1,0 +1,70 @@
+-- The bytes of an image: a header, entries behind open gates, and a closed gate.
+use Rattle.std.specs.Prelude.{◌≡◌, ◌≢◌, ◌⊎◌, ℕ, ◌^◌, ◌<◌, ◌≤◌, List, [], ◌∷◌, ◌++◌, codes, length}
+use Rattle.u1_base.specs.Fields.{text_field, u32_bytes, u64_bytes}
+use Rattle.u1_base.specs.Ids.{IsId}
+use Rattle.u1_base.specs.declared.ids.Form.TheVariants.{Name, Replica}
+
+-- the database's name, the replica's uid, and the most bytes that the image may have
+pub record Head : Type 0 where
+  pub name : List ℕ
+  pub uid : List ℕ
+  pub limit : ℕ
+
+-- format 2 is written, formats 1 and 2 are read
+abbrev pub IsFormat : ℕ → Type 0
+IsFormat format = (format ≡ 1) ⊎ (format ≡ 2)
+
+-- from 1 KiB to 1 TiB
+abbrev pub IsLimit : ℕ → Type 0
+IsLimit limit = (1024 ≤ limit) × (limit ≤ 2 ^ 40)
+
+-- what a header has to be
+pub record IsHeader (format : ℕ) (head : Head) : Type 0 where
+  pub known : IsFormat format
+  pub name : IsId Name head.name
+  pub uid : IsId Replica head.uid
+  pub limit : IsLimit head.limit
+
+-- the first eight bytes
+unfoldable pub first_field : ℕ → List ℕ
+first_field format = codes "U1DBVOL" ++ format ∷ []
+
+unfoldable pub header_bytes : ℕ → Head → List ℕ
+header_bytes format head = first_field format ++ text_field head.name ++ text_field head.uid ++ u64_bytes head.limit
+
+-- a body has at least one byte, and its length fits four bytes
+abbrev pub IsBody : List ℕ → Type 0
+IsBody body = (1 ≤ length body) × (length body < 2 ^ 32)
+
+abbrev pub AreBodies : List (List ℕ) → Type 0
+AreBodies [] = Unit {0}
+AreBodies (body ∷ bodies) = IsBody body × AreBodies bodies
+
+-- a length and the bytes
+unfoldable pub body_field : List ℕ → List ℕ
+body_field body = u32_bytes (length body) ++ body
+
+-- an entry: an open gate, and a body behind its length
+abbrev pub entry : List ℕ → List ℕ
+entry body = 1 ∷ body_field body
+
+abbrev pub entries : List (List ℕ) → List ℕ
+entries [] = []
+entries (body ∷ bodies) = entry body ++ entries bodies
+
+-- an image up to its closed gate
+abbrev pub front : ℕ → Head → List (List ℕ) → List ℕ
+front format head bodies = header_bytes format head ++ entries bodies
+
+-- an image as it is written
+abbrev pub image : ℕ → Head → List (List ℕ) → List ℕ
+image format head bodies = front format head bodies ++ 0 ∷ []
+
+-- a file reads as this: header and entries, then a gate that is not open, and then anything
+pub record ReadsAs (format : ℕ) (head : Head) (bodies : List (List ℕ)) (file : List ℕ) : Type 0 where
+  pub gate : ℕ
+  pub rest : List ℕ
+  pub header : IsHeader format head
+  pub fit : AreBodies bodies
+  pub shut : gate ≢ 1
+  pub split : file ≡ front format head bodies ++ gate ∷ rest

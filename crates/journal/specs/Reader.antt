@@ -1,0 +1,83 @@
+-- A plain reader of images: what opening finds, as a function.
+use Rattle.std.specs.Prelude.{ℕ, zero, suc, ◌+◌, ◌^◌, Bool, ◌&&◌, ◌==◌, nat_le, nat_lt, if◌then◌else◌, Option, Some, None, List, [], ◌∷◌, length, take, drop}
+use Rattle.std.specs.List.{list_all}
+use Rattle.std.specs.Int.{w16, w32, w64, from_be_bytes}
+use Rattle.std.specs.Str.{bytes_eq}
+use Rattle.u1_base.specs.Fields.{text_field, u64_bytes}
+use Rattle.u1_base.specs.Ids.{is_allowed, longest}
+use Rattle.u1_base.specs.declared.ids.Form.{Form}
+use Rattle.u1_base.specs.declared.ids.Form.TheVariants.{Name, Replica}
+use Rattle.journal.specs.Image.{Head, body_field, first_field}
+
+-- what opening finds: the place of the damage, or what the file reads as
+pub data Reading : Type 0 where
+  Damaged : ℕ → Reading
+  Stands : ℕ → Head → List (List ℕ) → Reading
+
+abbrev pub begins : List ℕ → List ℕ → Bool
+begins field file = bytes_eq (take (length field) file) field
+
+abbrev pub is_id : Form → List ℕ → Bool
+is_id form text = nat_le 1 (length text) && nat_le (length text) (longest form) && list_all (is_allowed form) text
+
+abbrev pub read_first : List ℕ → Option ℕ
+read_first file = if begins (first_field 1) file then Some 1 else (if begins (first_field 2) file then Some 2 else None)
+
+-- the text of the field that the bytes begin with
+abbrev pub read_text : Form → List ℕ → Option (List ℕ)
+read_text form file =
+    let text = take (from_be_bytes w16 (take 2 file)) (drop 2 file) in
+    if begins (text_field text) file && is_id form text then Some text else None
+
+abbrev pub read_limit : List ℕ → Option ℕ
+read_limit file =
+    let limit = from_be_bytes w64 (take 8 file) in
+    if begins (u64_bytes limit) file && nat_le 1024 limit && nat_le limit (2 ^ 40) then Some limit else None
+
+abbrev pub read_body : List ℕ → Option (List ℕ)
+read_body file =
+    let body = take (from_be_bytes w32 (take 4 file)) (drop 4 file) in
+    if begins (body_field body) file && nat_le 1 (length body) && nat_lt (length body) (2 ^ 32) then Some body else None
+
+-- what was read, or damage at the place
+abbrev pub or_damaged : {A : Type 0} → Option A → ℕ → (A → Reading) → Reading
+or_damaged None place then_ = Damaged place
+or_damaged (Some field) place then_ = then_ field
+
+-- one more body before what was found
+abbrev pub with_body : List ℕ → Reading → Reading
+with_body body (Damaged place) = Damaged place
+with_body body (Stands format head bodies) = Stands format head (body ∷ bodies)
+
+-- the entries from a place on; no more of them than the fuel
+unfoldable pub read_entries : ℕ → ℕ → Head → ℕ → List ℕ → Reading
+read_entries zero format head place file = Damaged place
+read_entries (suc fuel) format head place [] = Damaged place
+read_entries (suc fuel) format head place (gate ∷ tail) =
+    if gate == 1
+    then or_damaged (read_body tail) (place + 1)
+    (λ body. with_body body (read_entries fuel format head (place + 1 + length (body_field body)) (drop (length (body_field body)) tail)))
+    else Stands format head []
+
+-- behind the header
+abbrev pub after_limit : List ℕ → ℕ → List ℕ → List ℕ → ℕ → Reading
+after_limit file format name uid limit =
+    let place = 8 + length (text_field name) + length (text_field uid) + 8 in
+    read_entries (length file) format (record { name = name; uid = uid; limit = limit }) place (drop place file)
+
+abbrev pub after_uid : List ℕ → ℕ → List ℕ → List ℕ → Reading
+after_uid file format name uid =
+    let place = 8 + length (text_field name) + length (text_field uid) in
+    or_damaged (read_limit (drop place file)) place (after_limit file format name uid)
+
+abbrev pub after_name : List ℕ → ℕ → List ℕ → Reading
+after_name file format name =
+    let place = 8 + length (text_field name) in
+    or_damaged (read_text Replica (drop place file)) place (after_uid file format name)
+
+abbrev pub after_first : List ℕ → ℕ → Reading
+after_first file format = or_damaged (read_text Name (drop 8 file)) 8 (after_name file format)
+
+-- the first field that cannot be read, or what the file reads as
+unfoldable pub read_image : List ℕ → Reading
+read_image file = or_damaged (read_first file) 0 (after_first file)

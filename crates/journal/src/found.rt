@@ -1,0 +1,25 @@
+//! What the readers of an image find.
+use crate::{Bodies, Header};
+
+/// A field, or a row of fields, that was read; or the place where none could be; or want of memory.
+#[derive(Debug, Drop)]
+pub enum Found<T> {
+    Whole(T),
+    Broken(usize),
+    Memory,
+}
+
+/// A header, and its length in bytes.
+#[derive(Debug, Drop)]
+pub struct Start {
+    pub format: u8,
+    pub header: Header,
+    pub length: usize,
+}
+
+/// The bodies of entries, and the length of the entries in bytes.
+#[derive(Debug, Drop)]
+pub struct Entries {
+    pub bodies: Bodies,
+    pub length: usize,
+}

@@ -1,0 +1,170 @@
+//! Reading the fields of an image. Each reader looks at the front of the bytes that it is given.
+ghost use Rattle.std.specs.Prelude.{◌≡◌, ◌<◌, ◌≤◌, [], ◌∷◌, ◌++◌, MatchOption, OnOk, drop, length};
+ghost use Rattle.u1_base.specs.Fields.{text_field, u64_bytes};
+ghost use Rattle.journal.specs.Image.{IsBody, IsFormat, IsLimit, body_field, first_field};
+ghost use Rattle.journal.specs.Damage.{Begins};
+ghost use Rattle.journal.specs.Fields.{NoBody, NoFirst, NoLimit, NoText, ReadsEntries, ReadsHeader, ReadsIdField};
+
+use crate::found::{Entries, Found, Start};
+use crate::{Bodies, Header};
+use std::alloc::Global;
+use u1_base::limits::{GREATEST_IMAGE_LIMIT, LEAST_IMAGE_LIMIT};
+use u1_base::{Bytes, Database, FormOf, Id, IdFault, Memory, Replica, u16_at, u32_at, u64_at};
+
+/// The gate of an entry that counts. Every other gate is closed.
+const OPEN_GATE: u8 = 1;
+
+/// The bytes from the place on.
+pub(crate) fn behind(bytes: &[u8], place: usize) -> &[u8]
+    requires { place ≤ length bytes.now }
+    ensures { result.now ≡ drop place bytes.now }
+{
+    &bytes[place..]
+}
+
+/// The format, where the bytes begin with the eight of an image.
+fn format_of(bytes: &[u8]) -> Option<u8>
+    ensures { MatchOption result (NoFirst bytes.now) (λ format. IsFormat format × Begins (first_field format) bytes.now) }
+{
+    if bytes.len() < 8 {
+        return None;
+    }
+    let first = &bytes[..8];
+    if first == b"U1DBVOL\x01".as_slice() {
+        return Some(1);
+    }
+    if first == b"U1DBVOL\x02".as_slice() {
+        return Some(2);
+    }
+    None
+}
+
+/// The text of a field.
+fn text_of(bytes: &[u8]) -> Option<&str>
+    ensures { MatchOption result (NoText bytes.now) (λ text. (length text.now < 65536) × Begins (text_field text.now) bytes.now) }
+{
+    if bytes.len() < 2 {
+        return None;
+    }
+    let size = u16_at(bytes, 0) as usize;
+    let rest = &bytes[2..];
+    if rest.len() < size {
+        return None;
+    }
+    match str::from_utf8(&rest[..size]) {
+        Ok(text) => Some(text),
+        Err(_) => None,
+    }
+}
+
+/// The id of a field.
+fn id_of<F: FormOf>(alloc: Global, bytes: &[u8]) -> Found<Id<F>>
+    ensures { ReadsIdField F.form bytes.now result }
+{
+    let Some(text) = text_of(bytes) else {
+        return Found::Broken(0);
+    };
+    match Id::read(alloc, text) {
+        Ok(id) => Found::Whole(id),
+        Err(IdFault::Memory) => Found::Memory,
+        Err(IdFault::Empty) => Found::Broken(0),
+        Err(IdFault::TooLong(_)) => Found::Broken(0),
+        Err(IdFault::BadByte(_)) => Found::Broken(0),
+    }
+}
+
+/// The limit of an image.
+fn limit_of(bytes: &[u8]) -> Option<u64>
+    ensures { MatchOption result (NoLimit bytes.now) (λ limit. IsLimit limit × Begins (u64_bytes limit) bytes.now) }
+{
+    if bytes.len() < 8 {
+        return None;
+    }
+    let limit = u64_at(bytes, 0);
+    if limit < LEAST_IMAGE_LIMIT {
+        return None;
+    }
+    if limit > GREATEST_IMAGE_LIMIT {
+        return None;
+    }
+    Some(limit)
+}
+
+/// The body behind its length.
+fn body_of(bytes: &[u8]) -> Option<&[u8]>
+    ensures { MatchOption result (NoBody bytes.now) (λ body. IsBody body.now × Begins (body_field body.now) bytes.now) }
+{
+    if bytes.len() < 4 {
+        return None;
+    }
+    let size = u32_at(bytes, 0) as usize;
+    let rest = &bytes[4..];
+    if size == 0 {
+        return None;
+    }
+    if rest.len() < size {
+        return None;
+    }
+    Some(&rest[..size])
+}
+
+/// The header that the bytes begin with.
+pub(crate) fn header_of(alloc: Global, bytes: &[u8]) -> Found<Start>
+    ensures { ReadsHeader bytes.now result }
+{
+    let Some(format) = format_of(bytes) else {
+        return Found::Broken(0);
+    };
+    let after_first = behind(bytes, 8);
+    let name = match id_of::<Database>(alloc, after_first) {
+        Found::Whole(name) => name,
+        Found::Broken(_) => return Found::Broken(8),
+        Found::Memory => return Found::Memory,
+    };
+    let uid_at = 10 + name.as_str().len();
+    let after_name = behind(bytes, uid_at);
+    let uid = match id_of::<Replica>(alloc, after_name) {
+        Found::Whole(uid) => uid,
+        Found::Broken(_) => return Found::Broken(uid_at),
+        Found::Memory => return Found::Memory,
+    };
+    let limit_at = uid_at + 2 + uid.as_str().len();
+    let after_uid = behind(bytes, limit_at);
+    let Some(limit) = limit_of(after_uid) else {
+        return Found::Broken(limit_at);
+    };
+    let header = Header { name, uid, limit };
+    Found::Whole(Start {
+        format,
+        header,
+        length: limit_at + 8,
+    })
+}
+
+/// The entries that the bytes begin with, up to the first closed gate.
+pub(crate) fn entries_of(alloc: Global, bytes: &[u8]) -> Found<Entries>
+    ensures { ReadsEntries bytes.now result }
+{
+    let mut bodies = Bodies::new(alloc);
+    let mut at = 0;
+    while at < bytes.len() {
+        if bytes[at] != OPEN_GATE {
+            return Found::Whole(Entries { bodies, length: at });
+        }
+        let after_gate = behind(bytes, at + 1);
+        let Some(body) = body_of(after_gate) else {
+            return Found::Broken(at + 1);
+        };
+        match add_copy(alloc, &mut bodies, body) {
+            Ok(()) => at += 5 + body.len(),
+            Err(Memory) => return Found::Memory,
+        }
+    }
+    Found::Broken(at)
+}
+
+fn add_copy(alloc: Global, bodies: &mut Bodies, body: &[u8]) -> Result<(), Memory>
+    ensures { OnOk result (bodies.new ≡ bodies.old ++ body.now ∷ []) }
+{
+    bodies.push(Bytes::from_vec(body.to_vec(alloc)?))
+}

@@ -1,0 +1,80 @@
+//! Beginning an image anew, so that a crash leaves the old bytes, bytes that do not read, or the empty image.
+ghost use Rattle.std.specs.Prelude.{◌≡◌, ◌≢◌, ◌≤◌, ◌<◌, Err, IsTrue, IfOk, OnOk, IsErrOf, [], length, slice_index};
+ghost use Rattle.u1_base.specs.Causes.{HasCause, Rose};
+ghost use Rattle.disk_model.specs.Disk.{settled};
+ghost use Rattle.disk_model.specs.Moments.{LeavesOnly};
+ghost use Rattle.journal.specs.Image.{image};
+ghost use Rattle.journal.specs.Journal.{Holds, IsOnTheWay, IsExtent};
+ghost use Rattle.journal.specs.Restarting.{IsAnew, IsKeptOrSpoilt};
+ghost use Rattle.journal.specs.Opening.{head_of};
+
+use crate::reading::behind;
+use crate::spelling::image_in_bytes;
+use crate::{Header, ImageFault, Journal};
+use disk_model::{Disk, DiskFailed, cut_synced, first_byte, write_synced};
+use std::alloc::Global;
+
+/// The first byte of every image.
+const FIRST_BYTE: u8 = 0x55;
+
+/// Puts an empty image of format 2 in the place of all that the disk holds, in four parts, each with its sync.
+///
+/// The first byte is spoilt, the disk is cut to it, the rest of the image is written behind it, and then the first
+/// byte. At `Memory` the disk was not called.
+pub fn restart_image<D: Disk>(
+    alloc: Global,
+    disk: &mut D,
+    header: &Header,
+) -> Result<Journal, ImageFault>
+    requires { IsTrue D.tells → D.now disk.old ≡ settled (D.seen disk.old) }
+    ensures written { IsTrue D.tells → OnOk result (D.seen disk.new ≡ image 2 (head_of header.now) []) }
+    ensures ok { IsTrue D.tells → IfOk result (λ journal. Holds D.seen D.now disk.new journal 2 (head_of header.now) []) }
+    ensures extent { IfOk result (λ journal. IsExtent 2 (head_of header.now) [] journal) }
+    ensures beside { IsTrue D.tells → D.beside disk.new ≡ D.beside disk.old }
+    ensures any_moment { IsTrue D.tells → LeavesOnly D.now D.beside D.past disk.old disk.new (IsOnTheWay (D.seen disk.old) (head_of header.now)) }
+    ensures untouched { result ≡ Err ImageFault.Memory → disk.new ≡ disk.old }
+    ensures later { D.faults disk.old ≤ D.faults disk.new }
+    ensures failed { IsErrOf result ImageFault.Disk → Rose (D.faults disk.old) (D.faults disk.new) }
+{
+    let Ok(image) = image_in_bytes(alloc, header, &[]) else {
+        return Err(ImageFault::Memory);
+    };
+    match begin_anew(disk, image.as_slice()) {
+        Ok(()) => Ok(Journal::of(image.len() as u64, header.limit)),
+        Err(DiskFailed) => Err(ImageFault::Disk),
+    }
+}
+
+fn begin_anew<D: Disk>(disk: &mut D, image: &[u8]) -> Result<(), DiskFailed>
+    requires settled { IsTrue D.tells → D.now disk.old ≡ settled (D.seen disk.old) }
+    requires some { 1 ≤ length image.now }
+    requires first { slice_index image.now 0 ≡ 85 }
+    ensures written { IsTrue D.tells → OnOk result (D.seen disk.new ≡ image.now) }
+    ensures durable { IsTrue D.tells → OnOk result (D.now disk.new ≡ settled (D.seen disk.new)) }
+    ensures beside { IsTrue D.tells → D.beside disk.new ≡ D.beside disk.old }
+    ensures any_moment { IsTrue D.tells → LeavesOnly D.now D.beside D.past disk.old disk.new (IsAnew (D.seen disk.old) image.now) }
+    ensures cause { HasCause (D.faults disk.old) (D.faults disk.new) result }
+{
+    let rest = behind(image, 1);
+    spoil(disk)?;
+    cut_synced(disk, 1)?;
+    write_synced(disk, 1, rest)?;
+    write_synced(disk, 0, &image[..1])
+}
+
+// Leaves a first byte with which no image begins.
+fn spoil<D: Disk>(disk: &mut D) -> Result<(), DiskFailed>
+    requires { IsTrue D.tells → D.now disk.old ≡ settled (D.seen disk.old) }
+    ensures some { IsTrue D.tells → OnOk result (1 ≤ length (D.seen disk.new)) }
+    ensures spoilt { IsTrue D.tells → OnOk result (slice_index (D.seen disk.new) 0 ≢ 85) }
+    ensures durable { IsTrue D.tells → OnOk result (D.now disk.new ≡ settled (D.seen disk.new)) }
+    ensures beside { IsTrue D.tells → D.beside disk.new ≡ D.beside disk.old }
+    ensures any_moment { IsTrue D.tells → LeavesOnly D.now D.beside D.past disk.old disk.new (IsKeptOrSpoilt (D.seen disk.old)) }
+    ensures cause { HasCause (D.faults disk.old) (D.faults disk.new) result }
+{
+    match first_byte(disk)? {
+        None => write_synced(disk, 0, &[0]),
+        Some(FIRST_BYTE) => write_synced(disk, 0, &[0]),
+        Some(_) => Ok(()),
+    }
+}

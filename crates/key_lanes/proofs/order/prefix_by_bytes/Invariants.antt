@@ -1,0 +1,10 @@
+use Rattle.std.proofs.Common.{◌-◌, ◌≤◌}
+use Rattle.key_lanes.specs.Blocks.{EqualBetween}
+use Rattle.key_lanes.proofs.order.prefix_by_bytes.Given as goal
+
+-- what was passed is equal
+abbrev pub invariant-loop-at : goal.invariant-loop-at
+invariant-loop-at l = record { within : l.at ≤ l.len; same : EqualBetween l.a l.b 0 l.at }
+
+abbrev pub decreases-loop-at : goal.decreases-loop-at
+decreases-loop-at l = l.len - l.at

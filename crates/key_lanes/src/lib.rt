@@ -1,0 +1,15 @@
+//! Searches and comparisons of bytes that go 16 bytes at a time.
+//!
+//! Each call answers exactly what its plain definition says, for every length. None takes memory, none fails.
+#![tactic(auto)]
+
+mod ascii;
+mod block;
+mod lines;
+mod order;
+#[cfg(test)]
+mod tests;
+
+pub use ascii::{is_ascii, lower_ascii};
+pub use lines::find_break;
+pub use order::{common_prefix, compare};

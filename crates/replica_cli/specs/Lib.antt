@@ -1,0 +1,9 @@
+pub mod Body
+pub mod Commands
+pub mod Lines
+pub mod Outcome
+pub mod Printed
+pub mod Run
+pub mod Seen
+pub mod Verbs
+pub mod Words

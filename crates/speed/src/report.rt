@@ -1,0 +1,53 @@
+//! What a workload reports.
+use std::process::ExitCode;
+use std::time::{Duration, Instant};
+use u1_base::Memory;
+
+/// Why there is no report.
+#[derive(Debug, Drop)]
+pub enum Fault {
+    Words,
+    Run,
+}
+
+impl From<Memory> for Fault {
+    fn from(_memory: Memory) -> Fault {
+        Fault::Run
+    }
+}
+
+/// One measured workload.
+#[derive(Debug, Drop)]
+pub struct Report {
+    pub name: &'static str,
+    pub size: u32,
+    /// What was computed: it shows that the work was done, and is the same at every run.
+    pub result: u64,
+    pub ours: Duration,
+    pub peer: Duration,
+}
+
+impl Report {
+    /// Prints the result and the times.
+    pub fn print(&self, rt: &HostRuntime) -> ExitCode {
+        let (name, size, result) = (self.name, self.size, self.result);
+        let (ours, peer) = (self.ours.as_micros(), self.peer.as_micros());
+        let printed = println!(rt; "{name} {size} {result}");
+        let timed = eprintln!(rt; "{name} {size} ours {ours} peer {peer}");
+        if printed.is_ok() && timed.is_ok() {
+            ExitCode::SUCCESS
+        } else {
+            ExitCode::from(1)
+        }
+    }
+}
+
+/// The time, from which a workload is measured.
+pub fn started(rt: &HostRuntime) -> Result<Instant, Fault> {
+    Instant::now(rt).map_err(|_| Fault::Run)
+}
+
+/// The time since then.
+pub fn elapsed(rt: &HostRuntime, since: Instant) -> Result<Duration, Fault> {
+    since.elapsed(rt).map_err(|_| Fault::Run)
+}

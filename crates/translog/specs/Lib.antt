@@ -1,0 +1,5 @@
+pub mod Entries
+pub mod Log
+pub mod Source
+pub mod Checks
+pub mod Laws

@@ -1,0 +1,9 @@
+pub mod CountsLaws
+pub mod ClockLaws
+pub mod Walks
+pub mod Merge
+pub mod Raising
+pub mod Reading
+pub mod Spelling
+pub mod RoundTrip
+pub mod Worked

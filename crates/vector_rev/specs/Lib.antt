@@ -1,0 +1,7 @@
+pub mod Counts
+pub mod Clock
+pub mod Compare
+pub mod ClockText
+pub mod Made
+pub mod Parts
+pub mod Laws

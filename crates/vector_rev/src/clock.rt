@@ -1,0 +1,73 @@
+//! A clock, and what it counts.
+ghost use Rattle.std.specs.Prelude.{◌≡◌, ◌≤◌, IfOk, T, length};
+ghost use Rattle.u1_base.specs.Ids.{IsId};
+ghost use Rattle.u1_base.specs.declared.ids.Form.TheVariants as form_of;
+ghost use Rattle.vector_rev.specs.Clock.{count_of, is_clock};
+ghost use Rattle.vector_rev.specs.Made.{IsFirst};
+
+use crate::ClockEntry;
+use crate::join::push_copies;
+use std::alloc::Global;
+use std::marker::Model;
+use u1_base::{Items, Memory, ReplicaUid};
+
+/// A vector clock: the counters of 1 to 64 replicas, seen as its entries in the order of their uids' bytes.
+#[derive(Debug, Drop)]
+pub struct Clock {
+    pub(crate) entries: Vec<ClockEntry>,
+    pub(crate) ghost well: { T (is_clock entries.items) },
+}
+
+/// A list of clocks.
+pub type Clocks = Items<Clock>;
+
+impl Model for Clock {
+    ghost use Rattle.vector_rev.specs.Clock.{Clock, clock_code};
+
+    ghost Value = { Clock };
+
+    ghost coded = { clock_code };
+
+    ghost view = { λ s. record { entries = s.entries.items; well = s.well } };
+}
+
+impl Clock {
+    /// The clock of a replica that counts itself once and no other.
+    pub fn first(alloc: Global, own: &ReplicaUid) -> Result<Clock, Memory>
+        ensures { IfOk result (λ z. IsFirst own.now z) }
+    {
+        let mut entries = Vec::with_capacity(alloc, 1)?;
+        entries.push(ClockEntry::new(own.copy()?, 1))?;
+        Ok(Clock { entries })
+    }
+
+    pub fn copy(&self) -> Result<Clock, Memory>
+        ensures { IfOk result (λ z. z ≡ self.now) }
+    {
+        let mut entries = Vec::with_capacity(*self.entries.allocator(), self.entries.len())?;
+        push_copies(&mut entries, self.entries.as_slice())?;
+        Ok(Clock { entries })
+    }
+
+    /// The entries in the order of their uids.
+    pub fn entries(&self) -> &[ClockEntry]
+        ensures value { result.now ≡ self.now.entries }
+        ensures some { 1 ≤ length self.now.entries }
+        ensures few { length self.now.entries ≤ 64 }
+    {
+        self.entries.as_slice()
+    }
+
+    /// The counter of the uid, 0 where it has no entry.
+    pub fn count(&self, uid: &ReplicaUid) -> u64
+        ensures { result ≡ count_of self.now uid.now }
+    {
+        let entries = self.entries.as_slice();
+        for entry in entries {
+            if entry.uid() == uid {
+                return entry.counter();
+            }
+        }
+        0
+    }
+}

@@ -1,0 +1,56 @@
+//! One entry of a clock.
+ghost use Rattle.std.specs.Prelude.{◌≡◌, IfOk};
+ghost use Rattle.u1_base.specs.Ids.{IsId};
+ghost use Rattle.u1_base.specs.declared.ids.Form.TheVariants as form_of;
+
+use std::marker::Model;
+use u1_base::{Items, Memory, ReplicaUid};
+
+/// A replica's uid and its counter, seen as their pair. In a clock the counter is from 1 to 2^63-1.
+#[derive(Debug, Drop)]
+pub struct ClockEntry {
+    uid: ReplicaUid,
+    counter: u64,
+}
+
+/// A list of entries, in any order.
+pub type ClockEntries = Items<ClockEntry>;
+
+impl Model for ClockEntry {
+    ghost use Rattle.std.specs.Prelude.{List, ℕ};
+
+    ghost Value = { List ℕ × ℕ };
+
+    ghost view = { λ e. (e.uid, e.counter) };
+}
+
+impl ClockEntry {
+    pub fn new(uid: ReplicaUid, counter: u64) -> ClockEntry
+        ensures value { result ≡ (uid, counter) }
+        ensures id { IsId form_of.Replica uid }
+    {
+        // Lending the text is what tells the proof that the uid is an id.
+        let _text = uid.as_str();
+        ClockEntry { uid, counter }
+    }
+
+    pub fn uid(&self) -> &ReplicaUid
+        ensures value { result.now ≡ self.now.0 }
+        ensures id { IsId form_of.Replica self.now.0 }
+    {
+        let _text = self.uid.as_str();
+        &self.uid
+    }
+
+    pub fn counter(&self) -> u64
+        ensures { result ≡ self.now.1 }
+    {
+        self.counter
+    }
+
+    pub fn copy(&self) -> Result<ClockEntry, Memory>
+        ensures { IfOk result (λ e. e ≡ self.now) }
+    {
+        Ok(ClockEntry::new(self.uid.copy()?, self.counter))
+    }
+}
