@@ -3,7 +3,7 @@ use Rattle.std.proofs.Common.{◌≡◌, ℕ, zero, suc, ◌+◌, ◌<◌, ◌�
 use Rattle.std.proofs.lemmas.List.{take-append-drop, take_more, drop_more}
 use Rattle.disk_model.specs.Disk.{Unsynced, IsCrashImage, settled}
 use Rattle.disk_model.specs.Moments.{Moment, moment, lost_at}
-use Rattle.disk_model.specs.Log.{undone, before, step, reached, moments, alone, now_of, past_of}
+use Rattle.disk_model.specs.Log.{undone, before, step, through, reached, moments, alone, now_of, past_of}
 use Rattle.disk_model.specs.declared.calls.Call.{Call}
 use Rattle.disk_model.specs.declared.calls.Call.TheVariants.{Sync}
 
@@ -11,11 +11,11 @@ pub before-push : (cs : List Call) (c : Call) (file : List ℕ) → before (cs +
 before-push [] c file = refl
 before-push (x ∷ cs) c file = ap (undone x) (before-push cs c file)
 
-pub reached-push : (u : Unsynced) (cs : List Call) (c : Call) (file : List ℕ)
-    → reached u (cs ++ c ∷ []) file ≡ step c file (reached u cs (undone c file))
-reached-push u [] c file = refl
-reached-push u (x ∷ cs) c file =
-    ap (λ (f : List ℕ). reached (step x f u) (cs ++ c ∷ []) file) (before-push cs c file) ∙ reached-push (step x (before cs (undone c file)) u) cs c file
+pub through-push : {S : Type 0} (f : Call → List ℕ → S → S) (s : S) (cs : List Call) (c : Call) (file : List ℕ)
+    → through f s (cs ++ c ∷ []) file ≡ f c file (through f s cs (undone c file))
+through-push f s [] c file = refl
+through-push f s (x ∷ cs) c file =
+    ap (λ (l : List ℕ). through f (f x l s) (cs ++ c ∷ []) file) (before-push cs c file) ∙ through-push f (f x (before cs (undone c file)) s) cs c file
 
 pub moments-push : (u : Unsynced) (cs : List Call) (c : Call) (file : List ℕ)
     → moments u (cs ++ c ∷ []) file ≡ moments u cs (undone c file) ++ moment (reached u cs (undone c file)) alone ∷ []
@@ -29,7 +29,7 @@ pub now-push : (log : List Call) (c : Call) (old new : List ℕ) → undone c ne
     → now_of (log ++ c ∷ []) new ≡ step c new (now_of log old)
 now-push log c old new e =
     ap (λ (f : List ℕ). reached (settled f) (log ++ c ∷ []) new) (before-push log c new ∙ ap (before log) e)
-    ∙ reached-push (settled (before log old)) log c new
+    ∙ through-push step (settled (before log old)) log c new
     ∙ ap (λ (f : List ℕ). step c new (reached (settled (before log old)) log f)) e
 
 pub past-push : (log : List Call) (c : Call) (old new : List ℕ) → undone c new ≡ old
@@ -61,11 +61,11 @@ lost_at-moments u (c ∷ cs) file (suc k) h =
     lost_at-moments (step c (before cs file) u) cs file k (omega (arith, h))
     ∙ ap (λ (f : List ℕ). reached (step c f u) (take k cs) (before (drop k cs) file)) (sym (before-split cs k file))
 
-pub reached-append : (u : Unsynced) (cs ds : List Call) (file : List ℕ)
-    → reached u (cs ++ ds) file ≡ reached (reached u cs (before ds file)) ds file
-reached-append u [] ds file = refl
-reached-append u (c ∷ cs) ds file =
-    ap (λ (f : List ℕ). reached (step c f u) (cs ++ ds) file) (before-append cs ds file) ∙ reached-append (step c (before cs (before ds file)) u) cs ds file
+pub through-append : {S : Type 0} (f : Call → List ℕ → S → S) (s : S) (cs ds : List Call) (file : List ℕ)
+    → through f s (cs ++ ds) file ≡ through f (through f s cs (before ds file)) ds file
+through-append f s [] ds file = refl
+through-append f s (c ∷ cs) ds file =
+    ap (λ (l : List ℕ). through f (f c l s) (cs ++ ds) file) (before-append cs ds file) ∙ through-append f (f c (before cs (before ds file)) s) cs ds file
 
 -- the same for a log that was added to
 pub now-logged : (log more : List Call) (c : Call) (old new : List ℕ) → more ≡ log ++ c ∷ [] → undone c new ≡ old → now_of more new ≡ step c new (now_of log old)
@@ -79,16 +79,19 @@ pub image-logged : (log more : List Call) (c : Call) (old new : List ℕ) → mo
     → IsCrashImage (step c new (now_of log old)) new → IsCrashImage (now_of more new) new
 image-logged log more c old new e u i = subst (λ (v : Unsynced). IsCrashImage v new) (sym (now-logged log more c old new e u)) i
 
--- a sync settles all that was before it
-pub now-since : (log : List Call) (n m : ℕ) (d : Call) (file : List ℕ) → n < length log → m ≡ n + 1 → get_or log n d ≡ Sync → now_of log file ≡ now_of (drop m log) file
-now-since log n m d file h next e =
-    let rest = drop (n + 1) log in
+-- a sync settles all that was before it: it makes of each state what it makes of the file
+pub through-since : {S : Type 0} (f : Call → List ℕ → S → S) (begin : List ℕ → S) → ((file : List ℕ) (s : S) → f Sync file s ≡ begin file)
+    → (log : List Call) (n m : ℕ) (d : Call) (file : List ℕ) → n < length log → m ≡ n + 1 → get_or log n d ≡ Sync
+    → through f (begin (before log file)) log file ≡ through f (begin (before (drop m log) file)) (drop m log) file
+through-since {S = S} f begin sync log n m d file h next e =
+    let rest = drop (n + 1) log in let first = begin (before log file) in
     let split : log ≡ (take n log ++ Sync ∷ []) ++ rest =
     sym (take-append-drop (n + 1) log) ∙ ap (λ (cs : List Call). cs ++ rest) (take_more log n d h ∙ ap (λ (c : Call). take n log ++ c ∷ []) e) in
-    ap (λ (l : List Call). reached (settled (before log file)) l file) split
-    ∙ reached-append (settled (before log file)) (take n log ++ Sync ∷ []) rest file
-    ∙ ap (λ (u : Unsynced). reached u rest file) (reached-push (settled (before log file)) (take n log) Sync (before rest file))
-    ∙ ap (λ (k : ℕ). now_of (drop k log) file) (sym next)
+    ap (λ (l : List Call). through f first l file) split
+    ∙ through-append f first (take n log ++ Sync ∷ []) rest file
+    ∙ ap (λ (s : S). through f s rest file)
+    (through-push f first (take n log) Sync (before rest file) ∙ sync (before rest file) (through f first (take n log) (before rest file)))
+    ∙ ap (λ (k : ℕ). through f (begin (before (drop k log) file)) (drop k log) file) (sym next)
 
 -- the k-th moment of a disk in memory
 pub lost_at-past : (log : List Call) (file : List ℕ) (k : ℕ) → k ≤ length log
@@ -98,10 +101,10 @@ lost_at-past log file k h =
     ∙ ap (λ (f : List ℕ). reached (settled f) (take k log) (before (drop k log) file)) (sym (before-split log k file))
 
 -- a loop over the calls, one call on
-pub reached-more : (u : Unsynced) (cs : List Call) (i : ℕ) (c : Call) (file : List ℕ) → i < length cs → c ≡ get_or cs i c
-    → reached u (take (i + 1) cs) (before (drop (i + 1) cs) file) ≡ step c (before (drop (i + 1) cs) file) (reached u (take i cs) (before (drop i cs) file))
-reached-more u cs i c file h e =
+pub through-more : {S : Type 0} (f : Call → List ℕ → S → S) (s : S) (cs : List Call) (i : ℕ) (c : Call) (file : List ℕ) → i < length cs → c ≡ get_or cs i c
+    → through f s (take (i + 1) cs) (before (drop (i + 1) cs) file) ≡ f c (before (drop (i + 1) cs) file) (through f s (take i cs) (before (drop i cs) file))
+through-more f s cs i c file h e =
     let rest = before (drop (i + 1) cs) file in
-    ap (λ (l : List Call). reached u l rest) (take_more cs i c h ∙ ap (λ (x : Call). take i cs ++ x ∷ []) (sym e))
-    ∙ reached-push u (take i cs) c rest
-    ∙ ap (λ (l : List Call). step c rest (reached u (take i cs) (before l file))) (sym (drop_more cs i c h ∙ ap (λ (x : Call). x ∷ drop (i + 1) cs) (sym e)))
+    ap (λ (l : List Call). through f s l rest) (take_more cs i c h ∙ ap (λ (x : Call). take i cs ++ x ∷ []) (sym e))
+    ∙ through-push f s (take i cs) c rest
+    ∙ ap (λ (l : List Call). f c rest (through f s (take i cs) (before l file))) (sym (drop_more cs i c h ∙ ap (λ (x : Call). x ∷ drop (i + 1) cs) (sym e)))

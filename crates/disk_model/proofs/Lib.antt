@@ -2,3 +2,4 @@ pub mod Images
 pub mod Histories
 pub mod Runs
 pub mod Syncs
+pub mod Choices

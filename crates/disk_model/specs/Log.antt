@@ -24,10 +24,14 @@ step (Write at size replaced former) file u = wrote at size u
 step (Cut to removed) file u = was_cut to u
 step Sync file u = settled file
 
+-- what becomes of a state through the calls, where each call changes it and a read gave `file` after them all
+abbrev pub through : {S : Type 0} → (Call → List ℕ → S → S) → S → List Call → List ℕ → S
+through f s [] file = s
+through f s (c ∷ cs) file = through f (f c (before cs file) s) cs file
+
 -- what a crash may leave after the calls
 abbrev pub reached : Unsynced → List Call → List ℕ → Unsynced
-reached u [] file = u
-reached u (c ∷ cs) file = reached (step c (before cs file) u) cs file
+reached u cs file = through step u cs file
 
 -- nothing lies beside a disk in memory
 abbrev pub alone : Beside

@@ -4,6 +4,8 @@ ghost use Rattle.std.specs.List.{list_all};
 ghost use Rattle.disk_model.specs.Disk.{IsCrashImage, overwritten, settled, was_cut, wrote};
 ghost use Rattle.disk_model.specs.Moments.{moment};
 ghost use Rattle.disk_model.specs.Log.{alone, before, is_open, now_of, past_of, undone};
+ghost use Rattle.disk_model.specs.Losses.{left_of};
+ghost use Rattle.disk_model.specs.declared.losses.Choice.{Choice};
 
 use std::alloc::Global;
 use u1_base::{Bytes, Memory};
@@ -144,6 +146,7 @@ pub(crate) fn settled_calls(calls: &[Call]) -> usize
     ensures bound { result ≤ length calls.now }
     ensures open { list_all is_open (drop result calls.now) ≡ true }
     ensures since { (file : List ℕ) → now_of calls.now file ≡ now_of (drop result calls.now) file }
+    ensures left { (file : List ℕ) (choice : Choice) → left_of choice calls.now file ≡ left_of choice (drop result calls.now) file }
 {
     let mut begin = calls.len();
     while begin > 0 {

@@ -1,8 +1,9 @@
 //! What a crash may leave of a disk in memory, made from its log.
 ghost use Rattle.std.specs.Prelude.{◌≡◌, ℕ, ◌≤◌, true, List, IfOk, OnOk, length, take, drop};
-ghost use Rattle.disk_model.specs.Disk.{Cut, IsCrashImage, Torn, Unsynced};
+ghost use Rattle.disk_model.specs.Disk.{Cut, IsCrashImage, Torn, Unsynced, overwritten};
 ghost use Rattle.std.specs.List.{list_all};
 ghost use Rattle.disk_model.specs.Log.{before, is_open, now_of, step};
+ghost use Rattle.disk_model.specs.Losses.{arrived, left_of, lost, remaining};
 
 use crate::calls::{Call, put, settled_calls, take_back};
 use std::alloc::Global;
@@ -31,15 +32,23 @@ pub(crate) fn image_at(
     choice: Choice,
 ) -> Result<Bytes, Memory>
     requires { end ≤ length log.now }
-    ensures { IfOk result (λ image. IsCrashImage (now_of (take end log.now) (before (drop end log.now) bytes.now)) image) }
+    ensures may_be { IfOk result (λ image. IsCrashImage (now_of (take end log.now) (before (drop end log.now) bytes.now)) image) }
+    ensures by_choice { IfOk result (λ image. image ≡ left_of choice (take end log.now) (before (drop end log.now) bytes.now)) }
 {
     let mut file = bytes.to_vec(alloc)?;
     take_back(&mut file, &log[end..])?;
-    let calls = &log[..end];
+    image_after(alloc, &log[..end], &file, choice)
+}
+
+// The image that a crash after these calls leaves; `file` is what a read gives then.
+fn image_after(alloc: Global, calls: &[Call], file: &[u8], choice: Choice) -> Result<Bytes, Memory>
+    ensures may_be { IfOk result (λ image. IsCrashImage (now_of calls.now file.now) image) }
+    ensures by_choice { IfOk result (λ image. image ≡ left_of choice calls.now file.now) }
+{
     let open = &calls[settled_calls(calls)..];
-    let mut image = file.clone()?;
+    let mut image = file.to_vec(alloc)?;
     take_back(&mut image, open)?;
-    lose_all(&mut image, &file, open, choice)?;
+    lose_all(&mut image, file, open, choice)?;
     Ok(Bytes::from_vec(image))
 }
 
@@ -47,7 +56,8 @@ pub(crate) fn image_at(
 fn lose_all(image: &mut Vec<u8>, file: &[u8], calls: &[Call], choice: Choice) -> Result<(), Memory>
     requires open { list_all is_open calls.now ≡ true }
     requires start { image.old.items ≡ before calls.now file.now }
-    ensures { OnOk result (IsCrashImage (now_of calls.now file.now) image.new.items) }
+    ensures may_be { OnOk result (IsCrashImage (now_of calls.now file.now) image.new.items) }
+    ensures by_choice { OnOk result (image.new.items ≡ left_of choice calls.now file.now) }
 {
     for call in calls {
         lose(image, file, call, choice)?;
@@ -57,7 +67,8 @@ fn lose_all(image: &mut Vec<u8>, file: &[u8], calls: &[Call], choice: Choice) ->
 
 fn lose(image: &mut Vec<u8>, file: &[u8], call: &Call, choice: Choice) -> Result<(), Memory>
     requires { is_open call.now ≡ true }
-    ensures { OnOk result ((u : Unsynced) (after : List ℕ) → IsCrashImage u image.old.items → IsCrashImage (step call.now after u) image.new.items) }
+    ensures may_be { OnOk result ((u : Unsynced) (after : List ℕ) → IsCrashImage u image.old.items → IsCrashImage (step call.now after u) image.new.items) }
+    ensures by_choice { OnOk result ((after : List ℕ) → image.new.items ≡ lost choice file.now call.now after image.old.items) }
 {
     match call {
         Call::Look => Ok(()),
@@ -77,7 +88,8 @@ fn tear(
     size: usize,
     choice: Choice,
 ) -> Result<(), Memory>
-    ensures { OnOk result (Torn at size image.old.items image.new.items) }
+    ensures torn { OnOk result (Torn at size image.old.items image.new.items) }
+    ensures by_choice { OnOk result (image.new.items ≡ overwritten image.old.items at (arrived choice size (take size (drop at file.now)))) }
 {
     let from = at.min(file.len());
     let written = &file[from..from + size.min(file.len() - from)];
@@ -93,7 +105,8 @@ fn tear(
 }
 
 fn shorten(image: &mut Vec<u8>, to: usize, choice: Choice)
-    ensures { Cut to image.old.items image.new.items }
+    ensures cut { Cut to image.old.items image.new.items }
+    ensures by_choice { image.new.items ≡ take (remaining choice to (length image.old.items)) image.old.items }
 {
     let length = image.len();
     match choice {

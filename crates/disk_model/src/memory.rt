@@ -27,7 +27,7 @@ impl MemDisk {
     ghost use Rattle.disk_model.specs.Disk.{IsCrashImage, settled};
     ghost use Rattle.u1_base.specs.Causes.{HasCause, Rose};
     ghost use Rattle.disk_model.specs.Moments.{Looked, lost_at};
-    ghost use Rattle.disk_model.specs.MemDisk.{mem_beside, mem_now, mem_past, mem_seen};
+    ghost use Rattle.disk_model.specs.MemDisk.{mem_beside, mem_left, mem_left_after, mem_now, mem_past, mem_seen};
 
     /// A disk that holds these bytes. `failing` has the numbers, from 0, of the calls that fail.
     pub fn new(alloc: Global, bytes: Bytes, failing: Numbers) -> MemDisk
@@ -58,12 +58,13 @@ impl MemDisk {
         self.bytes.as_slice()
     }
 
-    /// One image that a stop during that call may leave: of a write or a cut one of those after it, of another
-    /// call one of those before it.
+    /// The image that a stop during that call leaves by this choice: of a write or a cut one of those after it,
+    /// of another call one of those before it.
     pub fn crash_image(&self, alloc: Global, call: u64, choice: Choice) -> Result<Bytes, Memory>
         requires { call < length (mem_past self.now) }
-        ensures { IfOk result (λ image. IsCrashImage (lost_at (mem_past self.now) (mem_now self.now) call) image
+        ensures may_be { IfOk result (λ image. IsCrashImage (lost_at (mem_past self.now) (mem_now self.now) call) image
             ⊎ IsCrashImage (lost_at (mem_past self.now) (mem_now self.now) (call + 1)) image) }
+        ensures by_choice { IfOk result (λ image. image ≡ mem_left self.now call choice) }
     {
         let place = call as usize;
         match &self.log[place] {
@@ -75,7 +76,8 @@ impl MemDisk {
     // The image at the moment before the call of this number, or now.
     fn image(&self, alloc: Global, moment: usize, choice: Choice) -> Result<Bytes, Memory>
         requires { moment ≤ length (mem_past self.now) }
-        ensures { IfOk result (λ image. IsCrashImage (lost_at (mem_past self.now) (mem_now self.now) moment) image) }
+        ensures may_be { IfOk result (λ image. IsCrashImage (lost_at (mem_past self.now) (mem_now self.now) moment) image) }
+        ensures by_choice { IfOk result (λ image. image ≡ mem_left_after self.now moment choice) }
     {
         image_at(alloc, &self.log, &self.bytes, moment, choice)
     }

@@ -119,6 +119,32 @@ fn loses_by_choice(rt: HostRuntime) -> Result<(), Fail> {
     Ok(())
 }
 
+// The write puts the first half of its bytes and the cut goes half of the way, but a stop may leave all of either.
+#[test]
+fn loses_by_choice_what_failed(rt: HostRuntime) -> Result<(), Fail> {
+    let alloc = rt.alloc();
+    let disk = used(alloc, &[2, 3])?;
+    assert_eq!(rt; disk.bytes(), b"12WX".as_slice());
+    let rows: [(u64, Choice, &[u8]); 9] = [
+        (2, Choice::Nothing, b"abWXYZ"),
+        (2, Choice::Whole, b"12WXYZ"),
+        (2, Choice::FirstHalf, b"12WXYZ"),
+        (2, Choice::Fill(0), b"\0\0\0\0YZ"),
+        (3, Choice::Nothing, b"abWXYZ"),
+        (3, Choice::Whole, b"12"),
+        (3, Choice::FirstHalf, b"12WX"),
+        (4, Choice::FirstHalf, b"12WX"),
+        (5, Choice::Fill(48), b"00"),
+    ];
+    for (call, choice, want) in rows {
+        if call < disk.calls() {
+            let image = disk.crash_image(alloc, call, choice)?;
+            assert_eq!(rt; image.as_slice(), want, "{call} {choice:?}");
+        }
+    }
+    Ok(())
+}
+
 #[test]
 fn fails_where_it_was_told_to(rt: HostRuntime) -> Result<(), Fail> {
     let alloc = rt.alloc();
