@@ -111,10 +111,9 @@ fn loses_by_choice(rt: HostRuntime) -> Result<(), Fail> {
         (5, Choice::Whole, b"12"),
     ];
     for (call, choice, want) in rows {
-        if call < disk.calls() {
-            let image = disk.crash_image(alloc, call, choice)?;
-            assert_eq!(rt; image.as_slice(), want, "{call} {choice:?}");
-        }
+        assert!(rt; call < disk.calls());
+        let image = disk.crash_image(alloc, call, choice)?;
+        assert_eq!(rt; image.as_slice(), want, "{call} {choice:?}");
     }
     Ok(())
 }
@@ -137,10 +136,9 @@ fn loses_by_choice_what_failed(rt: HostRuntime) -> Result<(), Fail> {
         (5, Choice::Fill(48), b"00"),
     ];
     for (call, choice, want) in rows {
-        if call < disk.calls() {
-            let image = disk.crash_image(alloc, call, choice)?;
-            assert_eq!(rt; image.as_slice(), want, "{call} {choice:?}");
-        }
+        assert!(rt; call < disk.calls());
+        let image = disk.crash_image(alloc, call, choice)?;
+        assert_eq!(rt; image.as_slice(), want, "{call} {choice:?}");
     }
     Ok(())
 }
