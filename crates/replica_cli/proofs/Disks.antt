@@ -44,7 +44,7 @@ pub tells_of : (tells : Bool) (seen stored : List ℕ) → (IsTrue tells → sto
 tells_of true seen stored same = sym (same refl)
 tells_of false seen stored same = tt
 
--- a disk that is not empty tells of some bytes, if of any
-pub some_told : (tells : Bool) (seen : List ℕ) → (IsTrue tells → seen ≢ []) → IfSome (told tells seen) (λ bytes. bytes ≢ [])
-some_told true seen some = some refl
-some_told false seen some = tt
+-- what a disk that tells holds, it tells
+pub told_has : (P : List ℕ → Type 0) (tells : Bool) (seen : List ℕ) → (IsTrue tells → P seen) → IfSome (told tells seen) P
+told_has P true seen has = has refl
+told_has P false seen has = tt

@@ -23,10 +23,10 @@ module _ (seed : ℕ) (id stored : List ℕ) (before later after : Seen) (step :
   ends_since given outcome.Done text ends = ends
   ends_since given (outcome.Usage kind) text ends = ends
   ends_since given (outcome.BadContent fault) text ends = (ends.0, ends.1, ends.2 ∙ step.bytes)
-  ends_since given (outcome.Refused refusal.NoDatabase) text ends = (ends.0, ends.1 ∙ step.bytes)
+  ends_since given (outcome.Refused refusal.NoDatabase) text ends = (ends.0, ends.1 ∙ step.bytes, ends.2 ∙ step.input)
   ends_since given (outcome.Refused refusal.DatabaseExists) text ends = ends
-  ends_since given (outcome.Refused refusal.NotBuilt) text ends = (ends.0, ends.1 ∙ step.bytes)
-  ends_since given (outcome.Damaged place) text ends = (ends.0, rw (← step.bytes) ends.1, ends.2 ∙ step.bytes)
+  ends_since given (outcome.Refused refusal.NotBuilt) text ends = (ends.0, ends.1 ∙ step.bytes, ends.2 ∙ step.input)
+  ends_since given (outcome.Damaged place) text ends = (ends.0, rw (← step.bytes) ends.1, ends.2 ∙ step.bytes, ends.3 ∙ step.input)
   ends_since given (outcome.StoreFull need limit) text ends = (ends.0, ends.1 ∙ step.bytes)
   ends_since given outcome.DiskFault text ends = Rose-since before.disk.faults later.disk.faults after.disk.faults step.faults ends
   ends_since given outcome.SourceFault text ends = (ends.0, rw (← step.input) ends.1, ends.2 ∙ step.bytes)

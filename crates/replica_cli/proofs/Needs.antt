@@ -35,3 +35,9 @@ pub need_is : (format : ℕ) (head : Head) (journal : Extent) (body : List ℕ) 
 need_is format head journal body is extent short =
     let all = simp length-append at extent.all in
     omega (arith, all, length-one format head body, header_is_short format head is)
+
+-- an entry that the journal does not find too long
+pub need_fits : (format : ℕ) (head : Head) (journal : Extent) (body : List ℕ) → IsHeader format head → IsExtent format head [] journal → length body < 2 ^ 32 → ¬ (journal.limit < need journal (length body)) → length (image format head (body ∷ [])) ≤ head.limit
+need_fits format head journal body is extent short fits =
+    let needs = need_is format head journal body is extent short in
+    omega (arith, needs, extent.limit, fits)

@@ -22,10 +22,10 @@ use Rattle.replica_cli.specs.declared.create.InputEnd.{InputEnd}
 use Rattle.replica_cli.specs.declared.create.InputEnd.TheVariants as input
 
 -- the image was not opened
-pub ends_unopened : (seed : ℕ) (id stored given : List ℕ) (before after : Seen) (fault : OpenFault) (text : List ℕ) → Opens stored (Err fault) → (fault ≡ open_fault.Disk → Rose before.disk.faults after.disk.faults) → IfSome before.disk.bytes (λ bytes. bytes ≢ []) → after.disk.bytes ≡ before.disk.bytes → CreateEnds seed id stored given before after (unopened_outcome fault) text
-ends_unopened seed id stored given before after (open_fault.Damaged place) text opens rose some same = (opens, some, same)
-ends_unopened seed id stored given before after open_fault.Disk text opens rose some same = rose refl
-ends_unopened seed id stored given before after open_fault.Memory text opens rose some same = tt
+pub ends_unopened : (seed : ℕ) (id stored given : List ℕ) (before after : Seen) (fault : OpenFault) (text : List ℕ) → Opens stored (Err fault) → (fault ≡ open_fault.Disk → Rose before.disk.faults after.disk.faults) → IfSome before.disk.bytes (λ bytes. bytes ≢ []) → after.disk.bytes ≡ before.disk.bytes → after.input ≡ before.input → CreateEnds seed id stored given before after (unopened_outcome fault) text
+ends_unopened seed id stored given before after (open_fault.Damaged place) text opens rose some same unread = (opens, some, same, unread)
+ends_unopened seed id stored given before after open_fault.Disk text opens rose some same unread = rose refl
+ends_unopened seed id stored given before after open_fault.Memory text opens rose some same unread = tt
 
 -- the input gave no content
 pub ends_unread : (seed : ℕ) (id stored given : List ℕ) (before after : Seen) (end : InputEnd) (text : List ℕ) → ReadsInput given (Err end) → IsReady stored → (end ≡ input.Source → Rose before.input.faults after.input.faults) → after.disk.bytes ≡ before.disk.bytes → CreateEnds seed id stored given before after (unread_outcome end) text
@@ -43,7 +43,7 @@ ends_unappended seed id format head tree before after append.Memory text full ro
 -- the image had no entry, the input was a content, and the entry was to be appended
 pub ends_appended : (seed : ℕ) (id stored given : List ℕ) (before after : Seen) (format : ℕ) (head : Head) (tree : Tree) (o : Outcome) (text : List ℕ) → IsEmptyStore format head stored → IsContentOf given tree → AppendEnds seed id format head tree before.disk after.disk o text → CreateEnds seed id stored given before after o text
 ends_appended seed id stored given before after format head tree outcome.Done text empty content ends =
-    record { format = format; head = head; tree = tree; was_empty = empty; content = content; holds = ends.0; prints = ends.1 }
+    record { format = format; head = head; tree = tree; was_empty = empty; content = content; holds = ends.0; prints = ends.1; fits = ends.2 }
 ends_appended seed id stored given before after format head tree (outcome.Usage kind) text empty content ends = ends
 ends_appended seed id stored given before after format head tree (outcome.BadContent fault) text empty content ends = absurd ends
 ends_appended seed id stored given before after format head tree (outcome.Refused refusal) text empty content ends = absurd ends

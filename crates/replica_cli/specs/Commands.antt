@@ -50,6 +50,7 @@ ReadsInput given (Err input.Memory) = Unit {0}
 abbrev pub AppendEnds : ℕ → List ℕ → ℕ → Head → Tree → Known → Known → Outcome → List ℕ → Type 0
 AppendEnds seed id format head tree before after Done text =
     IfSome after.bytes (ReadsAs format head (created format seed id head tree ∷ [])) × (text ≡ create_line id head.uid)
+    × (length (image format head (created format seed id head tree ∷ [])) ≤ head.limit)
 AppendEnds seed id format head tree before after (StoreFull need limit) text =
     (need ≡ length (image format head (created format seed id head tree ∷ []))) × (limit ≡ head.limit) × (limit < need)
     × (after.bytes ≡ before.bytes)

@@ -54,6 +54,7 @@ pub record Creates (seed : ℕ) (id stored given : List ℕ) (after : Option (Li
   pub tree : Tree
   pub was_empty : IsEmptyStore format head stored
   pub content : IsContentOf given tree
+  pub fits : length (image format head (created format seed id head tree ∷ [])) ≤ head.limit
   pub holds : IfSome after (ReadsAs format head (created format seed id head tree ∷ []))
   pub prints : text ≡ create_line id head.uid
 
@@ -87,12 +88,14 @@ InitEnds name uid stored before after DiskFault text = Rose before.faults after.
 InitEnds name uid stored before after Memory text = Unit {0}
 InitEnds name uid stored before after _ text = ⊥
 
--- the outcomes of `create`, in the order in which they are tested
+-- the outcomes of `create`, in the order in which they are tested; the input is read only where the image has no entry
 abbrev pub CreateEnds : ℕ → List ℕ → List ℕ → List ℕ → Seen → Seen → Outcome → List ℕ → Type 0
-CreateEnds seed id stored given before after (Refused NoDatabase) text = (stored ≡ []) × (after.disk.bytes ≡ before.disk.bytes)
+CreateEnds seed id stored given before after (Refused NoDatabase) text =
+    (stored ≡ []) × (after.disk.bytes ≡ before.disk.bytes) × (after.input ≡ before.input)
 CreateEnds seed id stored given before after (Damaged place) text =
-    DamagedAt place stored × IfSome before.disk.bytes (λ bytes. bytes ≢ []) × (after.disk.bytes ≡ before.disk.bytes)
-CreateEnds seed id stored given before after (Refused NotBuilt) text = HasEntry stored × (after.disk.bytes ≡ before.disk.bytes)
+    DamagedAt place stored × IfSome before.disk.bytes (λ bytes. bytes ≢ []) × (after.disk.bytes ≡ before.disk.bytes) × (after.input ≡ before.input)
+CreateEnds seed id stored given before after (Refused NotBuilt) text =
+    HasEntry stored × (after.disk.bytes ≡ before.disk.bytes) × (after.input ≡ before.input)
 CreateEnds seed id stored given before after SourceFault text =
     IsReady stored × Rose before.input.faults after.input.faults × (after.disk.bytes ≡ before.disk.bytes)
 CreateEnds seed id stored given before after (BadContent fault) text =

@@ -22,7 +22,7 @@ returns-in-Ok-eq0 g c =
         given_told = given.1;
         disk_later = c.length.ensures.cause.later;
         input_later = omega arith;
-        ends = (refl, same_told tells (seen c.args.disk.now) (seen c.length.new.self) c.length.ensures.seen);
+        ends = (refl, same_told tells (seen c.args.disk.now) (seen c.length.new.self) c.length.ensures.seen, refl);
       },
     )
 

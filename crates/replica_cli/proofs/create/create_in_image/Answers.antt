@@ -1,8 +1,8 @@
 -- An image that was not opened, and the document in one that was.
-use Rattle.std.proofs.Common.{refl, Err, ap, arith}
+use Rattle.std.proofs.Common.{◌≢◌, [], refl, Err, ap, arith}
 use Rattle.replica_cli.specs.Run.{most_input}
 use Rattle.replica_cli.specs.Seen.{seen_of}
-use Rattle.replica_cli.proofs.Disks.{any_given, same_told, some_told, tells_of}
+use Rattle.replica_cli.proofs.Disks.{any_given, same_told, tells_of, told_has}
 use Rattle.replica_cli.proofs.Moments.{decided_since}
 use Rattle.replica_cli.proofs.Steps.{ends_unopened}
 use Rattle.replica_cli.proofs.create.create_in_image.Goals as goal
@@ -55,7 +55,8 @@ returns-in-Err g c =
             (seen_of tells (seen new) (faults new) left read_faults)
             c.in-Err.fault _ read.2
             (λ e. c.in-Err.ensures.failed (ap Err e))
-            (some_told tells (seen old) c.requires)
-            (same_told tells (seen old) (seen new) c.open_image.ensures.seen));
+            (told_has (λ bytes. bytes ≢ []) tells (seen old) c.requires)
+            (same_told tells (seen old) (seen new) c.open_image.ensures.seen)
+            refl);
       },
     )

@@ -15,7 +15,7 @@ returns-then-not-is_empty g c = λ stored reads.
       given_told = given.1;
       disk_later = omega arith;
       input_later = omega arith;
-      ends = ((c.args.opened.format, head_of c.args.opened.header, c.args.opened.bodies, reads, λ e. absurd (cc (c.is_empty.ensures.1 e, c.if-not-is_empty.true))), refl);
+      ends = ((c.args.opened.format, head_of c.args.opened.header, c.args.opened.bodies, reads, λ e. absurd (cc (c.is_empty.ensures.1 e, c.if-not-is_empty.true))), refl, refl);
     }
 
 pub returns-in-Ok : goal.returns-in-Ok
