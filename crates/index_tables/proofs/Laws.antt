@@ -65,6 +65,10 @@ new_after_remove ps id keys = new_where_none (filter (λ p. not (is_of id p)) ps
     others true b h = absurd (cc)
     others false b h = refl
 
+-- entries are new where all of them are gone
+pub new_after_drop : (ps es : List Entry) → AreNew (filter (λ p. not (has es p)) ps) es
+new_after_drop ps es p there = has-filter (λ q. not (has es q)) ps p ∙ ap (λ (b : Bool). not b && has ps p) there
+
 -- keys that do not tie are not the same
 pub other_key : (a b : List (List ℕ)) → is_eq (key_cmp a b) ≡ false → a ≢ b
 other_key a b other is =

@@ -260,6 +260,84 @@ fn seeks_among_equal_keys(rt: HostRuntime) -> Result<(), Fail> {
     Ok(())
 }
 
+// Puts a document in the place of an earlier one: a row is its id, a blank, and its keys with a semicolon between.
+fn put_row(alloc: Global, table: &mut IndexTable, row: &str) -> Result<(), Fail> {
+    let (id, keys) = row.split_once(' ').ok_or("no blank")?;
+    let mut set = KeySet::new(alloc);
+    for key in keys.split(';') {
+        if let Some(key) = key_of(texts(alloc, key)?) {
+            set.insert(key)?;
+        }
+    }
+    put(table, &DocId::read(alloc, id)?, set, false)?;
+    Ok(())
+}
+
+// An address book by the small letters of the names and the words of the tags. One document has no tag.
+const BOOK: &str = "\
+c01 ann lee|friend;ann lee|work
+c02 anna roy|work
+c03 bob kay|friend
+c04 carl poe|club
+c05 ann diaz|club;ann diaz|friend
+c06 dora ek|family
+c07 evan ito|work
+c08 annika holm|family;annika holm|club
+c10 gus ash|friend;gus ash|friend
+c11 hal ann|work
+c12 ida foy|club
+";
+
+#[test]
+fn keeps_an_address_book(rt: HostRuntime) -> Result<(), Fail> {
+    let alloc = rt.alloc();
+    let mut table = IndexTable::new(alloc);
+    for row in BOOK.lines() {
+        put_row(alloc, &mut table, row)?;
+    }
+    let rows = [
+        "ann diaz|club|c05",
+        "ann diaz|friend|c05",
+        "ann lee|friend|c01",
+        "ann lee|work|c01",
+        "anna roy|work|c02",
+        "annika holm|club|c08",
+        "annika holm|family|c08",
+        "bob kay|friend|c03",
+        "carl poe|club|c04",
+        "dora ek|family|c06",
+        "evan ito|work|c07",
+        "gus ash|friend|c10",
+        "hal ann|work|c11",
+        "ida foy|club|c12",
+        "",
+    ];
+    assert_eq!(rt; table.length(), 14);
+    assert!(rt; are_spelled(alloc, &table, &rows)?);
+    assert!(rt; is_sought(alloc, &table, "ann", 0)?);
+    assert!(rt; is_sought(alloc, &table, "ano", 7)?);
+    put_row(alloc, &mut table, "c02 nina roy|work")?;
+    table.remove(&DocId::read(alloc, "c12")?);
+    assert_eq!(rt; table.length(), 13);
+    assert!(rt; is_sought(alloc, &table, "ano", 6)?);
+    assert_eq!(rt; spelled(alloc, &table, 12)?.as_str(), "nina roy|work|c02");
+    Ok(())
+}
+
+#[test]
+fn seeks_the_ends_of_ranges(rt: HostRuntime) -> Result<(), Fail> {
+    let alloc = rt.alloc();
+    let mut table = IndexTable::new(alloc);
+    for row in ["d3 d", "d2 b", "d1 b"] {
+        put_row(alloc, &mut table, row)?;
+    }
+    assert!(rt; are_spelled(alloc, &table, &["b|d1", "b|d2", "d|d3", ""])?);
+    for (key, place) in [("a", 0), ("b", 0), ("b|", 2), ("c", 2), ("d", 2), ("e", 3)] {
+        assert!(rt; is_sought(alloc, &table, key, place)?, "{key}");
+    }
+    Ok(())
+}
+
 // The keys that a document has in a plain list.
 fn old_keys(alloc: Global, plain: &[u64], number: u64) -> Result<Keys, Fail> {
     let mut keys = Keys::new(alloc);

@@ -9,6 +9,7 @@ mod changes;
 mod contents;
 mod image;
 mod lanes;
+mod pairs;
 mod report;
 mod table;
 
@@ -20,7 +21,7 @@ fn main(rt: HostRuntime) -> ExitCode {
     match measured(&rt) {
         Ok(report) => report.print(&rt),
         Err(Fault::Words) => {
-            let _ = rt.eprintln("usage: speed changes|contents|image|lanes|table SIZE");
+            let _ = rt.eprintln("usage: speed changes|contents|image|lanes|pairs|table SIZE");
             ExitCode::from(2)
         }
         Err(Fault::Run) => {
@@ -44,6 +45,7 @@ fn measured(rt: &HostRuntime) -> Result<Report, Fault> {
         "contents" => contents::measure(rt, size),
         "image" => image::measure(rt, size),
         "lanes" => lanes::measure(rt, size),
+        "pairs" => pairs::measure(rt, size),
         "table" => table::measure(rt, size),
         _ => Err(Fault::Words),
     }
