@@ -1,4 +1,6 @@
+pub mod Bodies
 pub mod Disks
+pub mod Lengths
 pub mod Moments
 pub mod Needs
 pub mod Operands

@@ -1,20 +1,13 @@
 -- What the journal says of an entry's need is the length of the image with that entry.
 use Rattle.std.proofs.Common.{◌≡◌, ℕ, ◌+◌, ◌^◌, ◌<◌, ◌≤◌, List, [], ◌∷◌, length, length-append, arith, refl}
-use Rattle.u1_base.specs.Fields.{text_field, u16_bytes, u32_bytes, u64_bytes}
+use Rattle.u1_base.specs.Fields.{u32_bytes}
+use Rattle.replica_cli.proofs.Lengths.{length-text_field, length-u64_bytes}
 use Rattle.journal.specs.Image.{Head, IsHeader, image, body_field, header_bytes, first_field}
 use Rattle.journal.specs.Journal.{Extent, IsExtent, need}
-
-length-text_field : (text : List ℕ) → length (text_field text) ≡ 2 + length text
-unfolding text_field u16_bytes
-length-text_field text = length-append (u16_bytes (length text)) text
 
 length-body_field : (body : List ℕ) → length (body_field body) ≡ 4 + length body
 unfolding body_field u32_bytes
 length-body_field body = length-append (u32_bytes (length body)) body
-
-length-u64_bytes : (n : ℕ) → length (u64_bytes n) ≡ 8
-unfolding u64_bytes
-length-u64_bytes n = refl
 
 length-first_field : (format : ℕ) → length (first_field format) ≡ 8
 unfolding first_field
