@@ -165,31 +165,6 @@ fn a_chunk_made_with_much_room_is_cut_later(rt: HostRuntime) -> Result<(), Fail>
     Ok(())
 }
 
-// A chunk of 512 items stays whole, and one of 513 is cut. An insertion at the end of the first chunk stands there once.
-#[test]
-fn a_chunk_past_the_limit_is_cut(rt: HostRuntime) -> Result<(), Fail> {
-    let mut list = ChunkList::new(rt.alloc());
-    let mut plain = Vec::new(rt.alloc());
-    list.reserve(512)?;
-    for item in 0..512 {
-        insert_into_both(&mut list, &mut plain, item as usize, item)?;
-    }
-    assert_eq!(rt; list.room(), 0);
-    list.reserve(1)?;
-    assert_eq!(rt; list.cuts(), [0].as_slice());
-    insert_into_both(&mut list, &mut plain, 512, 512)?;
-    assert_eq!(rt; list.room(), 15);
-    list.reserve(15)?;
-    assert_eq!(rt; list.cuts(), [0].as_slice());
-    list.reserve(16)?;
-    assert_eq!(rt; list.cuts(), [0, 256].as_slice());
-    insert_into_both(&mut list, &mut plain, 256, 513)?;
-    insert_into_both(&mut list, &mut plain, 255, 514)?;
-    assert_eq!(rt; list.cuts(), [0, 257].as_slice());
-    assert!(rt; is_same(&list, &plain));
-    Ok(())
-}
-
 #[test]
 fn finds_places(rt: HostRuntime) -> Result<(), Fail> {
     let mut list = ChunkList::<u64>::new(rt.alloc());
