@@ -254,9 +254,6 @@ fn names_the_place_of_damage(rt: HostRuntime) -> Result<(), Fail> {
         (12, "damaged left 12\n"),
         (15, "damaged left 15\n"),
         (23, "damaged left 23\n"),
-        (24, "damaged left 24\n"),
-        (60, "damaged left 24\n"),
-        (108, "damaged left 24\n"),
         (109, "damaged left 109\n"),
     ] {
         assert!(rt; length <= image.len());
@@ -294,6 +291,27 @@ fn names_the_place_of_damage(rt: HostRuntime) -> Result<(), Fail> {
         "damaged left 0\n",
         3,
     )?;
+    Ok(())
+}
+
+// Where the entry is cut the place of its length is named, however much of the entry is left.
+#[test]
+fn names_the_entry_that_was_cut(rt: HostRuntime) -> Result<(), Fail> {
+    let alloc = rt.alloc();
+    let created = created_image(alloc)?;
+    let image = created.as_slice();
+    assert_eq!(rt; image.len(), 110);
+    for length in 24..109usize {
+        refuses(
+            &rt,
+            alloc,
+            &[".", "create", "d2"],
+            &image[..length],
+            b"{}",
+            "damaged left 24\n",
+            3,
+        )?;
+    }
     Ok(())
 }
 
