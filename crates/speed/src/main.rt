@@ -7,9 +7,13 @@
 
 mod changes;
 mod contents;
+mod distinct;
 mod image;
+mod index;
+mod keys;
 mod lanes;
 mod pairs;
+mod prefix;
 mod report;
 mod table;
 
@@ -17,11 +21,15 @@ use crate::report::{Fault, Report};
 use std::env;
 use std::process::ExitCode;
 
+/// What is said where the words name no workload.
+const USAGE: &str =
+    "usage: speed changes|contents|distinct|few|image|keys|lanes|pairs|prefix|table SIZE";
+
 fn main(rt: HostRuntime) -> ExitCode {
     match measured(&rt) {
         Ok(report) => report.print(&rt),
         Err(Fault::Words) => {
-            let _ = rt.eprintln("usage: speed changes|contents|image|lanes|pairs|table SIZE");
+            let _ = rt.eprintln(USAGE);
             ExitCode::from(2)
         }
         Err(Fault::Run) => {
@@ -43,9 +51,13 @@ fn measured(rt: &HostRuntime) -> Result<Report, Fault> {
     match name.as_str() {
         "changes" => changes::measure(rt, size),
         "contents" => contents::measure(rt, size),
+        "distinct" => distinct::measure(rt, size),
+        "few" => prefix::measure_few(rt, size),
         "image" => image::measure(rt, size),
+        "keys" => keys::measure(rt, size),
         "lanes" => lanes::measure(rt, size),
         "pairs" => pairs::measure(rt, size),
+        "prefix" => prefix::measure(rt, size),
         "table" => table::measure(rt, size),
         _ => Err(Fault::Words),
     }

@@ -1,0 +1,6 @@
+-- The keys of the pairs so far are kept.
+use Rattle.query_range.proofs.Keys.{Listed}
+use Rattle.query_range.proofs.distinct.distinct_keys.Given as goal
+
+abbrev pub invariant-loop-place : goal.invariant-loop-place
+invariant-loop-place g l = Listed l.table.pairs l.place l.keys l.fn.steps l.steps

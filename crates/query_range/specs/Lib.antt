@@ -1,0 +1,4 @@
+pub mod Answers
+pub mod Floor
+pub mod Patterns
+pub mod Wanted

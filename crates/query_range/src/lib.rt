@@ -1,0 +1,21 @@
+//! Queries over the table of an index.
+//!
+//! A query has a value for each expression of the index: a text, a prefix with a star behind it, or a star alone. It
+//! finds the documents with a key that meets each value, by their least such key and then by id. A range finds those
+//! with a key from a start to an end. Each answer is a filter of the table's pairs, found by one search and a walk
+//! from there that ends where nothing more can belong to it.
+#![tactic(auto)]
+
+mod distinct;
+mod fault;
+mod pattern;
+mod range;
+#[cfg(test)]
+mod tests;
+mod walk;
+
+pub use distinct::distinct_keys;
+pub use fault::PatternFault;
+pub use index_tables::compare_keys;
+pub use pattern::{Part, Pattern};
+pub use range::{between, matching};
