@@ -1,0 +1,5 @@
+pub mod Folded
+pub mod Places
+pub mod WordsTaken
+pub mod Products
+pub mod Apart

@@ -1,0 +1,7 @@
+use Rattle.std.proofs.Common.{◌≡◌, ◌++◌, map, take}
+use Rattle.expr_eval.specs.declared.value.Value.TheVariants.{Text}
+use Rattle.expr_eval.specs.Lent.{lent}
+use Rattle.expr_eval.proofs.evaluate.add_texts.Given as goal
+
+abbrev pub invariant-loop-text : goal.invariant-loop-text
+invariant-loop-text l = l.out.items ≡ l.initial.out.items ++ map Text (lent (take l.text-index l.texts))

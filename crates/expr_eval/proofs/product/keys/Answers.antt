@@ -1,0 +1,48 @@
+-- What is made from the lists of the code is what the definition says, and has no doubles.
+use Rattle.std.proofs.Common.{◌≡◌, ◌≢◌, ℕ, List, [], ◌++◌, Bor, Vec, Global, map, take, sym, ap, ap₂, subst, ◌∙◌, arith}
+use Rattle.std.specs.List.{AllPairs}
+use Rattle.content.specs.TreeOf.{tree_of}
+use Rattle.expr_parser.specs.FormOf.{form_of}
+use Rattle.expr_eval.specs.Keys.{behind, key_texts, keys_of, most}
+use Rattle.expr_eval.specs.Lent.{lent}
+use Rattle.expr_eval.specs.Values.{texts_of}
+use Rattle.expr_eval.proofs.Apart.{keys_of-apart}
+use Rattle.expr_eval.proofs.Products.{keys_made, lists_same, no_keys, tuples-empty}
+use Rattle.expr_eval.proofs.product.keys.Goals as goal
+
+abbrev Keys : Type 0
+Keys = List (List (List ℕ))
+
+abbrev lists_of : List (Vec (Bor (List ℕ)) Global) → Keys
+lists_of lists = map (λ (list : Vec (Bor (List ℕ)) Global). lent list.items) lists
+
+abbrev AreApart : Keys → Type 0
+AreApart keys = AllPairs (λ (key other : List (List ℕ)). key ≢ other) keys
+
+pub returns-then-has_empty-clause-value : goal.returns-then-has_empty-clause-value
+returns-then-has_empty-clause-value c =
+    let tree = tree_of c.args.root.now in
+    let exprs = c.args.exprs.now in
+    let all : lists_of c.deref-2.result.now ≡ map (λ f. key_texts (texts_of f tree)) (map form_of exprs) =
+    ap lists_of c.deref-2.ensures.value ∙ (c.in_ok-lists.ensures ∙ (ap (map key_texts) (c.deref.ensures.value ∙ c.in_ok-given.ensures) ∙ lists_same tree exprs)) in
+    c.new-keys.ensures ∙ sym (no_keys tree exprs (lists_of c.deref-2.result.now) all (tuples-empty c.deref-2.result.now (sym c.has_empty.ensures ∙ c.if-has_empty.true)))
+
+pub returns-then-has_empty-clause-distinct : goal.returns-then-has_empty-clause-distinct
+returns-then-has_empty-clause-distinct c = subst AreApart (sym c.new-keys.ensures) (λ i j d before within. absurd (omega arith))
+
+pub returns-clause-value : goal.returns-clause-value
+returns-clause-value c =
+    let tree = tree_of c.args.root.now in
+    let exprs = c.args.exprs.now in
+    let lists = lists_of c.deref-3.result.now in
+    let all : lists ≡ map (λ f. key_texts (texts_of f tree)) (map form_of exprs) =
+    ap lists_of c.deref-3.ensures.value ∙ (c.in_ok-lists.ensures ∙ (ap (map key_texts) (c.deref.ensures.value ∙ c.in_ok-given.ensures) ∙ lists_same tree exprs)) in
+    c.in_ok-add_keys.ensures.keys
+    ∙ (ap₂ (λ (keys : Keys) (front : List (Bor (List ℕ))). take most (keys ++ behind (lent front) lists)) c.new-keys.ensures c.in_ok-front.ensures.items
+    ∙ keys_made tree exprs lists all)
+
+pub returns-clause-distinct : goal.returns-clause-distinct
+returns-clause-distinct c =
+    let tree = tree_of c.args.root.now in
+    let forms = map form_of c.args.exprs.now in
+    subst AreApart (sym (returns-clause-value c)) (keys_of-apart forms tree)

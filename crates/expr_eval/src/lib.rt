@@ -1,0 +1,19 @@
+//! What index expressions give for a document: the values of one expression, and the keys of several.
+//!
+//! Both are lists by recursion on the expression and the content tree (`specs/Values.antt`, `specs/Keys.antt`). They fail
+//! by want of memory alone.
+#![tactic(auto)]
+
+mod case_fold;
+mod evaluate;
+mod field;
+mod first_places;
+mod number;
+mod product;
+#[cfg(test)]
+mod tests;
+mod value;
+mod words;
+
+pub use evaluate::values;
+pub use product::keys;
