@@ -1,9 +1,9 @@
 -- The words of a text come off its front one by one.
-use Rattle.std.proofs.Common.{◌≡◌, ℕ, ◌+◌, ◌<◌, ◌≤◌, Bool, true, false, not, cond, eqb, List, [], ◌∷◌, ◌++◌, length, map, encode_utf8, encode_utf8_all, chars, IsUtf8, refl, sym, ap, subst, ◌∙◌, arith, append-nil, append_assoc, Bor}
+use Rattle.std.proofs.Common.{◌≡◌, ℕ, ◌+◌, ◌<◌, Bool, true, not, cond, eqb, List, [], ◌∷◌, ◌++◌, length, map, encode_utf8, encode_utf8_all, chars, IsUtf8, refl, sym, ap, subst, ◌∙◌, arith, append-nil, append_assoc, Bor}
 use Rattle.std.proofs.lemmas.Bool.{and_parts, ne_eqb, not-false}
 use Rattle.std.proofs.lemmas.List.{nil_from_length, map-append}
 use Rattle.expr_eval.specs.Lent.{lent}
-use Rattle.std.proofs.lemmas.Str.{chars-encodes, chars-nil, encodes-append, encodes_same, cons_from_encodes, length-le-encodes}
+use Rattle.std.proofs.lemmas.Str.{chars-encodes, encodes_same, cons_from_encodes, length-le-encodes}
 use Rattle.std.specs.Char.{is_whitespace, is_not_whitespace}
 use Rattle.std.specs.List.{filter, slice_split, onto_first}
 use Rattle.std.specs.Str.{NonePass, NoCharPasses, EmptyOrStartsWithPassing, all_scalars}

@@ -1,5 +1,5 @@
 -- The words of a text, and lists without doubles.
-use Rattle.std.specs.Prelude.{ℕ, Bool, not, ◌==◌, List, [], ◌∷◌, length, map, filter, flat_map, encode_utf8_all}
+use Rattle.std.specs.Prelude.{ℕ, not, ◌==◌, List, [], ◌∷◌, length, map, filter, encode_utf8_all}
 use Rattle.std.specs.Char.{is_whitespace}
 use Rattle.std.specs.List.{slice_split}
 use Rattle.std.specs.Str.{bytes_eq, chars}

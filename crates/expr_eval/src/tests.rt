@@ -179,7 +179,7 @@ fn numbers_and_truths(rt: HostRuntime) -> Result<(), Fail> {
         (
             "number(age,22)",
             r#"{"age":-9223372036854775808}"#,
-            "-0009223372036854775808|",
+            "-009223372036854775808|",
         ),
         ("bool(age)", r#"{"age":true}"#, "1|"),
         ("bool(age)", r#"{"age":[true,false,1,"true"]}"#, "1|0|"),

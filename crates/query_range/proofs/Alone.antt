@@ -1,11 +1,11 @@
 -- One pair that is put into a table.
-use Rattle.std.proofs.Common.{◌≡◌, ◌≢◌, ℕ, ◌+◌, ◌<◌, ◌≤◌, Bool, true, false, not, ◌&&◌, List, [], ◌∷◌, length, get_or, AllPairs, Option, Some, None, sym, subst, ◌∙◌, ap, arith, inl, inr}
+use Rattle.std.proofs.Common.{◌≡◌, ◌≢◌, ℕ, ◌+◌, ◌<◌, Bool, not, ◌&&◌, List, [], ◌∷◌, length, get_or, AllPairs, Some, subst, ◌∙◌, ap, arith, inl, inr}
 use Rattle.std.proofs.lemmas.Bool.{cases_lt}
 use Rattle.std.specs.List.{filter, slice_get}
 use Rattle.index_tables.specs.Entries.{AreNew, entries_of, has}
 use Rattle.index_tables.specs.Order.{Entry}
 use Rattle.index_tables.proofs.Laws.{has-filter}
-use Rattle.query_range.proofs.Keys.{reads, past_list}
+use Rattle.query_range.proofs.Keys.{reads}
 
 -- one key is distinct
 pub one_distinct : (key : List (List ℕ)) → AllPairs (λ a b. a ≢ b) (key ∷ [])

@@ -1,5 +1,5 @@
 -- A walk through all entries that keeps a key where it is not the last one that was kept.
-use Rattle.std.proofs.Common.{◌≡◌, ◌≢◌, ℕ, ◌+◌, ◌-◌, ◌<◌, ◌≤◌, Bool, true, false, cond, not, ◌||◌, List, [], ◌∷◌, ◌++◌, length, map, take, get_or, Option, Some, None, option_map, zero, suc, refl, sym, subst, ◌∙◌, ap, ap₂, arith, add-one, inl, inr, Ordering, Less, Equal, Greater}
+use Rattle.std.proofs.Common.{◌≡◌, ℕ, ◌+◌, ◌-◌, ◌<◌, ◌≤◌, Bool, true, false, cond, ◌||◌, List, [], ◌∷◌, ◌++◌, length, map, take, get_or, Option, Some, None, option_map, zero, suc, refl, sym, subst, ◌∙◌, ap, ap₂, arith, add-one, inl, inr, Ordering, Less, Equal, Greater}
 use Rattle.std.proofs.lemmas.Bool.{cases_Bool, cases_lt}
 use Rattle.std.proofs.lemmas.List.{length-append, map-append, take_more}
 use Rattle.std.specs.List.{list_any, slice_get}
@@ -10,6 +10,7 @@ use Rattle.index_tables.proofs.TotalOrders.{key_same, key_total}
 use Rattle.query_range.specs.Answers.{firsts, id_cmp, keys_of}
 use Rattle.query_range.specs.Wanted.{is_key}
 use Rattle.query_range.proofs.Firsts.{firsts-push}
+use Rattle.query_range.proofs.Laws.{equal}
 
 abbrev Key : Type 0
 Key = List (List ℕ)
@@ -75,11 +76,6 @@ none_at f [] (suc n) le none = absurd (omega arith)
 none_at f (p ∷ ps) (suc n) le none =
     ap (λ (b : Bool). b || list_any f (map (λ q. q.0) (take n ps))) (none 0 p (omega arith))
     ∙ none_at f ps n (omega arith) (λ k d lt. none (suc k) d (omega arith))
-
-equal : (r : Ordering) → is_eq r ≡ true → r ≡ Equal
-equal Less p = absurd (cc)
-equal Equal p = refl
-equal Greater p = absurd (cc)
 
 -- entries in order whose keys do not tie
 below : (q p : Entry) → entry_cmp q p ≡ Less → is_eq (key_cmp q.0 p.0) ≡ false → key_cmp q.0 p.0 ≡ Less

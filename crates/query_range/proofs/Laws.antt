@@ -1,10 +1,10 @@
 -- What the filters are in the field's own terms: an answer goes by least key and then by id, and keys rise.
-use Rattle.std.proofs.Common.{◌≡◌, ◌≢◌, ℕ, ◌<◌, ◌≤◌, Bool, true, false, cond, not, ◌&&◌, ◌||◌, List, [], ◌∷◌, length, map, get_or, All, AllPairs, Result, Ok, Err, IfOk, zero, suc, refl, sym, subst, ◌∙◌, ap, ap₂, arith, inl, inr, Ordering, Less, Equal, Greater, nat_cmp}
+use Rattle.std.proofs.Common.{◌≡◌, ℕ, Bool, true, false, cond, not, ◌&&◌, ◌||◌, List, [], ◌∷◌, map, get_or, All, AllPairs, Result, Ok, Err, IfOk, suc, refl, sym, subst, ◌∙◌, ap, ap₂, arith, inl, inr, Ordering, Less, Equal, Greater}
 use Rattle.std.proofs.lemmas.Bool.{cases_Bool}
 use Rattle.std.proofs.lemmas.List.Elements.{All-filter, All-head, All-tail, All-cons, filter_passes}
 use Rattle.std.proofs.lemmas.List.Kept.{AllPairs-cons, AllPairs-filter}
 use Rattle.std.specs.Cmp.{IsTotalOrder, eq_by_cmp_equiv, tied_itself}
-use Rattle.std.specs.Cmp.Lexicographic.{pointwise, bytes_decides, nat_list_cmp_total, slice_cmp}
+use Rattle.std.specs.Cmp.Lexicographic.{pointwise, bytes_decides, nat_list_cmp_total}
 use Rattle.std.specs.FinMap.{slice_cmp-IsAntisymmetric, nat_cmp-IsAntisymmetric}
 use Rattle.std.specs.List.{filter, list_any}
 use Rattle.std.specs.Ordering.{eq_by_cmp, is_eq, is_le, ordering_then}
@@ -14,24 +14,13 @@ use Rattle.index_tables.specs.Order.{Entry, IsInOrder, entry_cmp, key_cmp}
 use Rattle.index_tables.proofs.Laws.{has-filter, same_is}
 use Rattle.index_tables.proofs.TotalOrders.{entry_total, key_same, key_total}
 use Rattle.query_range.specs.Answers.{AreKeys, IsAnswer, IsLeastKey, answer, firsts, id_cmp, keys_of}
+use Rattle.query_range.proofs.Begins.{both, first, second}
 use Rattle.query_range.proofs.Walks.{ids_of}
 
-equal : (r : Ordering) → is_eq r ≡ true → r ≡ Equal
+pub equal : (r : Ordering) → is_eq r ≡ true → r ≡ Equal
 equal Less p = absurd (cc)
 equal Equal p = refl
 equal Greater p = absurd (cc)
-
-both : (a b : Bool) → a ≡ true → b ≡ true → (a && b) ≡ true
-both true b p q = q
-both false b p q = p
-
-first : (a b : Bool) → (a && b) ≡ true → a ≡ true
-first true b p = refl
-first false b p = p
-
-second : (a b : Bool) → (a && b) ≡ true → b ≡ true
-second true b p = p
-second false b p = absurd (cc)
 
 -- two tests that hold together are one
 same_tests : (a b : Bool) → (a ≡ true → b ≡ true) → (b ≡ true → a ≡ true) → a ≡ b

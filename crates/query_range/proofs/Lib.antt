@@ -8,3 +8,4 @@ pub mod Ranges
 pub mod Reading
 pub mod Runs
 pub mod Walks
+mod Worked

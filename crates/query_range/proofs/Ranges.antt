@@ -1,6 +1,5 @@
 -- The entries that a pattern or a range finds stand together in a table.
-use Rattle.std.proofs.Common.{◌≡◌, ◌≢◌, ℕ, ◌<◌, ◌≤◌, Bool, true, false, ◌&&◌, List, length, get_or, drop, All, Option, Some, None, refl, sym, subst, ◌∙◌, ap, ap₂, arith, inl, inr, Ordering, Less, Equal, Greater}
-use Rattle.std.proofs.lemmas.Bool.{cases_Bool}
+use Rattle.std.proofs.Common.{◌≡◌, ◌≢◌, ℕ, Bool, true, false, ◌&&◌, List, length, get_or, drop, All, Option, Some, None, refl, sym, ◌∙◌, ap, arith, Ordering, Less, Equal, Greater}
 use Rattle.std.proofs.lemmas.Cmp.{upto}
 use Rattle.std.specs.List.{filter, take_while}
 use Rattle.std.specs.Ordering.{is_gt, is_le, ordering_then, ordering_reverse}

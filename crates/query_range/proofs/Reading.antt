@@ -1,23 +1,21 @@
 -- What the values of a query are read as, one after the other.
-use Rattle.std.proofs.Common.{◌≡◌, ◌≢◌, ℕ, ◌+◌, ◌-◌, ◌<◌, ◌≤◌, Bool, true, false, cond, ◌||◌, ◌&&◌, List, [], ◌∷◌, ◌++◌, length, map, take, drop, get_or, zero, suc, refl, sym, subst, ◌∙◌, ap, ap₂, arith, eqb-true, inl, inr}
+use Rattle.std.proofs.Common.{◌≡◌, ◌≢◌, ℕ, ◌+◌, ◌-◌, ◌<◌, Bool, true, false, cond, ◌||◌, ◌&&◌, List, [], ◌∷◌, ◌++◌, length, map, take, drop, get_or, zero, suc, refl, sym, subst, ◌∙◌, ap, ap₂, arith, eqb-true, inl, inr}
 use Rattle.std.proofs.lemmas.Bool.{cases_Bool}
-use Rattle.std.proofs.lemmas.List.{append_assoc, append-nil, drop_more, take_more, take_all, take-map, map-append, length-append, length-map, length-take-le, take-append-drop, get_or_read}
+use Rattle.std.proofs.lemmas.List.{append_assoc, drop_more, take_more, take-map, map-append, length-append, length-map, take-append-drop}
 use Rattle.std.proofs.lemmas.List.Folds.{list_any-append}
 use Rattle.std.proofs.lemmas.List.Quantifiers.{all_pairs_push}
 use Rattle.std.specs.Cmp.Lexicographic.{pointwise}
-use Rattle.std.specs.List.{HoldsAt, list_any, ends_with}
+use Rattle.std.specs.List.{list_any, ends_with}
 use Rattle.std.specs.Prelude.{nat_eq, codes}
 use Rattle.index_tables.proofs.Lists.{none_at}
 use Rattle.query_range.specs.Floor.{floor_of}
 use Rattle.query_range.specs.Patterns.{BreaksFirst, IsPattern, before_star, is_any, is_open, meets, part_meets, part_of}
 use Rattle.query_range.specs.declared.pattern.Part.{Part}
-use Rattle.query_range.specs.declared.pattern.Part.TheVariants.{Exact, Prefix, Any}
+use Rattle.query_range.specs.declared.pattern.Part.TheVariants.{Exact}
 
 -- ---- one value
 
-star : ℕ
-star = 42
-
+-- a value that ends in a byte is what stands before it, and that byte
 last_is : (n : ℕ) (v : List ℕ) → ends_with nat_eq v (n ∷ []) ≡ true → v ≡ take (length v - 1) v ++ n ∷ []
 last_is n v ends = sym (take-append-drop (length v - 1) v) ∙ ap (λ (l : List ℕ). take (length v - 1) v ++ l) (only (drop (length v - 1) v) ends)
   where

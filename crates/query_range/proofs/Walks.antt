@@ -1,10 +1,10 @@
 -- A walk through entries, from a place on, which finds each document at its first entry.
-use Rattle.std.proofs.Common.{◌≡◌, ℕ, ◌+◌, ◌≤◌, Bool, true, false, cond, not, ◌||◌, List, [], ◌∷◌, ◌++◌, length, map, drop, zero, suc, refl, sym, ◌∙◌, ap, ap₂, arith, add-one, Bor, Option, Some, None, Ordering, Less, Equal, Greater, nat_cmp}
+use Rattle.std.proofs.Common.{◌≡◌, ℕ, ◌+◌, ◌≤◌, Bool, true, false, cond, not, ◌||◌, List, [], ◌∷◌, ◌++◌, length, map, drop, zero, suc, refl, sym, ◌∙◌, ap, ap₂, arith, add-one, Bor, Some, None, Ordering, Less, Equal, Greater}
 use Rattle.std.proofs.lemmas.List.{append-nil, append_assoc, length-append, map-append}
 use Rattle.std.proofs.lemmas.List.Folds.{list_any-append}
 use Rattle.std.proofs.lemmas.List.Sums.{take_while-cons}
 use Rattle.std.specs.BTreeSet.{BTreeSet, contains, Updates}
-use Rattle.std.specs.Cmp.Lexicographic.{slice_cmp, nat_list_cmp_total}
+use Rattle.std.specs.Cmp.Lexicographic.{nat_list_cmp_total}
 use Rattle.std.specs.List.{list_any, slice_get, take_while}
 use Rattle.std.specs.Ordering.{eq_by_cmp, is_eq, ordering_reverse}
 use Rattle.index_tables.specs.Order.{Entry}

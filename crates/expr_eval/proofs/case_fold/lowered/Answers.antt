@@ -1,5 +1,5 @@
 -- The lanes give the folding of ASCII, which is a text again.
-use Rattle.std.proofs.Common.{◌≡◌, ◌∙◌, sym, ap, vec_len}
+use Rattle.std.proofs.Common.{◌≡◌, ◌∙◌, sym, ap}
 use Rattle.std.proofs.lemmas.Bool.{false≢true}
 use Rattle.std.specs.Str.{str_to_ascii_lowercase}
 use Rattle.std.specs.Vec.{with_items}

@@ -1,9 +1,9 @@
 -- A text that the set has not met is added last.
-use Rattle.std.proofs.Common.{◌≡◌, ℕ, ◌+◌, Bool, not, List, [], ◌∷◌, ◌++◌, Bor, take, get_or, sym, ap, subst, ◌∙◌}
+use Rattle.std.proofs.Common.{◌≡◌, ℕ, ◌+◌, not, List, [], ◌∷◌, ◌++◌, Bor, take, get_or, sym, ap, ◌∙◌}
 use Rattle.std.proofs.lemmas.List.{take_more}
 use Rattle.expr_eval.specs.Lent.{lent}
 use Rattle.expr_eval.specs.Words.{distinct}
-use Rattle.expr_eval.proofs.Places.{has, in_set, met, new_text, old_text}
+use Rattle.expr_eval.proofs.Places.{has, met, new_text, old_text}
 use Rattle.expr_eval.proofs.first_places.first_places.Goals as goal
 use Rattle.expr_eval.proofs.first_places.first_places.Goals.{then-branch+in_ok-push, else-branch}
 

@@ -1,9 +1,9 @@
 -- What is made from the lists of the code is what the definition says, and has no doubles.
-use Rattle.std.proofs.Common.{◌≡◌, ◌≢◌, ℕ, List, [], ◌++◌, Bor, Vec, Global, map, take, sym, ap, ap₂, subst, ◌∙◌, arith}
+use Rattle.std.proofs.Common.{◌≡◌, ◌≢◌, ℕ, List, ◌++◌, Bor, Vec, Global, map, take, sym, ap, ap₂, subst, ◌∙◌, arith}
 use Rattle.std.specs.List.{AllPairs}
 use Rattle.content.specs.TreeOf.{tree_of}
 use Rattle.expr_parser.specs.FormOf.{form_of}
-use Rattle.expr_eval.specs.Keys.{behind, key_texts, keys_of, most}
+use Rattle.expr_eval.specs.Keys.{behind, key_texts, most}
 use Rattle.expr_eval.specs.Lent.{lent}
 use Rattle.expr_eval.specs.Values.{texts_of}
 use Rattle.expr_eval.proofs.Apart.{keys_of-apart}

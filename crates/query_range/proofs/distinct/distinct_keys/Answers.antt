@@ -1,6 +1,6 @@
 -- Each turn looks at one pair, and keeps its key where that is not the last one.
-use Rattle.std.proofs.Common.{◌≡◌, ◌-◌, ◌≤◌, ℕ, List, length, slice_get, sym, subst, ◌∙◌, ap, arith}
-use Rattle.query_range.specs.Answers.{AreKeys, keys_of}
+use Rattle.std.proofs.Common.{◌-◌, ◌≤◌, ℕ, List, length, slice_get, sym, subst, ◌∙◌, ap, arith}
+use Rattle.query_range.specs.Answers.{AreKeys}
 use Rattle.query_range.specs.Wanted.{is_key}
 use Rattle.query_range.proofs.Keys.{all_listed, listed_known, listed_new, past_list}
 use Rattle.query_range.proofs.Laws.{keys_of_is}

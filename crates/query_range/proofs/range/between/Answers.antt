@@ -1,5 +1,5 @@
 -- The pairs of the range are those that the walk takes.
-use Rattle.std.proofs.Common.{◌≡◌, length, option_copied, filter, drop, take_while, ap, arith}
+use Rattle.std.proofs.Common.{length, option_copied, drop, take_while, ap, arith}
 use Rattle.query_range.specs.Answers.{is_between}
 use Rattle.query_range.specs.Wanted.{takes}
 use Rattle.query_range.proofs.Laws.{filtered, found}

@@ -1,5 +1,5 @@
 -- The pairs whose keys meet the pattern are those that the walk takes.
-use Rattle.std.proofs.Common.{◌≡◌, ℕ, List, length, filter, drop, take_while, ap, arith, subst, ◌∙◌}
+use Rattle.std.proofs.Common.{ℕ, List, length, drop, take_while, ap, arith, subst, ◌∙◌}
 use Rattle.index_tables.specs.Order.{FallsAt}
 use Rattle.query_range.specs.Patterns.{meets}
 use Rattle.query_range.proofs.Laws.{filtered, found}

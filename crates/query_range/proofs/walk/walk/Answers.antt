@@ -1,5 +1,5 @@
 -- Each turn takes one pair, until one is not taken.
-use Rattle.std.proofs.Common.{◌≡◌, ◌∙◌, sym, arith}
+use Rattle.std.proofs.Common.{◌∙◌, sym, arith}
 use Rattle.std.proofs.lemmas.List.{drop_all}
 use Rattle.query_range.specs.Wanted.{takes}
 use Rattle.query_range.proofs.Walks.{none_from, past_end, refused, took_known, took_new, walk_ends}
