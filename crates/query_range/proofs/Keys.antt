@@ -156,13 +156,6 @@ module _ (ps : List Entry) (order : IsInOrder ps) (place : ℕ) (keys : List Key
       by None h = absurd (cc)
       by (Some k) h = ap Some (key_same k p.0 (equal (key_cmp k p.0) h))
 
-pub none_listed : (ps : List Entry) (begun : ℕ) → Listed ps 0 [] begun begun
-none_listed ps begun = record { once = sym (ap keys_of (nothing ps)); last = refl; looks = omega arith }
-  where
-    nothing : (es : List Entry) → take 0 es ≡ []
-    nothing [] = refl
-    nothing (e ∷ es) = refl
-
 -- all entries were looked at
 pub all_listed : (ps : List Entry) (place : ℕ) (keys : List Key) (begun now : ℕ) → length ps ≤ place → Listed ps place keys begun now → keys ≡ keys_of ps
 all_listed ps place keys begun now whole listed = listed.once ∙ ap keys_of (all ps place whole)

@@ -60,9 +60,6 @@ module _ (test : Entry → Bool) (entries : List Entry) (start place : ℕ) (old
   pub walk_ends : take_while test (drop place entries) ≡ [] → ids ≡ firsts id_cmp (ids_of (take_while test (drop start entries)))
   walk_ends ends = walked.once ∙ ap (λ (l : List Entry). firsts id_cmp (ids_of l)) (sym (walked.split ∙ ap (λ (l : List Entry). walked.taken ++ l) ends ∙ append-nil walked.taken))
 
-  pub walk_looks : now ≤ begun + length (take_while test (drop start entries))
-  walk_looks = omega (arith, walked.looks, ap length walked.split ∙ length-append walked.taken (take_while test (drop place entries)))
-
   pub past_end : drop place entries ≡ [] → take_while test (drop place entries) ≡ []
   past_end none = ap (take_while test) none
 
@@ -129,6 +126,3 @@ module _ (test : Entry → Bool) (entries : List Entry) (start place : ℕ) (old
 
       pub took_known : fresh ≡ false → after ≡ ids → (later : ℕ) → later ≤ now + 1 → Walked test entries start (place + 1) new after begun later
       took_known is_known next = went_on (next ∙ ap (λ (b : Bool). cond b (ids ++ entry.1 ∷ []) ids) (sym is_known))
-
-pub not_begun : (test : Entry → Bool) (entries : List Entry) (start : ℕ) (empty : BTreeSet (Bor (List ℕ))) (begun : ℕ) → ((q : Bor (List ℕ)) → contains text_cmp empty q ≡ false) → Walked test entries start start empty [] begun begun
-not_begun test entries start empty begun none = record { taken = []; split = refl; seen = none; once = refl; looks = omega arith }
