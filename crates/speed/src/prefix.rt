@@ -11,21 +11,44 @@ use std::marker::Brand;
 use std::sync::ledger::{Blank, Ledger};
 use u1_base::{Ids, Memory, Steps, Text, Texts};
 
+// The query that is timed.
+#[derive(Clone, Copy)]
+enum Query {
+    OneOfSixteen,
+    Ten,
+}
+
+impl Query {
+    fn workload(self) -> &'static str {
+        match self {
+            Query::OneOfSixteen => "prefix",
+            Query::Ten => "few",
+        }
+    }
+
+    // The values for the name and the number.
+    fn values(self) -> [&'static str; 2] {
+        match self {
+            Query::OneOfSixteen => ["an*", "*"],
+            Query::Ten => ["ann", "00001*"],
+        }
+    }
+}
+
 /// Times a query that finds one of 16 of this many documents. The result is the number of documents.
 pub fn measure(rt: &HostRuntime, size: u32) -> Result<Report, Fault> {
-    counted::<Brand>(rt, "prefix", size, ("an*", "*"), Blank::new(1))
+    counted::<Brand>(rt, size, Query::OneOfSixteen, Blank::new(1))
 }
 
 /// Times a query that finds ten of this many documents. The result is the number of documents.
 pub fn measure_few(rt: &HostRuntime, size: u32) -> Result<Report, Fault> {
-    counted::<Brand>(rt, "few", size, ("ann", "00001*"), Blank::new(1))
+    counted::<Brand>(rt, size, Query::Ten, Blank::new(1))
 }
 
 fn counted<L: Ledger>(
     rt: &HostRuntime,
-    name: &'static str,
     size: u32,
-    values: (&str, &str),
+    query: Query,
     blank: Blank,
 ) -> Result<Report, Fault>
     requires name { blank.name ≡ L.name }
@@ -34,7 +57,7 @@ fn counted<L: Ledger>(
 {
     let alloc = rt.alloc();
     let table = table_of(alloc, size, size)?;
-    let pattern = pattern_of(alloc, values)?;
+    let pattern = pattern_of(alloc, query)?;
     let mut steps = Steps::<L>::new(blank);
     if !have_width(&table, pattern.parts().len(), &mut steps) {
         return Err(Fault::Run);
@@ -49,7 +72,7 @@ fn counted<L: Ledger>(
         return Err(Fault::Run);
     }
     Ok(Report {
-        name,
+        name: query.workload(),
         size,
         result: found.len() as u64,
         ours,
@@ -57,10 +80,11 @@ fn counted<L: Ledger>(
     })
 }
 
-fn pattern_of(alloc: Global, values: (&str, &str)) -> Result<Pattern, Fault> {
+fn pattern_of(alloc: Global, query: Query) -> Result<Pattern, Fault> {
     let mut texts = Texts::new(alloc);
-    texts.push(Text::copy(alloc, values.0)?)?;
-    texts.push(Text::copy(alloc, values.1)?)?;
+    for value in query.values() {
+        texts.push(Text::copy(alloc, value)?)?;
+    }
     Pattern::read(alloc, texts.as_slice(), 2).map_err(|_| Fault::Run)
 }
 
