@@ -1,0 +1,16 @@
+pub mod Members
+pub mod Pruned
+pub mod Documents
+pub mod States
+pub mod Sets
+pub mod Applied
+pub mod Lists
+pub mod MadeClocks
+pub mod Makings
+pub mod Trees
+pub mod WellFormed
+pub mod Worked
+pub mod Loops
+pub mod Parts
+pub mod Rows
+pub mod Fitting
