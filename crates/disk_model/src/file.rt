@@ -33,7 +33,9 @@ pub struct FileDisk<R: Files<File = File> + Clock + Drop> {
 }
 
 impl<R: Files<File = File> + Clock + Drop> FileDisk<R> {
-    pub fn new(rt: R, path: Text) -> FileDisk<R> {
+    pub fn new(rt: R, path: Text) -> FileDisk<R>
+        ensures { result.faults ≡ 0 }
+    {
         FileDisk {
             rt,
             path,

@@ -1,5 +1,5 @@
 //! Sources, sinks and connections in memory, whose calls fail where a test wants it.
-ghost use Rattle.std.specs.Prelude.{◌≡◌, ◌<◌, ◌≤◌, [], ◌++◌, List, ℕ, Some, IfOk, OnErr, Contains, take, length, ⊤};
+ghost use Rattle.std.specs.Prelude.{◌≡◌, ◌<◌, ◌≤◌, ◌+◌, ◌-◌, ◌^◌, [], ◌++◌, List, ℕ, Some, IfOk, OnErr, Contains, take, length, min, ⊤};
 ghost use Rattle.std.specs.Io.KnownBytes.{Keeps, ReadConsumes};
 ghost use Rattle.u1_base.specs.Causes.{HasCause};
 
@@ -135,6 +135,7 @@ impl Sink for MemSink {
         ensures cause { HasCause self.old.faults self.new.faults result }
         ensures keeps { ⊤ }
         ensures only_where_wanted { OnErr result (Contains self.old.failing self.old.calls) }
+        ensures counted { self.new.calls ≡ min (self.old.calls + 1) (2 ^ 64 - 1) }
     {
         if self.calls.begin() {
             return Err(WriteFailed);
@@ -192,7 +193,12 @@ impl Sink for MemConn {
         self.sink.put(piece)
     }
 
-    fn flush(&mut self) -> Result<(), WriteFailed> {
+    fn flush(&mut self) -> Result<(), WriteFailed>
+        ensures same { Keeps (Some self.old.sink.bytes) (Some self.new.sink.bytes) }
+        ensures cause { HasCause self.old.sink.faults self.new.sink.faults result }
+        ensures keeps { self.new.source ≡ self.old.source }
+        ensures counted { self.new.sink.calls ≡ min (self.old.sink.calls + 1) (2 ^ 64 - 1) }
+    {
         self.sink.flush()
     }
 }

@@ -5,7 +5,7 @@ ghost use Rattle.std.specs.Io.KnownBytes.{Appends};
 use crate::{ReadFailed, Sink, Source, WriteFailed};
 use std::io::{Read, Write};
 
-/// A source over any reader of std. It tells what the reader tells.
+/// A source over any reader of std. It tells what the reader tells, and has no faults at first.
 #[derive(Drop)]
 pub struct StdSource<R: Read + Drop> {
     inner: R,
@@ -13,7 +13,9 @@ pub struct StdSource<R: Read + Drop> {
 }
 
 impl<R: Read + Drop> StdSource<R> {
-    pub fn new(inner: R) -> StdSource<R> {
+    pub fn new(inner: R) -> StdSource<R>
+        ensures { result ≡ record { inner = inner; faults = 0 } }
+    {
         StdSource { inner, faults: 0 }
     }
 }
@@ -38,7 +40,7 @@ impl<R: Read + Drop> Source for StdSource<R> {
     }
 }
 
-/// A sink over any writer of std. It tells what the writer tells.
+/// A sink over any writer of std. It tells what the writer tells, and has no faults at first.
 ///
 /// A writer that buffers, as `BufWriter`, saves system calls; `flush` then hands on what it holds.
 #[derive(Drop)]
@@ -48,7 +50,9 @@ pub struct StdSink<W: Write + Drop> {
 }
 
 impl<W: Write + Drop> StdSink<W> {
-    pub fn new(inner: W) -> StdSink<W> {
+    pub fn new(inner: W) -> StdSink<W>
+        ensures { result ≡ record { inner = inner; faults = 0 } }
+    {
         StdSink { inner, faults: 0 }
     }
 }
