@@ -2,19 +2,18 @@
 use Rattle.std.specs.Prelude.{◌≡◌, Bool, true, false, cond, not, ◌&&◌, ◌||◌, ◌⊎◌, T, List, [], ◌∷◌, ◌++◌, filter, Option, Some, None, Result, Ok, Err, IfOk, refl}
 use Rattle.std.specs.List.{list_any, list_all}
 use Rattle.std.proofs.Common.{sym, ◌∙◌, ap, ap₂, subst, inl, inr, append_assoc}
-use Rattle.std.proofs.lemmas.Bool.{and_parts, and_from}
 use Rattle.std.proofs.lemmas.List.Elements.{filter-append}
-use Rattle.vector_rev.specs.Counts.{both, first, second, T_true, true_T}
+use Rattle.vector_rev.specs.Counts.{both, first, second, true_T}
 use Rattle.vector_rev.specs.Clock.{Clock, covers, dominates}
 use Rattle.vector_rev.specs.Compare.{same}
 use Rattle.conflicts.proofs.Sets.{same_itself}
 use Rattle.conflicts.specs.Lists.{In}
 use Rattle.conflicts.specs.Pruning.{pruned}
-use Rattle.conflicts.specs.Document.{member_of, covers_member, has_rev, current_after, Document, no_document, document_after, IsKept, FitsDocument}
+use Rattle.conflicts.specs.Document.{member_of, covers_member, has_rev, current_after, Document, document_after, IsKept, FitsDocument}
 use Rattle.conflicts.specs.Kept.{Kept, are_apart, all_apart, members, document}
 use Rattle.conflicts.specs.declared.member.Member.{Member}
 use Rattle.conflicts.specs.declared.accept.Accept.{Accept}
-use Rattle.conflicts.proofs.Members.{none_true, not_both, none_passes, finds, In-left, In-right, In-last, In-filter, from_filter}
+use Rattle.conflicts.proofs.Members.{not_both, none_passes, finds, In-left, In-right, In-last, In-filter, from_filter}
 
 pub has_rev-In : (m : Member) (ms : List Member) → In m ms → has_rev ms m.rev ≡ true
 has_rev-In m ms h = finds (λ n. same n.rev m.rev) m ms h (same_itself m.rev)

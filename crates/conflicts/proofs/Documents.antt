@@ -1,12 +1,11 @@
 -- The members and the current revision step by step are those of the whole list of acceptances.
-use Rattle.std.specs.Prelude.{◌≡◌, Bool, true, false, cond, not, ◌&&◌, ◌||◌, List, [], ◌∷◌, ◌++◌, map, Option, Some, None, refl}
-use Rattle.std.specs.List.{list_any}
+use Rattle.std.specs.Prelude.{◌≡◌, true, List, [], ◌∷◌, ◌++◌, map, Option, None, refl}
 use Rattle.std.proofs.Common.{sym, ◌∙◌, ap, append_assoc, append-nil}
 use Rattle.vector_rev.specs.Clock.{Clock, covers}
 use Rattle.vector_rev.proofs.ClockLaws.{covers-itself, covers-trans}
 use Rattle.conflicts.specs.Lists.{In}
-use Rattle.conflicts.specs.Pruning.{IsPreorder, undominated, pruned, pruned_all, AllCovered}
-use Rattle.conflicts.specs.Document.{member_of, covers_member, members_of, current_after, current_from, current_of, Document, no_document, document_of, document_after, document_after_all}
+use Rattle.conflicts.specs.Pruning.{IsPreorder, undominated, pruned}
+use Rattle.conflicts.specs.Document.{member_of, covers_member, members_of, current_after, current_from, Document, no_document, document_of, document_after, document_after_all}
 use Rattle.conflicts.specs.declared.member.Member.{Member}
 use Rattle.conflicts.specs.declared.accept.Accept.{Accept}
 use Rattle.conflicts.proofs.Members.{In-map}

@@ -1,10 +1,10 @@
 -- The test of an acceptance tells whether it fits.
 use Rattle.std.specs.Prelude.{◌≡◌, Bool, true, false, not, ◌&&◌, ◌||◌, ◌⊎◌, ◌↔◌, IsTrue, Some, refl}
 use Rattle.std.specs.List.{list_any}
-use Rattle.std.proofs.Common.{sym, ◌∙◌, ap, ap₂, inl, inr}
+use Rattle.std.proofs.Common.{sym, ◌∙◌, ap, inl, inr}
 use Rattle.std.proofs.lemmas.Bool.{and_parts, and_from}
 use Rattle.vector_rev.specs.Clock.{covers, dominates}
-use Rattle.conflicts.specs.Document.{IsKept, FitsDocument, no_document}
+use Rattle.conflicts.specs.Document.{FitsDocument, no_document}
 use Rattle.conflicts.specs.Kept.{Kept, members, document}
 use Rattle.conflicts.specs.declared.member.Member.{Member}
 use Rattle.conflicts.specs.declared.accept.Accept.{Accept}

@@ -1,5 +1,5 @@
 -- What one more turn of a loop adds.
-use Rattle.std.specs.Prelude.{◌≡◌, ℕ, ◌+◌, ◌<◌, max, Bool, true, false, cond, List, [], ◌∷◌, ◌++◌, filter, map, find, length, take, Option, Some, None, unwrap_or, ◌==◌, refl}
+use Rattle.std.specs.Prelude.{◌≡◌, ℕ, ◌+◌, ◌<◌, max, Bool, true, false, cond, List, [], ◌∷◌, ◌++◌, filter, find, length, take, Option, Some, None, unwrap_or, ◌==◌, refl}
 use Rattle.std.specs.Option.{option_map, option_or}
 use Rattle.std.proofs.Common.{sym, ◌∙◌, ap, ap₂, arith, get_or, append_assoc, append-nil}
 use Rattle.std.proofs.lemmas.List.{take_more}
@@ -59,6 +59,11 @@ pub pushed_left : (q : Member → Bool) (ms : List Member) (i : ℕ) (m : Member
 pushed_left q ms i m first front low here left e =
     e
     ∙ ap (λ r. first ++ revs r) (sym (append-nil (filter q (take i ms))) ∙ ap (λ b. filter q (take i ms) ++ cond b (m ∷ []) []) (sym left) ∙ sym (filter-append q (take i ms) (m ∷ [])) ∙ ap (filter q) (sym (take_next ms i m low here)))
+
+-- of a member that a test tells
+pub pushed_if : (q : Member → Bool) (ms : List Member) (i : ℕ) (m : Member) (b : Bool) (first front whole : List Clock) → i < length ms → m ≡ get_or ms i m → b ≡ q m → front ≡ first ++ revs (filter q (take i ms)) → whole ≡ front ++ cond b (m.rev ∷ []) [] → whole ≡ first ++ revs (filter q (take (i + 1) ms))
+pushed_if q ms i m true first front whole low here test e w = pushed_kept q ms i m m.rev first front whole low here (sym test) refl e w
+pushed_if q ms i m false first front whole low here test e w = w ∙ append-nil front ∙ pushed_left q ms i m first front low here (sym test) e
 
 -- ---- the first member with the greatest counter
 

@@ -1,16 +1,14 @@
 -- When the counters that are made are those of a clock.
-use Rattle.std.specs.Prelude.{◌≡◌, ◌≢◌, ℕ, zero, suc, ◌+◌, ◌-◌, ◌^◌, ◌≤◌, ◌<◌, max, Bool, true, false, cond, not, ◌&&◌, T, nat_le, nat_lt, List, [], ◌∷◌, ◌++◌, length, map, drop, Option, Some, None, Result, Ok, Err, IfOk, is_some, refl}
+use Rattle.std.specs.Prelude.{◌≡◌, ℕ, zero, suc, ◌+◌, ◌-◌, ◌≤◌, ◌<◌, max, Bool, true, false, cond, ◌&&◌, nat_le, List, [], ◌∷◌, ◌++◌, length, drop, Option, Some, None, Result, Ok, Err, IfOk, is_some, refl}
 use Rattle.std.specs.List.{list_all}
 use Rattle.std.specs.FinMap.Entries.{find, length-put}
 use Rattle.std.specs.Cmp.Lexicographic.{nat_list_cmp_total}
-use Rattle.std.proofs.Common.{sym, ◌∙◌, ap, ap₂, subst, arith, true≢false, leb-true, get_or}
-use Rattle.u1_base.specs.Ids.{IsId}
-use Rattle.u1_base.specs.declared.ids.Form.TheVariants as form_of
-use Rattle.vector_rev.specs.Counts.{Uid, uid_cmp, same_uid, Entries, Counts, count, count_in, no_counts, raised, raised_entries, join, joined_entries, join_all, both, first, second, T_true, true_T}
-use Rattle.vector_rev.specs.Clock.{Clock, count_of, counts, is_limited, is_entry, is_clock, limited_clock, clock_of, same_record}
-use Rattle.vector_rev.specs.Made.{IsFull, IsNext, IsFirst}
-use Rattle.vector_rev.proofs.CountsLaws.{same_uid-tied, same_counts, count-raised, count-join, length-join-left, length-join-right, uid_self, sorted_of}
-use Rattle.vector_rev.proofs.ClockLaws.{IsNext-entries, IsNext-room, not_same}
+use Rattle.std.proofs.Common.{sym, ◌∙◌, ap, subst, arith, true≢false, leb-true, get_or}
+use Rattle.vector_rev.specs.Counts.{Uid, uid_cmp, same_uid, Entries, Counts, count, count_in, no_counts, raised, raised_entries, join, both, first, second, T_true, true_T}
+use Rattle.vector_rev.specs.Clock.{Clock, count_of, counts, is_limited, is_entry, limited_clock, clock_of, same_record}
+use Rattle.vector_rev.specs.Made.{IsFull, IsFirst}
+use Rattle.vector_rev.proofs.CountsLaws.{same_uid-tied, same_counts, count-raised, count-join, length-join-right, uid_self, sorted_of}
+use Rattle.vector_rev.proofs.ClockLaws.{IsNext-entries, IsNext-room}
 use Rattle.conflicts.specs.Making.{joined, made_clock, greatest}
 use Rattle.conflicts.proofs.Members.{not_both, none_true}
 
@@ -163,3 +161,6 @@ made_one_is x own z e =
 pub made_one_full : (x : Clock) (own : Uid) → IsFull x own → None ≡ made_clock own (x ∷ [])
 made_one_full x own full =
     sym (ap (λ (c : Counts). clock_of (raised c own)) (joined_one x) ∙ full_is_none x own full)
+
+pub made_joined : (ps : List Clock) (own : Uid) (z : Clock) → counts z ≡ joined ps → made_clock own (z ∷ []) ≡ made_clock own ps
+made_joined ps own z e = ap (λ (c : Counts). clock_of (raised c own)) (joined_one z ∙ e)

@@ -1,30 +1,30 @@
 -- What is made and what is accepted fits, and a made revision counts more than any member for the own uid.
-use Rattle.std.specs.Prelude.{◌≡◌, ◌≢◌, ℕ, suc, ◌+◌, ◌<◌, ◌≤◌, ◌⊎◌, max, Bool, true, false, cond, not, ◌&&◌, ◌||◌, nat_le, nat_lt, List, [], ◌∷◌, ◌++◌, filter, map, length, Option, Some, None, Result, Ok, Err, IfOk, IfSome, refl}
+use Rattle.std.specs.Prelude.{◌≡◌, ◌≢◌, ℕ, suc, ◌<◌, ◌≤◌, ◌⊎◌, Bool, true, false, cond, not, ◌&&◌, ◌||◌, nat_le, nat_lt, List, [], ◌∷◌, filter, length, Option, Some, None, Result, Err, IfOk, IfSome, refl}
 use Rattle.std.specs.List.{list_any, list_all}
 use Rattle.std.specs.Option.{option_map, ok_or}
-use Rattle.std.proofs.Common.{sym, ◌∙◌, ap, ap₂, subst, inl, inr, arith, true≢false, leb-true, ltb-true, lt-ltb, le_trans}
+use Rattle.std.proofs.Common.{sym, ◌∙◌, ap, ap₂, subst, inl, inr, arith, leb-true, lt-ltb, le_trans}
 use Rattle.std.proofs.lemmas.Bool.{cond_both, and_parts, and_from}
 use Rattle.content.specs.Tree.{Tree}
-use Rattle.vector_rev.specs.Counts.{Uid, same_uid, count, count_in, raised, T_true, true_T}
-use Rattle.vector_rev.specs.Clock.{Clock, count_of, counts, Covers, Dominates, covers, dominates, clock_of}
+use Rattle.vector_rev.specs.Counts.{Uid, same_uid, count_in, raised}
+use Rattle.vector_rev.specs.Clock.{Clock, count_of, Covers, covers, dominates}
 use Rattle.vector_rev.specs.Compare.{same}
 use Rattle.vector_rev.proofs.CountsLaws.{count-raised, uid_self, same_uid-tied}
-use Rattle.vector_rev.proofs.ClockLaws.{covers_at, covers_from, dominates_from, covers-itself, covers-trans, same_decides, not_same}
+use Rattle.vector_rev.proofs.ClockLaws.{covers_at, dominates_from, same_decides, not_same}
 use Rattle.conflicts.specs.Lists.{In, is_empty}
-use Rattle.conflicts.specs.Document.{Document, has_rev, others, in_order, is_conflicted, is_live, covers_member, IsKept, FitsDocument}
-use Rattle.conflicts.specs.Making.{joined, made_clock, greatest, revs, edit_of, names, edited, edited_at, deleted, deleted_at, named_in, leader, resolution_of, resolved_over, resolved_at, resolved}
-use Rattle.conflicts.specs.Decision.{same_content, is_alike, is_unlike, alike, unlike, merge_parents, merge_of, may_merge, received, accepts, nothing, Row, first_row, table, decides_over, decides_at, decides}
+use Rattle.conflicts.specs.Document.{Document, has_rev, others, in_order, is_conflicted, is_live, covers_member, IsKept}
+use Rattle.conflicts.specs.Making.{joined, made_clock, greatest, revs, names, edited, edited_at, deleted, deleted_at, named_in, leader, resolved_at, resolved}
+use Rattle.conflicts.specs.Decision.{same_content, is_alike, is_unlike, alike, unlike, merge_parents, may_merge, received, nothing, Row, first_row, table, decides_over, decides_at, decides}
 use Rattle.conflicts.specs.Laws.{CurrentIs, IsDocument, IsMade, MakesOf, TakesOf}
 use Rattle.conflicts.specs.declared.member.Member.{Member}
 use Rattle.conflicts.specs.declared.accept.Accept.{Accept}
-use Rattle.conflicts.specs.declared.accept.Making.TheVariants.{Edit, Resolve, Merge, Received}
+use Rattle.conflicts.specs.declared.accept.Making.TheVariants.{Edit, Resolve, Merge}
 use Rattle.conflicts.specs.declared.receipts.Taken.{Taken}
-use Rattle.conflicts.specs.declared.receipts.Outcome4.TheVariants.{Inserted, Superseded, Converged, Conflicted}
+use Rattle.conflicts.specs.declared.receipts.Outcome4.TheVariants.{Conflicted}
 use Rattle.conflicts.specs.declared.edits.EditFault.TheVariants as edit_fault
 use Rattle.conflicts.specs.declared.resolutions.ResolveFault.TheVariants as resolve_fault
-use Rattle.conflicts.proofs.Members.{none_true, some_true, not_both, not_true, found, finds, passes_none, In-left, In-right, In-either, In-filter, from_filter, In-map, from_map}
+use Rattle.conflicts.proofs.Members.{none_true, not_both, finds, passes_none, In-left, In-right, In-either, In-filter, from_filter, In-map, from_map}
 use Rattle.conflicts.proofs.Documents.{members_preorder}
-use Rattle.conflicts.proofs.Pruned.{above_through, covers_above}
+use Rattle.conflicts.proofs.Pruned.{above_through}
 use Rattle.conflicts.proofs.MadeClocks.{clock_of-entries, count-joined}
 
 -- ---- what a made clock counts

@@ -2,7 +2,7 @@
 use Rattle.std.specs.Prelude.{◌≡◌, ℕ, max, Bool, true, false, cond, not, ◌&&◌, ◌||◌, ◌⊎◌, ◌<◌, ◌≤◌, nat_le, nat_lt, List, [], ◌∷◌, ◌++◌, filter, length, Option, Some, None, Result, Ok, Err, refl}
 use Rattle.std.specs.List.{list_any, list_all}
 use Rattle.std.specs.Option.{option_map, ok_or}
-use Rattle.std.proofs.Common.{sym, ◌∙◌, ap, ap₂, subst, inl, inr, arith, append_assoc, lt-ltb}
+use Rattle.std.proofs.Common.{sym, ◌∙◌, ap, ap₂, inl, inr, arith, append_assoc, lt-ltb, ltb-true}
 use Rattle.std.proofs.lemmas.List.Elements.{filter-append}
 use Rattle.std.proofs.lemmas.List.Folds.{list_any-append, list_all-append}
 use Rattle.content.specs.Tree.{Tree}
@@ -10,7 +10,7 @@ use Rattle.vector_rev.specs.Counts.{Uid}
 use Rattle.vector_rev.specs.Clock.{Clock, count_of, dominates}
 use Rattle.vector_rev.specs.Compare.{same}
 use Rattle.conflicts.specs.Lists.{is_empty}
-use Rattle.conflicts.specs.Document.{has_rev, in_order, is_conflicted}
+use Rattle.conflicts.specs.Document.{has_rev, in_order}
 use Rattle.conflicts.specs.Kept.{Kept, members, current_first, document}
 use Rattle.conflicts.specs.Making.{made_clock, greatest, revs, edit_of, named_in, leader, resolution_of, resolved_over, resolved}
 use Rattle.conflicts.specs.Decision.{is_alike, is_unlike, alike, unlike, merge_parents, merge_of, may_merge}
@@ -23,6 +23,7 @@ use Rattle.conflicts.specs.declared.resolutions.ResolveFault.{ResolveFault}
 use Rattle.conflicts.specs.declared.resolutions.ResolveFault.TheVariants as resolve_fault
 use Rattle.conflicts.proofs.Lists.{is_empty-filter, list_all-filtered}
 use Rattle.conflicts.proofs.Loops.{revs-append}
+use Rattle.conflicts.proofs.Members.{none_true}
 use Rattle.conflicts.proofs.MadeClocks.{greatest-append}
 use Rattle.conflicts.proofs.Sets.{alike_current, in_order_kept}
 
@@ -67,8 +68,17 @@ all_of_three p k f b a x y z e1 e2 e3 p1 p2 p3 =
 pub some_alike_is : (x : Member) (k : Kept) (b : Bool) → b ≡ list_any (is_alike x) (current_first k) → b ≡ not (is_empty (alike x (current_first k)))
 some_alike_is x k b e = e ∙ sym (is_empty-filter (is_alike x) (current_first k))
 
-pub none_above_is : (x : Member) (own : Uid) (most : ℕ) (k : Kept) (b : Bool) → b ≡ list_all (λ m. not (is_unlike x m) || nat_le (count_of m.rev own) most) (current_first k) → b ≡ list_all (λ m. nat_le (count_of m.rev own) most) (unlike x (current_first k))
-none_above_is x own most k b e = e ∙ sym (list_all-filtered (λ m. nat_le (count_of m.rev own) most) (is_unlike x) (current_first k))
+pub none_above_is : (x : Member) (own : Uid) (most : ℕ) (k : Kept) (b : Bool) → b ≡ list_all (λ m. nat_le (count_of m.rev own) most || not (is_unlike x m)) (current_first k) → b ≡ list_all (λ m. nat_le (count_of m.rev own) most) (unlike x (current_first k))
+none_above_is x own most k b e =
+    e
+    ∙ ap (λ (p : Member → Bool). list_all p (current_first k)) (λ i m. either_way (nat_le (count_of m.rev own) most) (not (is_unlike x m)) i)
+    ∙ sym (list_all-filtered (λ m. nat_le (count_of m.rev own) most) (is_unlike x) (current_first k))
+  where
+    either_way : (a b : Bool) → (a || b) ≡ (b || a)
+    either_way true true = refl
+    either_way true false = refl
+    either_way false true = refl
+    either_way false false = refl
 
 -- the clocks of the members that a test keeps
 kept_three : (q : Member → Bool) (k : Kept) → revs (filter q (current_first k)) ≡ (revs (filter q (k.current ∷ [])) ++ revs (filter q k.before)) ++ revs (filter q k.after)
@@ -120,13 +130,20 @@ edit_last own c d ps t rev o r e s m q (inr h) =
     ∙ ap (λ (z : Option Clock). ok_or (option_map (λ (y : Clock). record { rev = y; content = t; making = Edit; parents = c ∷ []; current = true }) z) edit_fault.ClockFull) (sym s ∙ m ∙ ap (λ (k : Clock). made_clock own (k ∷ [])) q))
 
 -- the merged revision, where a clock is made
-pub merge_made : (k : Kept) (x : Member) (save : Bool) (own : Uid) (ps : List Clock) (rev : Clock) (o : Option Clock) (lead alike_now newer : Bool) (cur : Member) (t : Option Tree) → ps ≡ merge_parents x (current_first k) → o ≡ Some rev → o ≡ made_clock own ps → may_merge (current_first k) x own ≡ true → cur ≡ k.current →
-    alike_now ≡ is_alike x cur → newer ≡ dominates rev cur.rev → lead ≡ ((save || alike_now) || newer) → t ≡ x.content →
+pub merge_made : (k : Kept) (x : Member) (save : Bool) (own : Uid) (ps : List Clock) (rev : Clock) (o : Option Clock) (lead : Bool) (t : Option Tree) → ps ≡ merge_parents x (current_first k) → o ≡ Some rev → o ≡ made_clock own ps → may_merge (current_first k) x own ≡ true →
+    lead ≡ ((save || dominates rev k.current.rev) || is_alike x k.current) → t ≡ x.content →
     Some (record { rev = rev; content = t; making = Merge; parents = ps; current = lead }) ≡ cond (may_merge (current_first k) x own) (merge_of k.current.rev (current_first k) x save own) None
-merge_made k x save own ps rev o lead alike_now newer cur t e s m may ec ea en el et =
-    (λ i. Some (record { rev = rev; content = et i; making = Merge; parents = e i; current = (el ∙ ap₂ (λ a n. (save || a) || n) (ea ∙ ap (is_alike x) ec ∙ sym (alike_current k x)) (en ∙ ap (λ (c : Member). dominates rev c.rev) ec)) i }))
+merge_made k x save own ps rev o lead t e s m may el et =
+    (λ i. Some (record { rev = rev; content = et i; making = Merge; parents = e i; current = (el ∙ last_first save (dominates rev k.current.rev) (is_alike x k.current) ∙ ap (λ a. (save || a) || dominates rev k.current.rev) (sym (alike_current k x))) i }))
     ∙ ap (option_map (λ (y : Clock). record { rev = y; content = x.content; making = Merge; parents = merge_parents x (current_first k); current = (save || has_rev (alike x (current_first k)) k.current.rev) || dominates y k.current.rev })) (sym s ∙ m ∙ ap (made_clock own) e)
     ∙ ap (λ b. cond b (merge_of k.current.rev (current_first k) x save own) None) (sym may)
+  where
+    last_first : (a b c : Bool) → ((a || b) || c) ≡ ((a || c) || b)
+    last_first true b c = refl
+    last_first false true true = refl
+    last_first false true false = refl
+    last_first false false true = refl
+    last_first false false false = refl
 
 pub merge_full : (k : Kept) (x : Member) (save : Bool) (own : Uid) (ps : List Clock) (o : Option Clock) → ps ≡ merge_parents x (current_first k) → o ≡ None → o ≡ made_clock own ps → None ≡ cond (may_merge (current_first k) x own) (merge_of k.current.rev (current_first k) x save own) None
 merge_full k x save own ps o e s m =
@@ -158,3 +175,15 @@ pub resolution_made : (own : Uid) (c : Clock) (ps : List Clock) (t u : Option Tr
 resolution_made own c ps t u rev o lead named newer s m en ew el et =
     (λ i. Ok (record { rev = rev; content = et i; making = Resolve; parents = ps; current = (el ∙ ap₂ (λ a b. a || b) en ew) i }))
     ∙ ap (λ (z : Option Clock). ok_or (option_map (λ (y : Clock). record { rev = y; content = t; making = Resolve; parents = ps; current = list_any (λ p. same p c) ps || dominates y c }) z) resolve_fault.ClockFull) (sym s ∙ m)
+
+pub resolution_from : (own : Uid) (c : Clock) (ps : List Clock) (t : Option Tree) (rev : Clock) (o : Option Clock) (lead named newer : Bool) (r : Result Accept ResolveFault) → o ≡ Some rev → o ≡ made_clock own ps → named ≡ list_any (λ p. same p c) ps → newer ≡ dominates rev c → lead ≡ (named || newer) →
+    (r ≡ Err resolve_fault.Memory) ⊎ (r ≡ Ok (record { rev = rev; content = t; making = Resolve; parents = ps; current = lead })) → (r ≡ Err resolve_fault.Memory) ⊎ (r ≡ ok_or (resolution_of own c ps t) resolve_fault.ClockFull)
+resolution_from own c ps t rev o lead named newer r s m en ew el (inl h) = inl h
+resolution_from own c ps t rev o lead named newer r s m en ew el (inr h) = inr (h ∙ resolution_made own c ps t t rev o lead named newer s m en ew el refl)
+
+pub not_none : (ps : List Clock) → 1 ≤ length ps → is_empty ps ≡ false
+not_none [] h = absurd (omega arith)
+not_none (p ∷ ps) h = refl
+
+pub not_below : (x y a b : ℕ) → x ≡ a → y ≡ b → y ≤ x → nat_lt a b ≡ false
+not_below x y a b e f h = none_true _ (λ t. let low : a < b = ltb-true a b t in absurd (omega arith))

@@ -2,7 +2,7 @@
 -- list is covered by one of these.
 use Rattle.std.specs.Prelude.{◌≡◌, Bool, true, false, cond, not, ◌&&◌, ◌||◌, ◌⊎◌, List, [], ◌∷◌, ◌++◌, filter, refl}
 use Rattle.std.specs.List.{list_any}
-use Rattle.std.proofs.Common.{sym, ◌∙◌, ap, ap₂, subst, inl, inr, true≢false, append_assoc, append-nil}
+use Rattle.std.proofs.Common.{sym, ◌∙◌, ap, ap₂, subst, inl, inr, append_assoc, append-nil}
 use Rattle.std.proofs.lemmas.Bool.{and_parts, and_from}
 use Rattle.std.proofs.lemmas.List.Elements.{filter-append, filter_agree}
 use Rattle.std.proofs.lemmas.List.Folds.{list_any-append}

@@ -1,15 +1,14 @@
 -- The rows of the table for a revision that is apart from the current one.
-use Rattle.std.specs.Prelude.{◌≡◌, Bool, true, false, cond, not, ◌&&◌, ◌||◌, is_some, List, [], ◌∷◌, ◌++◌, Option, Some, None, Result, Ok, Err, IfOk, refl}
+use Rattle.std.specs.Prelude.{◌≡◌, Bool, true, false, cond, not, ◌&&◌, ◌||◌, is_some, List, ◌++◌, Option, Some, None, Result, Ok, Err, IfOk, refl}
 use Rattle.std.specs.List.{list_any}
 use Rattle.std.proofs.Common.{sym, ◌∙◌, ap, ap₂}
 use Rattle.std.proofs.lemmas.List.Folds.{list_any-append}
 use Rattle.vector_rev.specs.Counts.{Uid}
 use Rattle.vector_rev.specs.Clock.{Clock, covers, dominates}
-use Rattle.vector_rev.specs.Compare.{same, order_of}
-use Rattle.vector_rev.specs.declared.compare.Order.TheVariants as answer
-use Rattle.conflicts.specs.Document.{has_rev, others, in_order}
-use Rattle.conflicts.specs.Kept.{Kept, members, current_first, document}
-use Rattle.conflicts.specs.Decision.{Row, first_row, nothing, accepts, may_merge, merge_of, table, decides_over, decides}
+use Rattle.vector_rev.specs.Compare.{same}
+use Rattle.conflicts.specs.Document.{has_rev}
+use Rattle.conflicts.specs.Kept.{Kept, current_first, document}
+use Rattle.conflicts.specs.Decision.{nothing, accepts, may_merge, merge_of, decides_over, decides}
 use Rattle.conflicts.specs.declared.member.Member.{Member}
 use Rattle.conflicts.specs.declared.accept.Accept.{Accept}
 use Rattle.conflicts.specs.declared.receipts.Taken.{Taken}

@@ -1,19 +1,18 @@
 -- In each document no member is newer than another one, and the current revision is that of a member.
-use Rattle.std.specs.Prelude.{◌≡◌, Bool, true, false, cond, not, ◌&&◌, ◌||◌, ◌⊎◌, List, [], ◌∷◌, ◌++◌, filter, map, Option, Some, None, refl}
+use Rattle.std.specs.Prelude.{◌≡◌, Bool, true, false, cond, not, ◌&&◌, ◌||◌, List, [], ◌∷◌, ◌++◌, filter, map, Option, Some, None, refl}
 use Rattle.std.specs.List.{list_any}
-use Rattle.std.proofs.Common.{sym, ◌∙◌, ap, ap₂, subst, inl, inr}
-use Rattle.std.proofs.lemmas.Bool.{and_parts}
-use Rattle.vector_rev.specs.Clock.{Clock, covers, dominates}
+use Rattle.std.proofs.Common.{sym, ◌∙◌, ap, ap₂, subst, inl}
+use Rattle.vector_rev.specs.Clock.{Clock, dominates}
 use Rattle.vector_rev.specs.Compare.{same}
-use Rattle.vector_rev.proofs.ClockLaws.{same_decides, covers-itself}
+use Rattle.vector_rev.proofs.ClockLaws.{same_decides}
 use Rattle.conflicts.specs.Lists.{In}
-use Rattle.conflicts.specs.Pruning.{undominated, pruned, last_ones, is_above}
+use Rattle.conflicts.specs.Pruning.{pruned, last_ones, is_above}
 use Rattle.conflicts.specs.Document.{member_of, covers_member, members_of, has_rev, current_after, Document, no_document, document_of, document_after, document_after_all}
-use Rattle.conflicts.specs.Kept.{Kept, are_apart, all_apart, members, document}
+use Rattle.conflicts.specs.Kept.{Kept, members, document}
 use Rattle.conflicts.specs.Laws.{CurrentIs, IsDocument}
 use Rattle.conflicts.specs.declared.member.Member.{Member}
 use Rattle.conflicts.specs.declared.accept.Accept.{Accept}
-use Rattle.conflicts.proofs.Members.{none_true, not_both, not_true, found, finds, passes_none, none_passes, from_filter, In-last, In-left, In-right, In-either, In-filter}
+use Rattle.conflicts.proofs.Members.{not_true, found, finds, passes_none, none_passes, from_filter, In-last, In-right}
 use Rattle.conflicts.proofs.Pruned.{from_undominated}
 use Rattle.conflicts.proofs.Documents.{steps_are_document}
 use Rattle.conflicts.proofs.Sets.{same_itself, ordered_not}

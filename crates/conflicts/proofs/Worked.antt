@@ -1,16 +1,16 @@
 -- The definitions at worked documents.
-use Rattle.std.proofs.Common.{◌≡◌, ℕ, true, false, List, [], ◌∷◌, refl}
+use Rattle.std.proofs.Common.{◌≡◌, ℕ, true, false, [], ◌∷◌, refl}
 use Rattle.std.specs.Prelude.{codes, Option, Some, None, Ok, Err, pos}
-use Rattle.content.specs.Tree.{Tree, whole, text, object, no_fields, field}
+use Rattle.content.specs.Tree.{Tree, whole, object, no_fields, field}
 use Rattle.vector_rev.specs.Counts.{Uid}
 use Rattle.vector_rev.specs.Clock.{Clock}
-use Rattle.conflicts.specs.Document.{Document, members_of, current_of, document_of}
-use Rattle.conflicts.specs.Making.{edited, deleted, resolved, made_clock}
+use Rattle.conflicts.specs.Document.{Document, members_of, document_of}
+use Rattle.conflicts.specs.Making.{edited, deleted, resolved}
 use Rattle.conflicts.specs.Decision.{decides, received, accepts, nothing}
 use Rattle.conflicts.specs.declared.member.Member.{Member}
 use Rattle.conflicts.specs.declared.accept.Accept.{Accept}
-use Rattle.conflicts.specs.declared.accept.Making.TheVariants.{Edit, Resolve, Merge, Received}
-use Rattle.conflicts.specs.declared.receipts.Outcome4.TheVariants.{Inserted, Superseded, Converged, Conflicted}
+use Rattle.conflicts.specs.declared.accept.Making.TheVariants.{Edit, Resolve, Merge}
+use Rattle.conflicts.specs.declared.receipts.Outcome4.TheVariants.{Superseded, Conflicted}
 use Rattle.conflicts.specs.declared.edits.EditFault.TheVariants as edit_fault
 use Rattle.conflicts.specs.declared.resolutions.ResolveFault.TheVariants as resolve_fault
 

@@ -1,5 +1,5 @@
 -- What holds of all documents and of all histories.
-use Rattle.std.specs.Prelude.{◌≡◌, ◌≢◌, ℕ, ◌+◌, ◌<◌, ◌≤◌, ◌⊎◌, Bool, true, false, List, [], ◌∷◌, ◌++◌, Option, Some, None, Result, Ok, Err, IfOk, IfSome}
+use Rattle.std.specs.Prelude.{◌≡◌, ◌≢◌, ◌+◌, ◌<◌, ◌⊎◌, Bool, true, false, List, [], ◌∷◌, ◌++◌, Option, Some, None, IfOk, IfSome}
 use Rattle.std.specs.List.{list_any}
 use Rattle.content.specs.Tree.{Tree}
 use Rattle.vector_rev.specs.Counts.{Uid}

@@ -1,5 +1,5 @@
 -- What an edit, a deletion, a resolution and a merge make, and why an edit, a deletion or a resolution is refused.
-use Rattle.std.specs.Prelude.{ℕ, max, Bool, true, false, not, ◌||◌, ◌==◌, nat_lt, List, [], ◌∷◌, filter, find, map, unwrap_or, if◌then◌else◌, Option, Some, None, Result, Ok, Err}
+use Rattle.std.specs.Prelude.{ℕ, max, Bool, true, not, ◌||◌, ◌==◌, nat_lt, List, [], ◌∷◌, filter, find, map, unwrap_or, if◌then◌else◌, Option, Some, None, Result, Err}
 use Rattle.std.specs.List.{list_any}
 use Rattle.std.specs.Option.{option_map, ok_or}
 use Rattle.content.specs.Tree.{Tree}
@@ -7,11 +7,10 @@ use Rattle.vector_rev.specs.Counts.{Uid, Counts, raised, join_all}
 use Rattle.vector_rev.specs.Clock.{Clock, count_of, counts, clock_of, dominates}
 use Rattle.vector_rev.specs.Compare.{same}
 use Rattle.conflicts.specs.Lists.{is_empty}
-use Rattle.conflicts.specs.Document.{Document, has_rev, in_order, is_conflicted, is_live}
+use Rattle.conflicts.specs.Document.{Document, in_order, is_conflicted, is_live}
 use Rattle.conflicts.specs.declared.member.Member.{Member}
 use Rattle.conflicts.specs.declared.accept.Accept.{Accept}
-use Rattle.conflicts.specs.declared.accept.Making.{Making}
-use Rattle.conflicts.specs.declared.accept.Making.TheVariants.{Edit, Resolve, Merge, Received}
+use Rattle.conflicts.specs.declared.accept.Making.TheVariants.{Edit, Resolve}
 use Rattle.conflicts.specs.declared.edits.EditFault.{EditFault}
 use Rattle.conflicts.specs.declared.edits.EditFault.TheVariants as edit_fault
 use Rattle.conflicts.specs.declared.resolutions.ResolveFault.{ResolveFault}

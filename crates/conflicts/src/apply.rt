@@ -129,13 +129,13 @@ fn push_uncovered(into: &mut Vec<Member>, member: Member, rev: &Clock) -> Result
     Ok(())
 }
 
-fn any_newer(members: &[Member], rev: &Clock) -> bool
+pub(crate) fn any_newer(members: &[Member], rev: &Clock) -> bool
     ensures { result ≡ list_any (λ m. dominates m.rev rev.now) members.now }
 {
     members.iter().any(|member| is_newer(&member.rev, rev))
 }
 
-fn is_newer(one: &Clock, other: &Clock) -> bool
+pub(crate) fn is_newer(one: &Clock, other: &Clock) -> bool
     ensures { result ≡ dominates one.now other.now }
 {
     one.covers(other) && !other.covers(one)

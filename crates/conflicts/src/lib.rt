@@ -21,6 +21,6 @@ pub use accept::{Accept, Making};
 pub use edits::{EditFault, delete, edit};
 pub use laws::{law_makings, law_members, law_state};
 pub use member::Member;
-pub use receipts::{Outcome4, Taken};
-pub use resolutions::ResolveFault;
+pub use receipts::{Outcome4, Taken, receive};
+pub use resolutions::{ResolveFault, resolve};
 pub use set::DocSet;

@@ -1,6 +1,19 @@
-//! Why a resolution of a conflict is refused.
-use u1_base::Memory;
-use vector_rev::Clock;
+//! What a resolution of a conflict makes.
+ghost use Rattle.std.specs.Prelude.{◌≡◌, ◌⊎◌, ◌≤◌, ◌++◌, ◌==◌, [], ◌∷◌, cond, Ok, Err, IfOk, OnOk, Some, find, length, option_copied, unwrap_or};
+ghost use Rattle.std.specs.List.{list_any};
+ghost use Rattle.std.specs.Option.{ok_or, option_map};
+ghost use Rattle.vector_rev.specs.Clock.{count_of, dominates};
+ghost use Rattle.vector_rev.specs.Compare.{same};
+ghost use Rattle.conflicts.specs.Kept.{current_first, document};
+ghost use Rattle.conflicts.specs.Making.{greatest, leader, named_in, resolution_of, resolved, resolved_over, revs};
+
+use crate::apply::is_newer;
+use crate::made::made_of;
+use crate::{Accept, DocSet, Making, Member};
+use content::Content;
+use std::alloc::Global;
+use u1_base::{Memory, ReplicaUid};
+use vector_rev::{Clock, Clocks};
 
 /// Why a resolution is refused. The causes are tested in this order.
 #[derive(Debug, PartialEq, Eq, Drop)]
@@ -27,4 +40,208 @@ impl From<Memory> for ResolveFault {
     fn from(_memory: Memory) -> ResolveFault {
         ResolveFault::Memory
     }
+}
+
+/// Makes a resolution: one revision of the named members, with the content or, where it is none, a deletion. Named
+/// revisions that are no members are ignored.
+pub fn resolve(
+    alloc: Global,
+    set: Option<&DocSet>,
+    named: &Clocks,
+    content: Option<&Content>,
+    own: &ReplicaUid,
+) -> Result<Accept, ResolveFault>
+    ensures { (result ≡ Err ResolveFault.Memory) ⊎ (result ≡ resolved (document (option_copied set.entry)) named.now (option_copied content.entry) own.now) }
+{
+    match set {
+        Some(set) => resolve_there(alloc, set, named, content, own),
+        None => Err(ResolveFault::NoDocument),
+    }
+}
+
+fn resolve_there(
+    alloc: Global,
+    set: &DocSet,
+    named: &Clocks,
+    content: Option<&Content>,
+    own: &ReplicaUid,
+) -> Result<Accept, ResolveFault>
+    ensures { (result ≡ Err ResolveFault.Memory) ⊎ (result ≡ resolved (document (Some set.now)) named.now (option_copied content.entry) own.now) }
+{
+    if set.length() <= 1 {
+        return Err(ResolveFault::NotConflicted);
+    }
+    resolve_over(alloc, set, named.as_slice(), content, own)
+}
+
+fn resolve_over(
+    alloc: Global,
+    set: &DocSet,
+    named: &[Clock],
+    content: Option<&Content>,
+    own: &ReplicaUid,
+) -> Result<Accept, ResolveFault>
+    ensures { (result ≡ Err ResolveFault.Memory) ⊎ (result ≡ resolved_over set.now.current.rev (current_first set.now) named.now (option_copied content.entry) own.now) }
+{
+    let parents = named_of(alloc, set, named)?;
+    if parents.as_slice().len() == 0 {
+        return Err(ResolveFault::NothingNamed);
+    }
+    let most = greatest_of(set, own);
+    if greatest_in(parents.as_slice(), own) < most {
+        return Err(unnamed(set, own, most));
+    }
+    resolution(set, parents, content, own)
+}
+
+// The named members' clocks, the current one first.
+fn named_of(alloc: Global, set: &DocSet, named: &[Clock]) -> Result<Vec<Clock>, Memory>
+    ensures { IfOk result (λ v. v.items ≡ revs (named_in named.now (current_first set.now))) }
+{
+    let mut parents = Vec::new(alloc);
+    push_named(&mut parents, set.first(), named)?;
+    push_named(&mut parents, set.earlier(), named)?;
+    push_named(&mut parents, set.later(), named)?;
+    Ok(parents)
+}
+
+// Adds the named members' clocks at the end. At an error some of them may have been added.
+fn push_named(into: &mut Vec<Clock>, members: &[Member], named: &[Clock]) -> Result<(), Memory>
+    ensures { OnOk result (into.new.items ≡ into.old.items ++ revs (named_in named.now members.now)) }
+{
+    for member in members {
+        push_if(into, &member.rev, stands_in(&member.rev, named))?;
+    }
+    Ok(())
+}
+
+fn push_if(into: &mut Vec<Clock>, rev: &Clock, wanted: bool) -> Result<(), Memory>
+    ensures { OnOk result (into.new.items ≡ into.old.items ++ cond wanted (rev.now ∷ []) []) }
+{
+    if !wanted {
+        return Ok(());
+    }
+    into.push(rev.copy()?)?;
+    Ok(())
+}
+
+fn stands_in(rev: &Clock, clocks: &[Clock]) -> bool
+    ensures { result ≡ list_any (λ c. same c rev.now) clocks.now }
+{
+    clocks.iter().any(|clock| *clock == *rev)
+}
+
+// The greatest own counter among the members.
+fn greatest_of(set: &DocSet, own: &ReplicaUid) -> u64
+    ensures { result ≡ greatest own.now (revs (current_first set.now)) }
+{
+    let first = greatest_among(set.first(), own);
+    let before = greatest_among(set.earlier(), own);
+    let after = greatest_among(set.later(), own);
+    first.max(before.max(after))
+}
+
+fn greatest_among(members: &[Member], own: &ReplicaUid) -> u64
+    ensures { result ≡ greatest own.now (revs members.now) }
+{
+    let mut most = 0;
+    for member in members {
+        most = member.rev.count(own).max(most);
+    }
+    most
+}
+
+fn greatest_in(clocks: &[Clock], own: &ReplicaUid) -> u64
+    ensures { result ≡ greatest own.now clocks.now }
+{
+    let mut most = 0;
+    for clock in clocks {
+        most = clock.count(own).max(most);
+    }
+    most
+}
+
+fn unnamed(set: &DocSet, own: &ReplicaUid, most: u64) -> ResolveFault
+    requires { most ≡ greatest own.now (revs (current_first set.now)) }
+    ensures { (result ≡ ResolveFault.Memory) ⊎ (result ≡ ResolveFault.Unnamed (leader own.now set.now.current.rev (current_first set.now))) }
+{
+    match leader(set, own, most).copy() {
+        Ok(rev) => ResolveFault::Unnamed(rev),
+        Err(Memory) => ResolveFault::Memory,
+    }
+}
+
+// The first member with that own counter, the current one standing first.
+fn leader<'a>(set: &'a DocSet, own: &ReplicaUid, most: u64) -> &'a Clock
+    requires { most ≡ greatest own.now (revs (current_first set.now)) }
+    ensures { result.now ≡ leader own.now set.now.current.rev (current_first set.now) }
+{
+    let current = set.current();
+    if current.rev.count(own) == most {
+        return &current.rev;
+    }
+    other_leader(set, own, most)
+}
+
+// The first other member with that own counter, or else the current one.
+fn other_leader<'a>(set: &'a DocSet, own: &ReplicaUid, most: u64) -> &'a Clock
+    ensures { result.now ≡ unwrap_or (option_map (λ m. m.rev) (find (λ m. count_of m.rev own.now == most) (set.now.before ++ set.now.after))) set.now.current.rev }
+{
+    match first_with(set.earlier(), own, most) {
+        Some(member) => &member.rev,
+        None => rev_or(first_with(set.later(), own, most), set.current()),
+    }
+}
+
+fn rev_or<'a>(member: Option<&'a Member>, other: &'a Member) -> &'a Clock
+    ensures { result.now ≡ unwrap_or (option_map (λ m. m.rev) (option_copied member.entry)) other.now.rev }
+{
+    match member {
+        Some(member) => &member.rev,
+        None => &other.rev,
+    }
+}
+
+fn first_with<'a>(members: &'a [Member], own: &ReplicaUid, most: u64) -> Option<&'a Member>
+    ensures { option_copied result ≡ find (λ m. count_of m.rev own.now == most) members.now }
+{
+    members.iter().find(|member| member.rev.count(own) == most)
+}
+
+fn resolution(
+    set: &DocSet,
+    parents: Vec<Clock>,
+    content: Option<&Content>,
+    own: &ReplicaUid,
+) -> Result<Accept, ResolveFault>
+    requires { 1 ≤ length parents.items }
+    ensures { (result ≡ Err ResolveFault.Memory) ⊎ (result ≡ ok_or (resolution_of own.now set.now.current.rev parents.items (option_copied content.entry)) ResolveFault.ClockFull) }
+{
+    let Some(rev) = made_of(parents.as_slice(), own)? else {
+        return Err(ResolveFault::ClockFull);
+    };
+    let current = &set.current().rev;
+    let leads = stands_in(current, parents.as_slice()) | is_newer(&rev, current);
+    resolution_with(rev, content, parents, leads)
+}
+
+fn resolution_with(
+    rev: Clock,
+    content: Option<&Content>,
+    parents: Vec<Clock>,
+    current: bool,
+) -> Result<Accept, ResolveFault>
+    ensures { (result ≡ Err ResolveFault.Memory) ⊎ (result ≡ Ok (record { rev = rev; content = option_copied content.entry; making = Making.Resolve; parents = parents.items; current = current })) }
+{
+    let content = match content {
+        Some(content) => Some(content.copy()?),
+        None => None,
+    };
+    Ok(Accept {
+        rev,
+        content,
+        making: Making::Resolve,
+        parents: Clocks::from_vec(parents),
+        current,
+    })
 }

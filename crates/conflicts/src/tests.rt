@@ -1,6 +1,11 @@
-//! The worked documents, each refusal, the limits, a table of made-up acceptances against the plain definition, and each
-//! call that allocates once.
-use crate::{Accept, DocSet, EditFault, Making, Member, delete, edit};
+//! The worked documents, told as stories; the limit of a resolution; made-up acceptances against the plain definition; and
+//! what is told and copied of a set.
+//!
+//! A line of a story is a call at a replica, its answer, and the members afterwards, the current one first. An empty line
+//! begins with another document.
+use crate::{
+    Accept, DocSet, EditFault, Making, Member, ResolveFault, Taken, delete, edit, receive, resolve,
+};
 use content::Content;
 use std::alloc::Global;
 use std::process::Abort;
@@ -8,12 +13,254 @@ use std::test::Fail;
 use u1_base::ReplicaUid;
 use vector_rev::{Clock, Clocks};
 
-fn uid(alloc: Global, text: &str) -> Result<ReplicaUid, Fail> {
-    Ok(ReplicaUid::read(alloc, text)?)
+// A document is edited, and a deleted one gets a content again.
+const EDITS: &str = r#"
+a edit a:1 {} => refused NoDocument => none
+a delete a:1 => refused NoDocument => none
+a edit - {"b":1,"a":"x"} => a:1 {"a":"x","b":1} Edit of current => a:1 {"a":"x","b":1};
+a delete a:2 => refused RevisionConflict a:1 => a:1 {"a":"x","b":1};
+a edit - {} => refused RevisionConflict a:1 => a:1 {"a":"x","b":1};
+a edit a:1 {} => a:2 {} Edit of a:1 current => a:2 {};
+a edit a:1 {} => refused RevisionConflict a:2 => a:2 {};
+b edit a:2 {} => a:2|b:1 {} Edit of a:2 current => a:2|b:1 {};
+
+a commit current a:1 {"a":"x","b":1} => fits => a:1 {"a":"x","b":1};
+a delete a:1 => a:2 - Edit of a:1 current => a:2 -;
+a delete a:2 => refused AlreadyDeleted => a:2 -;
+a delete a:1 => refused RevisionConflict a:2 => a:2 -;
+a edit a:1 {} => refused RevisionConflict a:2 => a:2 -;
+a edit - {} => a:3 {} Edit of a:2 current => a:3 {};
+a delete a:3 => a:4 - Edit of a:3 current => a:4 -;
+a edit a:4 {} => a:5 {} Edit of a:4 current => a:5 {};
+"#;
+
+// The greatest counter is reached and not passed.
+const FULL: &str = r#"
+a receive save a:9223372036854775807 {} => Inserted a:9223372036854775807 {} Received of current => a:9223372036854775807 {};
+a edit a:9223372036854775807 {} => refused ClockFull => a:9223372036854775807 {};
+a delete a:9223372036854775807 => refused ClockFull => a:9223372036854775807 {};
+
+a commit current a:9223372036854775806 {} => fits => a:9223372036854775806 {};
+a edit a:9223372036854775806 {} => a:9223372036854775807 {} Edit of a:9223372036854775806 current => a:9223372036854775807 {};
+
+a commit current a:9223372036854775807 {} => fits => a:9223372036854775807 {};
+a commit current b:1 {} => fits => b:1 {};a:9223372036854775807 {};
+a resolve a:9223372036854775807,b:1 {} => refused ClockFull => b:1 {};a:9223372036854775807 {};
+"#;
+
+// Two replicas create the document with contents that differ; one of them asked for the other's. Then the conflict is
+// resolved.
+const CONFLICT: &str = r#"
+b edit - {"v":"b"} => b:1 {"v":"b"} Edit of current => b:1 {"v":"b"};
+b receive sent a:1 {"v":"a"} => Conflicted => b:1 {"v":"b"};
+
+a edit - {"v":"a"} => a:1 {"v":"a"} Edit of current => a:1 {"v":"a"};
+a receive save b:1 {"v":"b"} => Conflicted b:1 {"v":"b"} Received of current => b:1 {"v":"b"};a:1 {"v":"a"};
+a edit b:1 {} => refused Conflicted => b:1 {"v":"b"};a:1 {"v":"a"};
+a delete b:1 => refused Conflicted => b:1 {"v":"b"};a:1 {"v":"a"};
+a resolve b:1 {} => refused Unnamed a:1 => b:1 {"v":"b"};a:1 {"v":"a"};
+a resolve c:7 {} => refused NothingNamed => b:1 {"v":"b"};a:1 {"v":"a"};
+a resolve a:1,b:1 {"v":"ab"} => a:2|b:1 {"v":"ab"} Resolve of b:1 a:1 current => a:2|b:1 {"v":"ab"};
+a resolve a:2|b:1 {} => refused NotConflicted => a:2|b:1 {"v":"ab"};
+
+a resolve a:1 {} => refused NoDocument => none
+"#;
+
+// Part of a conflict is resolved; strangers are ignored; of several members with the greatest own counter the first is
+// told; and clocks of a dishonest peer, of which two joined cover a third.
+const RESOLUTIONS: &str = r#"
+a commit current a:1 {"v":"a"} => fits => a:1 {"v":"a"};
+a commit current b:1 {"v":"b"} => fits => b:1 {"v":"b"};a:1 {"v":"a"};
+a resolve a:1,c:7 {"v":"x"} => a:2 {"v":"x"} Resolve of a:1 => b:1 {"v":"b"};a:2 {"v":"x"};
+a resolve b:1 {} => refused Unnamed a:2 => b:1 {"v":"b"};a:2 {"v":"x"};
+a resolve b:1,a:2 - => a:3|b:1 - Resolve of b:1 a:2 current => a:3|b:1 -;
+
+a commit current a:1|c:1 {} => fits => a:1|c:1 {};
+a commit current a:1|d:1 {} => fits => a:1|d:1 {};a:1|c:1 {};
+a commit current b:1 {} => fits => b:1 {};a:1|c:1 {};a:1|d:1 {};
+a resolve b:1 {} => refused Unnamed a:1|c:1 => b:1 {};a:1|c:1 {};a:1|d:1 {};
+a resolve a:1|d:1 {} => a:2|d:1 {} Resolve of a:1|d:1 => b:1 {};a:1|c:1 {};a:2|d:1 {};
+a commit current a:2|e:1 {} => fits => a:2|e:1 {};a:1|c:1 {};b:1 {};a:2|d:1 {};
+a resolve b:1 {} => refused Unnamed a:2|e:1 => a:2|e:1 {};a:1|c:1 {};b:1 {};a:2|d:1 {};
+
+a commit current c:2 {} => fits => c:2 {};
+a commit current d:2 {} => fits => d:2 {};c:2 {};
+a commit current c:1|d:1 {} => fits => c:1|d:1 {};c:2 {};d:2 {};
+a resolve c:2,d:2 {} => a:1|c:2|d:2 {} Resolve of c:2 d:2 current => a:1|c:2|d:2 {};
+"#;
+
+// A revision that is newer, older or equal, or that a member beside the current one covers.
+const RECEIPTS: &str = r#"
+b receive sent a:1 {} => Inserted a:1 {} Received of current => a:1 {};
+b receive save a:1 {} => Converged => a:1 {};
+b receive sent a:2 {} => Inserted a:2 {} Received of current => a:2 {};
+b receive save a:1 {} => Superseded => a:2 {};
+
+a commit current a:1 {"v":"a"} => fits => a:1 {"v":"a"};
+a commit current b:1 {"v":"b"} => fits => b:1 {"v":"b"};a:1 {"v":"a"};
+a receive sent a:1 {"v":"a"} => Conflicted => b:1 {"v":"b"};a:1 {"v":"a"};
+a receive save a:1 {"v":"a"} => Conflicted a:1 {"v":"a"} Received of current => a:1 {"v":"a"};b:1 {"v":"b"};
+a receive sent a:1|b:1 {"v":"x"} => Inserted a:1|b:1 {"v":"x"} Received of current => a:1|b:1 {"v":"x"};
+
+a commit current a:2 {"v":"a"} => fits => a:2 {"v":"a"};
+a commit current b:1 {"v":"b"} => fits => b:1 {"v":"b"};a:2 {"v":"a"};
+a receive save a:1 {"v":"a"} => Superseded => b:1 {"v":"b"};a:2 {"v":"a"};
+a receive sent a:1 {"v":"b"} => Superseded => b:1 {"v":"b"};a:2 {"v":"a"};
+"#;
+
+// Equal contents are merged; not where the merged clock is none.
+const MERGES: &str = r#"
+b edit - {"v":1} => b:1 {"v":1} Edit of current => b:1 {"v":1};
+b receive sent a:1 {"v":1} => Superseded a:1|b:2 {"v":1} Merge of a:1 b:1 current => a:1|b:2 {"v":1};
+
+a edit - {"v":1} => a:1 {"v":1} Edit of current => a:1 {"v":1};
+a receive save a:1|b:2 {"v":1} => Inserted a:1|b:2 {"v":1} Received of current => a:1|b:2 {"v":1};
+
+a commit current c:1 - => fits => c:1 -;
+a receive sent b:1 - => Superseded a:1|b:1|c:1 - Merge of b:1 c:1 current => a:1|b:1|c:1 -;
+
+b commit current b:9223372036854775807 {} => fits => b:9223372036854775807 {};
+b receive sent a:1 {} => Conflicted => b:9223372036854775807 {};
+b receive save a:1 {} => Conflicted a:1 {} Received of current => a:1 {};b:9223372036854775807 {};
+
+b commit current b:9223372036854775806 {} => fits => b:9223372036854775806 {};
+b receive sent a:1 {} => Superseded a:1|b:9223372036854775807 {} Merge of a:1 b:9223372036854775806 current => a:1|b:9223372036854775807 {};
+"#;
+
+// A merge beside a member of another content: current where it was asked for; none where that member's own counter is
+// greater.
+const PARTIAL_MERGES: &str = r#"
+a commit current b:1 {"v":"b"} => fits => b:1 {"v":"b"};
+a commit current c:1 {"v":"c"} => fits => c:1 {"v":"c"};b:1 {"v":"b"};
+a receive save e:1 {"v":"b"} => Superseded a:1|b:1|e:1 {"v":"b"} Merge of e:1 b:1 current => a:1|b:1|e:1 {"v":"b"};c:1 {"v":"c"};
+
+a commit current b:1 {"v":"b"} => fits => b:1 {"v":"b"};
+a commit current c:1 {"v":"c"} => fits => c:1 {"v":"c"};b:1 {"v":"b"};
+a receive sent e:1 {"v":"b"} => Superseded a:1|b:1|e:1 {"v":"b"} Merge of e:1 b:1 => c:1 {"v":"c"};a:1|b:1|e:1 {"v":"b"};
+
+a commit current a:1 {"v":"a"} => fits => a:1 {"v":"a"};
+a commit current b:1 {"v":"b"} => fits => b:1 {"v":"b"};a:1 {"v":"a"};
+a receive save c:1 {"v":"b"} => Conflicted c:1 {"v":"b"} Received of current => c:1 {"v":"b"};a:1 {"v":"a"};b:1 {"v":"b"};
+"#;
+
+// What fits, and the places of the members: a former current member goes back to its own.
+const PLACES: &str = r#"
+a commit beside a:1 {} => does not fit => none
+a commit current a:1 {"v":"a"} => fits => a:1 {"v":"a"};
+a commit current b:1 {"v":"b"} => fits => b:1 {"v":"b"};a:1 {"v":"a"};
+a commit beside b:2 {} => does not fit => b:1 {"v":"b"};a:1 {"v":"a"};
+a commit beside b:1 {} => does not fit => b:1 {"v":"b"};a:1 {"v":"a"};
+a commit current c:1 {"v":"c"} => fits => c:1 {"v":"c"};a:1 {"v":"a"};b:1 {"v":"b"};
+a commit beside d:1 {} => fits => c:1 {"v":"c"};a:1 {"v":"a"};b:1 {"v":"b"};d:1 {};
+a commit current a:2 {"v":"a"} => fits => a:2 {"v":"a"};b:1 {"v":"b"};c:1 {"v":"c"};d:1 {};
+a commit current a:1 {} => does not fit => a:2 {"v":"a"};b:1 {"v":"b"};c:1 {"v":"c"};d:1 {};
+a commit beside b:1 {"v":"x"} => fits => a:2 {"v":"a"};c:1 {"v":"c"};d:1 {};b:1 {"v":"x"};
+"#;
+
+#[test]
+fn edits_and_deletes(rt: HostRuntime) -> Result<(), Fail> {
+    story(&rt, rt.alloc(), EDITS)
 }
+
+#[test]
+fn full_clocks_are_not_raised(rt: HostRuntime) -> Result<(), Fail> {
+    story(&rt, rt.alloc(), FULL)
+}
+
+#[test]
+fn keeps_and_resolves_a_conflict(rt: HostRuntime) -> Result<(), Fail> {
+    story(&rt, rt.alloc(), CONFLICT)
+}
+
+#[test]
+fn resolves(rt: HostRuntime) -> Result<(), Fail> {
+    story(&rt, rt.alloc(), RESOLUTIONS)
+}
+
+#[test]
+fn receives(rt: HostRuntime) -> Result<(), Fail> {
+    story(&rt, rt.alloc(), RECEIPTS)
+}
+
+#[test]
+fn merges(rt: HostRuntime) -> Result<(), Fail> {
+    story(&rt, rt.alloc(), MERGES)
+}
+
+#[test]
+fn merges_beside_another_content(rt: HostRuntime) -> Result<(), Fail> {
+    story(&rt, rt.alloc(), PARTIAL_MERGES)
+}
+
+#[test]
+fn members_keep_their_places(rt: HostRuntime) -> Result<(), Fail> {
+    story(&rt, rt.alloc(), PLACES)
+}
+
+fn story(rt: &impl Abort, alloc: Global, lines: &str) -> Result<(), Fail> {
+    let mut set = None;
+    for line in lines.lines() {
+        set = after_line(rt, alloc, set, line)?;
+    }
+    Ok(())
+}
+
+// The set after a line, which has to be told as the line tells it.
+fn after_line(
+    rt: &impl Abort,
+    alloc: Global,
+    set: Option<DocSet>,
+    line: &str,
+) -> Result<Option<DocSet>, Fail> {
+    if line.is_empty() {
+        return Ok(None);
+    }
+    let (words, want) = line.split_once(" => ").ok_or("no answer")?;
+    let Answered { told, accepted } = answer_of(alloc, set.as_ref(), words)?;
+    let set = after(rt, alloc, set, &accepted)?;
+    let told = format!(in alloc;
+        "{} => {}",
+        told.as_str(),
+        set_told(alloc, set.as_ref())?.as_str()
+    )?;
+    assert_eq!(rt; told.as_str(), want, "{words:?}");
+    Ok(set)
+}
+
+fn after(
+    rt: &impl Abort,
+    alloc: Global,
+    set: Option<DocSet>,
+    accepted: &Option<Accept>,
+) -> Result<Option<DocSet>, Fail> {
+    let Some(accept) = accepted else {
+        return Ok(set);
+    };
+    assert!(rt; DocSet::fits(set.as_ref(), accept));
+    Ok(Some(DocSet::apply(alloc, set, accept)?))
+}
+
+// ---- values of words
 
 fn clock(alloc: Global, text: &str) -> Result<Clock, Fail> {
     Ok(Clock::read(alloc, text)?)
+}
+
+// The clock of a text; `-` is none.
+fn clock_or_none(alloc: Global, text: &str) -> Result<Option<Clock>, Fail> {
+    if text == "-" {
+        return Ok(None);
+    }
+    Ok(Some(clock(alloc, text)?))
+}
+
+// The clocks of a text, with commas between.
+fn clocks(alloc: Global, text: &str) -> Result<Clocks, Fail> {
+    let mut clocks = Clocks::new(alloc);
+    for text in text.split(',') {
+        clocks.push(clock(alloc, text)?)?;
+    }
+    Ok(clocks)
 }
 
 fn content(alloc: Global, text: &str) -> Result<Content, Fail> {
@@ -29,197 +276,254 @@ fn content_or_none(alloc: Global, text: &str) -> Result<Option<Content>, Fail> {
 }
 
 // The member `REV CONTENT`.
-fn member(alloc: Global, line: &str) -> Result<Member, Fail> {
-    let (rev, text) = line.split_once(' ').ok_or("no blank")?;
+fn member(alloc: Global, words: &str) -> Result<Member, Fail> {
+    let (rev, text) = words.split_once(' ').ok_or("no content")?;
     Ok(Member {
         rev: clock(alloc, rev)?,
         content: content_or_none(alloc, text)?,
     })
 }
 
-fn handed_over(alloc: Global, line: &str) -> Result<Accept, Fail> {
-    let Member { rev, content } = member(alloc, line)?;
+// The acceptance of `REV CONTENT` as another replica made it.
+fn handed_over(alloc: Global, words: &str, current: bool) -> Result<Accept, Fail> {
+    let Member { rev, content } = member(alloc, words)?;
     Ok(Accept {
         rev,
         content,
         making: Making::Received,
         parents: Clocks::new(alloc),
-        current: true,
+        current,
     })
 }
 
-// The set after an acceptance that fits.
-fn accepted(
-    rt: &impl Abort,
+// ---- the calls
+
+// What a call answers, and what it accepts.
+#[derive(Drop)]
+struct Answered {
+    told: String,
+    accepted: Option<Accept>,
+}
+
+// What `OWN CALL WORDS` answers.
+fn answer_of(alloc: Global, set: Option<&DocSet>, words: &str) -> Result<Answered, Fail> {
+    let (own, words) = words.split_once(' ').ok_or("no call")?;
+    let (call, words) = words.split_once(' ').ok_or("no words")?;
+    let own = ReplicaUid::read(alloc, own)?;
+    match call {
+        "edit" => edit_answered(alloc, set, words, &own),
+        "delete" => edit_told(alloc, delete(alloc, set, &clock(alloc, words)?, &own)),
+        "resolve" => resolve_answered(alloc, set, words, &own),
+        "receive" => receive_answered(alloc, set, words, &own),
+        "commit" => commit_answered(alloc, set, words),
+        _ => Err(Fail::new("no such call")),
+    }
+}
+
+// `REV CONTENT`
+fn edit_answered(
     alloc: Global,
-    set: Option<DocSet>,
-    accept: &Accept,
-) -> Result<DocSet, Fail> {
-    assert!(rt; DocSet::fits(set.as_ref(), accept));
-    Ok(DocSet::apply(alloc, set, accept)?)
+    set: Option<&DocSet>,
+    words: &str,
+    own: &ReplicaUid,
+) -> Result<Answered, Fail> {
+    let (rev, text) = words.split_once(' ').ok_or("no content")?;
+    let rev = clock_or_none(alloc, rev)?;
+    let content = content(alloc, text)?;
+    edit_told(alloc, edit(alloc, set, rev.as_ref(), &content, own))
 }
 
-// The set of the members `REV CONTENT`, one a line, the current one last.
-fn set(rt: &impl Abort, alloc: Global, lines: &str) -> Result<Option<DocSet>, Fail> {
-    let mut set = None;
-    for line in lines.lines() {
-        set = Some(accepted(rt, alloc, set, &handed_over(alloc, line)?)?);
+fn edit_told(alloc: Global, made: Result<Accept, EditFault>) -> Result<Answered, Fail> {
+    match made {
+        Ok(accept) => accept_answered(alloc, accept),
+        Err(EditFault::RevisionConflict(rev)) => refused(alloc, "RevisionConflict", &rev),
+        Err(fault) => nothing_accepted(format!(in alloc; "refused {fault:?}")?),
     }
-    Ok(set)
 }
 
-// The members as `REV CONTENT;`, the current one first.
-fn shown(alloc: Global, set: Option<&DocSet>) -> Result<String, Fail> {
-    let mut text = String::new(alloc);
-    let Some(set) = set else {
-        return Ok(text);
+// `REV,REV CONTENT`
+fn resolve_answered(
+    alloc: Global,
+    set: Option<&DocSet>,
+    words: &str,
+    own: &ReplicaUid,
+) -> Result<Answered, Fail> {
+    let (named, text) = words.split_once(' ').ok_or("no content")?;
+    let named = clocks(alloc, named)?;
+    let content = content_or_none(alloc, text)?;
+    resolve_told(alloc, resolve(alloc, set, &named, content.as_ref(), own))
+}
+
+fn resolve_told(alloc: Global, made: Result<Accept, ResolveFault>) -> Result<Answered, Fail> {
+    match made {
+        Ok(accept) => accept_answered(alloc, accept),
+        Err(ResolveFault::Unnamed(rev)) => refused(alloc, "Unnamed", &rev),
+        Err(fault) => nothing_accepted(format!(in alloc; "refused {fault:?}")?),
+    }
+}
+
+// `save REV CONTENT` or `sent REV CONTENT`
+fn receive_answered(
+    alloc: Global,
+    set: Option<&DocSet>,
+    words: &str,
+    own: &ReplicaUid,
+) -> Result<Answered, Fail> {
+    let (how, words) = words.split_once(' ').ok_or("no revision")?;
+    let incoming = member(alloc, words)?;
+    receive_told(alloc, receive(alloc, set, &incoming, how == "save", own)?)
+}
+
+fn receive_told(alloc: Global, taken: Taken) -> Result<Answered, Fail> {
+    let told = format!(in alloc; "{:?}", taken.outcome)?;
+    let Some(accept) = taken.accepted else {
+        return nothing_accepted(told);
     };
-    for place in 0..set.length() {
-        let member = set.member(place).ok_or("no member")?;
-        text.push_str(one_shown(alloc, &member.rev, &member.content)?.as_str())?;
-        text.push(';')?;
-    }
-    Ok(text)
+    let Answered {
+        told: more,
+        accepted,
+    } = accept_answered(alloc, accept)?;
+    Ok(Answered {
+        told: format!(in alloc; "{} {}", told.as_str(), more.as_str())?,
+        accepted,
+    })
 }
 
-fn one_shown(alloc: Global, rev: &Clock, content: &Option<Content>) -> Result<String, Fail> {
-    let mut text = String::new(alloc);
-    text.push_str(rev.text()?.as_str())?;
-    text.push(' ')?;
-    match content {
-        Some(content) => text.push_str(
-            std::str::from_utf8(content.text()?.as_slice())
-                .ok()
-                .ok_or("bytes")?,
-        )?,
-        None => text.push('-')?,
+// `current REV CONTENT` or `beside REV CONTENT`: an acceptance that no call makes.
+fn commit_answered(alloc: Global, set: Option<&DocSet>, words: &str) -> Result<Answered, Fail> {
+    let (how, words) = words.split_once(' ').ok_or("no revision")?;
+    let accept = handed_over(alloc, words, how == "current")?;
+    if !DocSet::fits(set, &accept) {
+        return nothing_accepted("does not fit".to_string(alloc)?);
     }
-    Ok(text)
+    Ok(Answered {
+        told: "fits".to_string(alloc)?,
+        accepted: Some(accept),
+    })
+}
+
+fn accept_answered(alloc: Global, accept: Accept) -> Result<Answered, Fail> {
+    Ok(Answered {
+        told: accept_told(alloc, &accept)?,
+        accepted: Some(accept),
+    })
+}
+
+fn nothing_accepted(told: String) -> Result<Answered, Fail> {
+    Ok(Answered {
+        told,
+        accepted: None,
+    })
+}
+
+fn refused(alloc: Global, fault: &str, rev: &Clock) -> Result<Answered, Fail> {
+    nothing_accepted(format!(in alloc; "refused {fault} {}", rev.text()?.as_str())?)
+}
+
+// ---- how it is told
+
+// Adds `REV CONTENT`; no content is `-`.
+fn push_revision(into: &mut String, rev: &Clock, content: &Option<Content>) -> Result<(), Fail> {
+    into.push_str(rev.text()?.as_str())?;
+    into.push(' ')?;
+    match content {
+        Some(content) => push_content(into, content),
+        None => Ok(into.push('-')?),
+    }
+}
+
+fn push_content(into: &mut String, content: &Content) -> Result<(), Fail> {
+    let bytes = content.text()?;
+    let text = std::str::from_utf8(bytes.as_slice()).ok().ok_or("no text")?;
+    into.push_str(text)?;
+    Ok(())
 }
 
 // An acceptance as `REV CONTENT MAKING of PARENTS`, with `current` at its end where it is marked so.
-fn told(alloc: Global, accept: &Accept) -> Result<String, Fail> {
-    let mut text = one_shown(alloc, &accept.rev, &accept.content)?;
-    text.push_str(format!(in alloc; " {:?} of", accept.making)?.as_str())?;
-    for parent in accept.parents.as_slice() {
-        text.push(' ')?;
-        text.push_str(parent.text()?.as_str())?;
-    }
+fn accept_told(alloc: Global, accept: &Accept) -> Result<String, Fail> {
+    let mut told = String::new(alloc);
+    push_revision(&mut told, &accept.rev, &accept.content)?;
+    told.push_str(format!(in alloc; " {:?} of", accept.making)?.as_str())?;
+    push_clocks(&mut told, accept.parents.as_slice())?;
     if accept.current {
-        text.push_str(" current")?;
+        told.push_str(" current")?;
+    }
+    Ok(told)
+}
+
+fn push_clocks(into: &mut String, clocks: &[Clock]) -> Result<(), Fail> {
+    for clock in clocks {
+        into.push(' ')?;
+        into.push_str(clock.text()?.as_str())?;
+    }
+    Ok(())
+}
+
+// The members as `REV CONTENT;`, the current one first.
+fn set_told(alloc: Global, set: Option<&DocSet>) -> Result<String, Fail> {
+    let Some(set) = set else {
+        return Ok("none".to_string(alloc)?);
+    };
+    let mut told = String::new(alloc);
+    for place in 0..set.length() {
+        push_member(&mut told, set.member(place).ok_or("no member")?)?;
+    }
+    Ok(told)
+}
+
+fn push_member(into: &mut String, member: &Member) -> Result<(), Fail> {
+    push_revision(into, &member.rev, &member.content)?;
+    into.push(';')?;
+    Ok(())
+}
+
+// ---- the limit of a resolution
+
+// The text of entries `PREFIXnn:1`, so many.
+fn many(alloc: Global, prefix: &str, count: u32) -> Result<String, Fail> {
+    let mut text = String::new(alloc);
+    for n in 0..count {
+        if n > 0 {
+            text.push('|')?;
+        }
+        text.push_str(format!(in alloc; "{prefix}{n:02}:1")?.as_str())?;
     }
     Ok(text)
 }
 
-const TWO: &str = "a:1 {\"v\":\"a\"}\nb:1 {\"v\":\"b\"}";
-
-// ---- edits and deletions
+// A story of two members that are resolved at `z`: 32 uids, and others.
+fn joins(alloc: Global, right: &str, answer: &str) -> Result<String, Fail> {
+    let left = many(alloc, "u", 32)?;
+    let left = left.as_str();
+    Ok(format!(in alloc;
+        "z commit current {left} {{}} => fits => {left} {{}};\n\
+         z commit current {right} {{}} => fits => {right} {{}};{left} {{}};\n\
+         z resolve {left},{right} {{}} => {answer}"
+    )?)
+}
 
 #[test]
-fn edits_and_deletes(rt: HostRuntime) -> Result<(), Fail> {
+fn resolves_up_to_64_uids(rt: HostRuntime) -> Result<(), Fail> {
     let alloc = rt.alloc();
-    let own = uid(alloc, "a")?;
-    let empty = content(alloc, "{}")?;
-    let first = edit(
-        alloc,
-        None,
-        None,
-        &content(alloc, "{\"b\":1,\"a\":\"x\"}")?,
-        &own,
+    let left = many(alloc, "u", 32)?;
+    let right = many(alloc, "v", 31)?;
+    let (left, right) = (left.as_str(), right.as_str());
+    let answer = format!(in alloc;
+        "{left}|{right}|z:1 {{}} Resolve of {right} {left} current => {left}|{right}|z:1 {{}};"
     )?;
-    assert_eq!(rt;
-        told(alloc, &first)?.as_str(),
-        "a:1 {\"a\":\"x\",\"b\":1} Edit of current"
-    );
-    let one = clock(alloc, "a:1")?;
-    let set = accepted(&rt, alloc, None, &first)?;
-    let second = edit(alloc, Some(&set), Some(&one), &empty, &own)?;
-    assert_eq!(rt;
-        told(alloc, &second)?.as_str(),
-        "a:2 {} Edit of a:1 current"
-    );
-    let deletion = delete(alloc, Some(&set), &one, &own)?;
-    assert_eq!(rt;
-        told(alloc, &deletion)?.as_str(),
-        "a:2 - Edit of a:1 current"
-    );
-    let deleted = accepted(&rt, alloc, Some(set), &deletion)?;
-    assert_eq!(rt; shown(alloc, Some(&deleted))?.as_str(), "a:2 -;");
-    let two = clock(alloc, "a:2")?;
-    let twice = delete(alloc, Some(&deleted), &two, &own).err();
-    assert_eq!(rt; twice, Some(EditFault::AlreadyDeleted));
-    let again = edit(alloc, Some(&deleted), None, &empty, &own)?;
-    assert_eq!(rt; told(alloc, &again)?.as_str(), "a:3 {} Edit of a:2 current");
-    Ok(())
+    story(&rt, alloc, joins(alloc, right, answer.as_str())?.as_str())
 }
 
 #[test]
-fn refuses_edits(rt: HostRuntime) -> Result<(), Fail> {
+fn resolves_no_more_than_64_uids(rt: HostRuntime) -> Result<(), Fail> {
     let alloc = rt.alloc();
-    let own = uid(alloc, "a")?;
-    let empty = content(alloc, "{}")?;
-    let (one, two) = (clock(alloc, "a:1")?, clock(alloc, "a:2")?);
-    let none = edit(alloc, None, Some(&one), &empty, &own).err();
-    assert_eq!(rt; none, Some(EditFault::NoDocument));
-    assert_eq!(rt;
-        delete(alloc, None, &one, &own).err(),
-        Some(EditFault::NoDocument)
-    );
-    let set = set(&rt, alloc, "a:2 {}")?;
-    let other = edit(alloc, set.as_ref(), Some(&one), &empty, &own).err();
-    assert_eq!(rt;
-        other,
-        Some(EditFault::RevisionConflict(clock(alloc, "a:2")?))
-    );
-    let missing = edit(alloc, set.as_ref(), None, &empty, &own).err();
-    assert_eq!(rt;
-        missing,
-        Some(EditFault::RevisionConflict(clock(alloc, "a:2")?))
-    );
-    let other = delete(alloc, set.as_ref(), &one, &own).err();
-    assert_eq!(rt; other, Some(EditFault::RevisionConflict(two)));
-    Ok(())
-}
-
-#[test]
-fn refuses_edits_of_a_conflict(rt: HostRuntime) -> Result<(), Fail> {
-    let alloc = rt.alloc();
-    let own = uid(alloc, "a")?;
-    let set = set(&rt, alloc, TWO)?;
-    let named = clock(alloc, "b:1")?;
-    let edited = edit(
-        alloc,
-        set.as_ref(),
-        Some(&named),
-        &content(alloc, "{}")?,
-        &own,
-    )
-    .err();
-    assert_eq!(rt; edited, Some(EditFault::Conflicted));
-    assert_eq!(rt;
-        delete(alloc, set.as_ref(), &named, &own).err(),
-        Some(EditFault::Conflicted)
-    );
-    Ok(())
-}
-
-#[test]
-fn full_clocks_are_not_edited(rt: HostRuntime) -> Result<(), Fail> {
-    let alloc = rt.alloc();
-    let own = uid(alloc, "a")?;
-    let empty = content(alloc, "{}")?;
-    let full = set(&rt, alloc, "a:9223372036854775807 {}")?;
-    let rev = clock(alloc, "a:9223372036854775807")?;
-    let edited = edit(alloc, full.as_ref(), Some(&rev), &empty, &own).err();
-    assert_eq!(rt; edited, Some(EditFault::ClockFull));
-    assert_eq!(rt;
-        delete(alloc, full.as_ref(), &rev, &own).err(),
-        Some(EditFault::ClockFull)
-    );
-    let almost = set(&rt, alloc, "a:9223372036854775806 {}")?;
-    let rev = clock(alloc, "a:9223372036854775806")?;
-    let last = edit(alloc, almost.as_ref(), Some(&rev), &empty, &own)?;
-    assert_eq!(rt; last.rev.text()?.as_str(), "a:9223372036854775807");
+    for count in [32, 33] {
+        let left = many(alloc, "u", 32)?;
+        let right = many(alloc, "v", count)?;
+        let (left, right) = (left.as_str(), right.as_str());
+        let answer = format!(in alloc; "refused ClockFull => {right} {{}};{left} {{}};")?;
+        story(&rt, alloc, joins(alloc, right, answer.as_str())?.as_str())?;
+    }
     Ok(())
 }
 
@@ -236,24 +540,40 @@ fn is_left(history: &[Accept], place: usize, rev: &Clock) -> bool {
     true
 }
 
-// The members of the history as `REV CONTENT;`, that of the revision first.
-fn members_told(alloc: Global, history: &[Accept], current: &Clock) -> Result<String, Fail> {
-    let mut first = String::new(alloc);
-    let mut rest = String::new(alloc);
+// The last revision that was marked current.
+fn last_marked(history: &[Accept]) -> Option<&Clock> {
+    let mut last = None;
+    for accept in history {
+        if accept.current {
+            last = Some(&accept.rev);
+        }
+    }
+    last
+}
+
+// The members of the history, the current one first.
+fn history_told(alloc: Global, history: &[Accept]) -> Result<String, Fail> {
+    let current = last_marked(history).ok_or("none marked")?;
+    let mut told = String::new(alloc);
+    push_left(&mut told, history, current, true)?;
+    push_left(&mut told, history, current, false)?;
+    Ok(told)
+}
+
+// Adds the members of the history that are the current one, or those that are not.
+fn push_left(
+    into: &mut String,
+    history: &[Accept],
+    current: &Clock,
+    is_current: bool,
+) -> Result<(), Fail> {
     for (place, accept) in history.iter().enumerate() {
-        if is_left(history, place, &accept.rev) {
-            let text = one_shown(alloc, &accept.rev, &accept.content)?;
-            let into = if accept.rev == *current {
-                &mut first
-            } else {
-                &mut rest
-            };
-            into.push_str(text.as_str())?;
+        if (accept.rev == *current) == is_current && is_left(history, place, &accept.rev) {
+            push_revision(into, &accept.rev, &accept.content)?;
             into.push(';')?;
         }
     }
-    first.push_str(rest.as_str())?;
-    Ok(first)
+    Ok(())
 }
 
 // A number made from another one, by the constants of Knuth's MMIX generator.
@@ -263,116 +583,127 @@ fn next_number(number: u64) -> u64 {
         .wrapping_add(1_442_695_040_888_963_407)
 }
 
-// An acceptance made up from a number: counters up to 3 of three replicas, four contents, marked current three times in
-// four.
+const MADE_UP: [&str; 26] = [
+    "a:1",
+    "a:2",
+    "b:1",
+    "b:2",
+    "c:1",
+    "c:2",
+    "a:1|b:1",
+    "a:1|b:2",
+    "a:2|b:1",
+    "a:2|b:2",
+    "a:1|c:1",
+    "a:1|c:2",
+    "a:2|c:1",
+    "a:2|c:2",
+    "b:1|c:1",
+    "b:1|c:2",
+    "b:2|c:1",
+    "b:2|c:2",
+    "a:1|b:1|c:1",
+    "a:1|b:1|c:2",
+    "a:1|b:2|c:1",
+    "a:1|b:2|c:2",
+    "a:2|b:1|c:1",
+    "a:2|b:1|c:2",
+    "a:2|b:2|c:1",
+    "a:2|b:2|c:2",
+];
+
+// An acceptance made up from a number: one of these clocks, one of four contents, marked current three times in four.
 fn made_up(alloc: Global, number: u64) -> Result<Accept, Fail> {
-    let mut text = String::new(alloc);
-    for (name, shift) in [("a", 20), ("b", 28), ("c", 36)] {
-        let counter = (number >> shift) % 4;
-        if counter > 0 {
-            if !text.is_empty() {
-                text.push('|')?;
-            }
-            text.push_str(format!(in alloc; "{name}:{counter}")?.as_str())?;
-        }
+    let rev = MADE_UP[((number >> 33) % 26) as usize];
+    let words = format!(in alloc; "{rev} {{\"v\":{}}}", (number >> 44) % 4)?;
+    handed_over(alloc, words.as_str(), (number >> 52) % 4 > 0)
+}
+
+// The set after a made-up acceptance, if that fits: its members are those of the whole history.
+fn after_one_more(
+    rt: &impl Abort,
+    alloc: Global,
+    set: Option<DocSet>,
+    history: &mut Vec<Accept>,
+    accept: Accept,
+) -> Result<Option<DocSet>, Fail> {
+    if !DocSet::fits(set.as_ref(), &accept) {
+        return Ok(set);
     }
-    if text.is_empty() {
-        text.push_str("d:1")?;
+    let set = Some(DocSet::apply(alloc, set, &accept)?);
+    history.push(accept)?;
+    let want = history_told(alloc, history.as_slice())?;
+    assert_eq!(rt; set_told(alloc, set.as_ref())?.as_str(), want.as_str());
+    Ok(set)
+}
+
+// The number after those of one history. It answers how many acceptances fitted.
+fn one_history(rt: &impl Abort, alloc: Global, number: u64) -> Result<usize, Fail> {
+    let mut number = number;
+    let mut history = Vec::new(alloc);
+    let mut set = None;
+    for _ in 0..12 {
+        number = next_number(number);
+        let accept = made_up(alloc, number)?;
+        set = after_one_more(rt, alloc, set, &mut history, accept)?;
     }
-    let line = format!(in alloc; "{} {{\"v\":{}}}", text.as_str(), (number >> 44) % 4)?;
-    let mut accept = handed_over(alloc, line.as_str())?;
-    accept.current = (number >> 52) % 4 > 0;
-    Ok(accept)
+    Ok(history.len())
 }
 
 #[test]
 fn agrees_with_the_definition(rt: HostRuntime) -> Result<(), Fail> {
-    let alloc = rt.alloc();
-    let mut number = 1;
-    for _ in 0..40 {
-        let mut history = Vec::new(alloc);
-        let mut set = None;
-        let mut current = clock(alloc, "d:1")?;
-        for _ in 0..12 {
-            number = next_number(number);
-            let accept = made_up(alloc, number)?;
-            if DocSet::fits(set.as_ref(), &accept) {
-                if accept.current {
-                    current = accept.rev.copy()?;
-                }
-                set = Some(accepted(&rt, alloc, set, &accept)?);
-                history.push(accept)?;
-                let want = members_told(alloc, history.as_slice(), &current)?;
-                assert_eq!(rt; shown(alloc, set.as_ref())?.as_str(), want.as_str());
-            }
-        }
+    let mut most = 0;
+    for seed in 0..40 {
+        most = one_history(&rt, rt.alloc(), seed)?.max(most);
     }
+    assert!(rt; most >= 6, "{most} at most fitted");
     Ok(())
 }
 
-// ---- the set
+// ---- what is told and copied of a set
+
+// The set of the members, one a line, the current one last.
+fn set_of(rt: &impl Abort, alloc: Global, lines: &str) -> Result<Option<DocSet>, Fail> {
+    let mut set = None;
+    for line in lines.lines() {
+        set = after(rt, alloc, set, &Some(handed_over(alloc, line, true)?))?;
+    }
+    Ok(set)
+}
+
+const THREE: &str = "a:1 {\"v\":1}\nb:2 {\"v\":2}\nc:1 {\"v\":3}";
 
 #[test]
 fn tells_members(rt: HostRuntime) -> Result<(), Fail> {
     let alloc = rt.alloc();
-    let lines = "a:1 {\"v\":1}\nb:1 {\"v\":2}\nc:1 {\"v\":3}";
-    let set = set(&rt, alloc, lines)?.ok_or("no set")?;
+    let set = set_of(&rt, alloc, THREE)?.ok_or("no set")?;
     assert_eq!(rt; set.length(), 3);
-    assert_eq!(rt; set.current().rev.text()?.as_str(), "c:1");
     assert!(rt; set.member(3).is_none());
     assert!(rt; set.member(18_446_744_073_709_551_615).is_none());
-    let second = set.member(1).ok_or("no member")?.copy()?;
-    assert_eq!(rt; second.rev.text()?.as_str(), "a:1");
+    assert!(rt; set.current().rev == clock(alloc, "c:1")?);
+    assert!(rt; set.has_newer(&clock(alloc, "b:1")?));
+    assert!(rt; !set.has_newer(&clock(alloc, "b:2")?));
+    Ok(())
+}
+
+#[test]
+fn copies_sets(rt: HostRuntime) -> Result<(), Fail> {
+    let alloc = rt.alloc();
+    let set = set_of(&rt, alloc, THREE)?.ok_or("no set")?;
     let copy = set.copy()?;
     assert_eq!(rt;
-        shown(alloc, Some(&copy))?.as_str(),
-        "c:1 {\"v\":3};a:1 {\"v\":1};b:1 {\"v\":2};"
-    );
-    let mut beside = handed_over(alloc, "d:1 {}")?;
-    beside.current = false;
-    let after = accepted(&rt, alloc, Some(copy), &beside)?;
-    assert_eq!(rt;
-        shown(alloc, Some(&after))?.as_str(),
-        "c:1 {\"v\":3};a:1 {\"v\":1};b:1 {\"v\":2};d:1 {};"
+        set_told(alloc, Some(&copy))?.as_str(),
+        "c:1 {\"v\":3};a:1 {\"v\":1};b:2 {\"v\":2};"
     );
     Ok(())
 }
 
 #[test]
-fn a_former_current_member_goes_back_to_its_place(rt: HostRuntime) -> Result<(), Fail> {
+fn copies_members(rt: HostRuntime) -> Result<(), Fail> {
     let alloc = rt.alloc();
-    let lines = "a:1 {\"v\":\"a\"}\nb:1 {\"v\":\"b\"}\nc:1 {\"v\":\"c\"}\na:2 {\"v\":\"a\"}";
-    let set = set(&rt, alloc, lines)?;
-    let want = "a:2 {\"v\":\"a\"};b:1 {\"v\":\"b\"};c:1 {\"v\":\"c\"};";
-    assert_eq!(rt; shown(alloc, set.as_ref())?.as_str(), want);
-    Ok(())
-}
-
-#[test]
-fn tells_what_fits(rt: HostRuntime) -> Result<(), Fail> {
-    let alloc = rt.alloc();
-    let set = set(&rt, alloc, TWO)?;
-    for (line, marked, want) in [
-        ("a:2 {}", true, true),
-        ("a:2 {}", false, true),
-        ("b:2 {}", true, true),
-        ("b:2 {}", false, false),
-        ("b:1 {}", false, false),
-        ("a:1 {}", false, true),
-    ] {
-        let mut accept = handed_over(alloc, line)?;
-        accept.current = marked;
-        assert_eq!(rt;
-            DocSet::fits(set.as_ref(), &accept),
-            want,
-            "{line:?} {marked}"
-        );
-    }
-    let mut first = handed_over(alloc, "a:1 {}")?;
-    assert!(rt; DocSet::fits(None, &first));
-    first.current = false;
-    assert!(rt; !DocSet::fits(None, &first));
-    let above = self::set(&rt, alloc, "a:2 {}")?;
-    assert!(rt; !DocSet::fits(above.as_ref(), &handed_over(alloc, "a:1 {}")?));
+    let copy = member(alloc, "a:1|b:2 {\"v\":1}")?.copy()?;
+    let mut told = String::new(alloc);
+    push_member(&mut told, &copy)?;
+    assert_eq!(rt; told.as_str(), "a:1|b:2 {\"v\":1};");
     Ok(())
 }

@@ -1,6 +1,6 @@
 mod Converted
 mod Refused
-mod SameTrees
+pub mod SameTrees
 mod Ordered
 mod Texts
 mod ReadBack

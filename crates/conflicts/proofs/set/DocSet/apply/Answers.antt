@@ -1,5 +1,5 @@
 -- Each way of accepting leaves the document after the acceptance.
-use Rattle.conflicts.proofs.Applied.{first_document, led_result, joined_result, stays_from, none_newer_from}
+use Rattle.conflicts.proofs.Applied.{first_document, led_result, joined_result}
 use Rattle.conflicts.proofs.set.DocSet.apply.Goals as goal
 
 pub returns-in-None : goal.returns-in-None
