@@ -1,5 +1,5 @@
 -- A chunk that may have become empty, and is given back then.
-use Rattle.std.proofs.Common.{◌≡◌, ℕ, ◌+◌, ◌-◌, ◌^◌, ◌<◌, ◌≤◌, List, [], ◌∷◌, length, get_or, set, suc, refl, sym, subst, ◌∙◌, ap, arith, add-one, inl, inr}
+use Rattle.std.proofs.Common.{◌≡◌, Bool, ℕ, ◌+◌, ◌-◌, ◌^◌, ◌<◌, ◌≤◌, List, [], ◌∷◌, length, get_or, set, suc, refl, sym, subst, ◌∙◌, ap, arith, add-one, inl, inr}
 use Rattle.std.proofs.lemmas.Bool.{cases_lt, cases_eq}
 use Rattle.std.proofs.lemmas.List.{length-set, nil_from_length}
 use Rattle.std.proofs.lemmas.List.Edits.{length-remove, get_or-remove_below, get_or-remove_above}
@@ -70,14 +70,14 @@ module _ {T : Type 0} (chunks : List (Vec T)) (starts : List ℕ) (len room made
     ];
   }
 
-  pub given_back_sound : (new : List (Vec T)) (new_starts : List ℕ) → Vec T → IsGivenBack chunks starts i new new_starts → IsSound new new_starts len room made
-  given_back_sound new new_starts d (inl gone) =
+  pub given_back_sound : (new : List (Vec T)) (new_starts : List ℕ) → Vec T → (g : Bool) → IsGivenBack chunks starts i new new_starts g → IsSound new new_starts len room made
+  given_back_sound new new_starts d g (inl gone) =
       subst (λ (l : List (Vec T)). IsSound l new_starts len room made) (sym gone.2)
       (subst (λ (l : List ℕ). IsSound (remove chunks i) l len room made) (sym gone.3) (gone_sound gone.0 gone.1 d))
-  given_back_sound new new_starts d (inr stays) =
+  given_back_sound new new_starts d g (inr stays) =
       subst (λ (l : List (Vec T)). IsSound l new_starts len room made) (sym stays.1)
       (subst (λ (l : List ℕ). IsSound chunks l len room made) (sym stays.2) (kept_sound stays.0))
 
-  pub given_back_joined : (new : List (Vec T)) (new_starts : List ℕ) → Vec T → IsGivenBack chunks starts i new new_starts → joined new ≡ joined chunks
-  given_back_joined new new_starts d (inl gone) = ap joined gone.2 ∙ gone_joined gone.0 gone.1 d
-  given_back_joined new new_starts d (inr stays) = ap joined stays.1
+  pub given_back_joined : (new : List (Vec T)) (new_starts : List ℕ) → Vec T → (g : Bool) → IsGivenBack chunks starts i new new_starts g → joined new ≡ joined chunks
+  given_back_joined new new_starts d g (inl gone) = ap joined gone.2 ∙ gone_joined gone.0 gone.1 d
+  given_back_joined new new_starts d g (inr stays) = ap joined stays.1

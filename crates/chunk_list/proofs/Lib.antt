@@ -8,3 +8,4 @@ pub mod Pieces
 pub mod Places
 pub mod Room
 pub mod Sorted
+pub mod Tended

@@ -1,5 +1,5 @@
 -- The chunks behind the list, and what an edit does to one of them.
-use Rattle.std.specs.Prelude.{◌≡◌, ℕ, ◌+◌, ◌^◌, ◌<◌, ◌≤◌, ◌⊎◌, List, [], ◌∷◌, length, zero, suc, slice_index, slice_index_or, vec_len, vec_capacity, take, drop, slice_set}
+use Rattle.std.specs.Prelude.{◌≡◌, ℕ, ◌+◌, ◌^◌, ◌<◌, ◌≤◌, ◌⊎◌, Bool, true, false, List, [], ◌∷◌, length, zero, suc, slice_index, slice_index_or, vec_len, vec_capacity, take, drop, slice_set}
 use Rattle.std.specs.List.{flat_map, insert, remove}
 use Rattle.std.specs.Global.{Vec}
 use Rattle.std.specs.Vec.{vec_items}
@@ -114,7 +114,7 @@ module _ {T : Type 0} where
     pub start : starts ≡ 0 ∷ []
 
   -- the chunk at `at` was empty and not the only one, and is gone; or it is there still
-  abbrev pub IsGivenBack : List (Vec T) → List ℕ → ℕ → List (Vec T) → List ℕ → Type 0
-  IsGivenBack chunks starts at new new_starts =
-      ((1 < length chunks) × ((d : Vec T) → vec_len (slice_index_or chunks at d) ≡ 0) × (new ≡ remove chunks at) × (new_starts ≡ remove starts at))
-      ⊎ ((1 < length chunks → (d : Vec T) → 0 < vec_len (slice_index_or chunks at d)) × (new ≡ chunks) × (new_starts ≡ starts))
+  abbrev pub IsGivenBack : List (Vec T) → List ℕ → ℕ → List (Vec T) → List ℕ → Bool → Type 0
+  IsGivenBack chunks starts at new new_starts gone =
+      ((1 < length chunks) × ((d : Vec T) → vec_len (slice_index_or chunks at d) ≡ 0) × (new ≡ remove chunks at) × (new_starts ≡ remove starts at) × (gone ≡ true))
+      ⊎ ((1 < length chunks → (d : Vec T) → 0 < vec_len (slice_index_or chunks at d)) × (new ≡ chunks) × (new_starts ≡ starts) × (gone ≡ false))

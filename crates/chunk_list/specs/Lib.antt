@@ -2,3 +2,4 @@ pub mod Chunks
 pub mod Halves
 pub mod Kept
 pub mod Sorted
+pub mod Tended

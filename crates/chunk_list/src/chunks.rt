@@ -43,16 +43,22 @@ pub(crate) fn take_out<T>(chunks: &mut Vec<Vec<T>>, at: usize, place: usize) -> 
     chunk.remove(place)
 }
 
-// Gives the memory of the chunk at `at` back, where it is empty and not the only one.
-pub(crate) fn give_back<T: Drop>(chunks: &mut Vec<Vec<T>>, starts: &mut Vec<usize>, at: usize)
+// Gives the memory of the chunk at `at` back, where it is empty and not the only one. Whether it did.
+pub(crate) fn give_back<T: Drop>(
+    chunks: &mut Vec<Vec<T>>,
+    starts: &mut Vec<usize>,
+    at: usize,
+) -> bool
     requires within { at < length chunks.old.items }
     requires as_many { length starts.old.items ≡ length chunks.old.items }
-    ensures { IsGivenBack chunks.old.items starts.old.items at chunks.new.items starts.new.items }
+    ensures { IsGivenBack chunks.old.items starts.old.items at chunks.new.items starts.new.items result }
 {
-    if chunks.len() > 1 && chunks[at].len() == 0 {
+    let gone = chunks.len() > 1 && chunks[at].len() == 0;
+    if gone {
         starts.remove(at);
         chunks.remove(at);
     }
+    gone
 }
 
 // The first chunk, which is empty.

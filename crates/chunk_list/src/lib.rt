@@ -9,5 +9,6 @@ mod search;
 mod starts;
 #[cfg(test)]
 mod tests;
+mod touched;
 
 pub use list::ChunkList;

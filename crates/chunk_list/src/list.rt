@@ -1,5 +1,5 @@
 //! The list, and what a caller may do with it.
-ghost use Rattle.std.specs.Prelude.{◌≡◌, ◌+◌, ◌*◌, ◌-◌, ◌^◌, ◌<◌, ◌≤◌, ℕ, [], max, true, false, length, slice_get, slice_index_or, slice_set, IsTrue, ◌↔◌, OnOk};
+ghost use Rattle.std.specs.Prelude.{◌≡◌, ◌+◌, ◌*◌, ◌-◌, ◌^◌, ◌<◌, ◌≤◌, ℕ, [], max, true, false, length, slice_get, slice_index_or, slice_set, IsTrue, ◌↔◌, IfOk, OnOk};
 ghost use Rattle.std.specs.Fn.{FnReturnsAt};
 ghost use Rattle.std.specs.Option.{option_copied};
 ghost use Rattle.std.specs.List.{HoldsAt, insert, remove};
@@ -8,6 +8,7 @@ ghost use Rattle.chunk_list.specs.Kept.{AreCuts, limit, slack};
 use crate::chunks::{exchange, first_chunk, give_back, halve, put, take_out, widen};
 use crate::search::{chunk_of, place_in};
 use crate::starts::{home, lower, raise};
+use crate::touched::{forget, forget_if, note};
 use std::alloc::Global;
 use std::marker::{Brand, Model};
 use std::sync::ledger::{Blank, Ledger};
@@ -28,8 +29,12 @@ pub struct ChunkList<T> {
     len: usize,
     // Each chunk has spare capacity for so many items.
     room: usize,
-    // The room when it was last made.
+    // The room when it was last made in all chunks.
     made: usize,
+    // Chunks that items went into since then.
+    touched: Vec<usize>,
+    // Each chunk that is not among these has spare capacity for so many items.
+    spare: usize,
 }
 
 impl<T> Model for ChunkList<T> {
@@ -40,11 +45,12 @@ impl<T> Model for ChunkList<T> {
 
     ghost coded = { kept_code T.code };
 
-    ghost use Rattle.chunk_list.specs.Chunks.{joined, IsSound};
+    ghost use Rattle.chunk_list.specs.Chunks.{joined};
+    ghost use Rattle.chunk_list.specs.Tended.{IsTended};
 
     ghost view = { λ s. record { items = joined s.chunks.items; room = s.room; cuts = s.starts.items; longest = limit + s.made } };
 
-    ghost invariant = { λ s. IsSound s.chunks.items s.starts.items s.len s.room s.made };
+    ghost invariant = { λ s. IsTended s.chunks.items s.starts.items s.len s.room s.made s.touched.items s.spare };
 }
 
 impl<T> ChunkList<T> {
@@ -60,6 +66,8 @@ impl<T> ChunkList<T> {
             len: 0,
             room: 0,
             made: 0,
+            touched: Vec::new(alloc),
+            spare: 0,
         }
     }
 
@@ -143,7 +151,7 @@ impl<T> ChunkList<T> {
         ensures room { self.old.room ≤ self.new.room }
         ensures longest { self.new.longest ≤ max self.old.longest (limit + max more slack) }
     {
-        if more <= self.room {
+        if more <= self.room || self.refill(more)? {
             return Ok(());
         }
         let wanted = more.max(SLACK);
@@ -151,6 +159,34 @@ impl<T> ChunkList<T> {
             return Err(Memory);
         }
         self.make_room(wanted)
+    }
+
+    // Makes the room in the touched chunks alone, if that is enough and none of them has grown long: all others have
+    // it still. So that room is made often costs no look at each chunk.
+    fn refill(&mut self, more: usize) -> Result<bool, Memory>
+        requires { self.old.room ≤ more }
+        ensures items { self.new.items ≡ self.old.items }
+        ensures done { IfOk result (λ done. done ≡ true → more ≤ self.new.room) }
+        ensures not_done { IfOk result (λ done. done ≡ false → self.new.room ≡ self.old.room) }
+        ensures room { self.old.room ≤ self.new.room }
+        ensures longest { self.new.longest ≡ self.old.longest }
+    {
+        if more > self.spare || self.chunks.len() == 0 || usize::MAX - self.len < self.spare {
+            return Ok(false);
+        }
+        let mut left = self.touched.len();
+        while left > 0 {
+            left -= 1;
+            let at = self.touched[left];
+            let length = self.chunks[at].len();
+            if length > LIMIT {
+                return Ok(false);
+            }
+            widen(&mut self.chunks, at, self.spare)?;
+            self.touched.truncate(left);
+        }
+        self.room = self.spare;
+        Ok(true)
     }
 
     fn make_room(&mut self, wanted: usize) -> Result<(), Memory>
@@ -163,6 +199,8 @@ impl<T> ChunkList<T> {
         ensures room { self.old.room ≤ self.new.room }
         ensures longest { self.new.longest ≤ max self.old.longest (limit + wanted) }
     {
+        forget(&mut self.touched, &mut self.spare, self.room);
+        self.touched.reserve(SLACK)?;
         if self.chunks.len() == 0 {
             first_chunk(&mut self.chunks, &mut self.starts, wanted)?;
         }
@@ -177,6 +215,7 @@ impl<T> ChunkList<T> {
         }
         self.room = wanted;
         self.made = wanted;
+        self.spare = wanted;
         Ok(())
     }
 
@@ -196,6 +235,7 @@ impl<T> ChunkList<T> {
         raise(&mut self.starts, at);
         self.len += 1;
         self.room -= 1;
+        note(&mut self.touched, &mut self.spare, self.room, at);
     }
 
     /// Puts the item in the place of another, which comes back.
@@ -227,7 +267,8 @@ impl<T> ChunkList<T> {
         let item = take_out(&mut self.chunks, at, place - start);
         lower(&mut self.starts, at);
         self.len -= 1;
-        give_back(&mut self.chunks, &mut self.starts, at);
+        let gone = give_back(&mut self.chunks, &mut self.starts, at);
+        forget_if(gone, &mut self.touched, &mut self.spare, self.room);
         item
     }
 }

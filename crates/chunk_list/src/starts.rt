@@ -29,8 +29,17 @@ pub(crate) fn raise(starts: &mut Vec<usize>, at: usize)
     ensures low { (k : ℕ) → k ≤ at → slice_index starts.new.items k ≡ slice_index starts.old.items k }
     ensures high { (k : ℕ) → at < k → k < length starts.old.items → slice_index starts.new.items k ≡ slice_index starts.old.items k + 1 }
 {
-    for i in at + 1..starts.len() {
-        starts[i] += 1;
+    count_up(&mut starts[at + 1..]);
+}
+
+// Each place is one more.
+fn count_up(places: &mut [usize])
+    requires { (k : ℕ) → k < length places.old → slice_index places.old k + 1 < 2 ^ 64 }
+    ensures len { length places.new ≡ length places.old }
+    ensures more { (k : ℕ) → k < length places.old → slice_index places.new k ≡ slice_index places.old k + 1 }
+{
+    for i in 0..places.len() {
+        places[i] += 1;
     }
 }
 
@@ -42,7 +51,16 @@ pub(crate) fn lower(starts: &mut Vec<usize>, at: usize)
     ensures low { (k : ℕ) → k ≤ at → slice_index starts.new.items k ≡ slice_index starts.old.items k }
     ensures high { (k : ℕ) → at < k → k < length starts.old.items → slice_index starts.new.items k + 1 ≡ slice_index starts.old.items k }
 {
-    for i in at + 1..starts.len() {
-        starts[i] -= 1;
+    count_down(&mut starts[at + 1..]);
+}
+
+// Each place is one less.
+fn count_down(places: &mut [usize])
+    requires { (k : ℕ) → k < length places.old → 0 < slice_index places.old k }
+    ensures len { length places.new ≡ length places.old }
+    ensures less { (k : ℕ) → k < length places.old → slice_index places.new k + 1 ≡ slice_index places.old k }
+{
+    for i in 0..places.len() {
+        places[i] -= 1;
     }
 }

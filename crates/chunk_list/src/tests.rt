@@ -1,5 +1,6 @@
 //! The list against a plain one, and each call on its own.
 use crate::ChunkList;
+use std::alloc::Global;
 use std::test::Fail;
 
 // Pseudo-random numbers: xorshift of 64 bits with the shifts 13, 7 and 17 (Marsaglia, 2003).
@@ -27,8 +28,9 @@ fn insert_into_both(
     place: usize,
     item: u64,
 ) -> Result<(), Fail> {
-    list.reserve(1)?;
-    if place <= list.len() && place <= plain.len() {
+    // Room for one, or for a few, now and then for more than was made before.
+    list.reserve(1 + (item % 23) as usize)?;
+    if list.room() > 0 && place <= list.len() && place <= plain.len() {
         list.insert(place, item);
         plain.insert(place, item)?;
     }
@@ -130,14 +132,14 @@ fn is_as_a_plain_list(rt: HostRuntime) -> Result<(), Fail> {
     }
     assert_eq!(rt; list.len(), 5334);
     assert!(rt; is_same(&list, &plain));
-    assert!(rt; are_lawful(&list, 512 + 16));
+    assert!(rt; are_lawful(&list, 512 + 23));
     assert!(rt; list.cuts().len() > 10);
     for round in 0..5333 {
         let place = random.below(plain.len());
         assert!(rt; remove_from_both(&mut list, &mut plain, place));
         if round % 500 == 0 {
             assert!(rt; is_same(&list, &plain));
-            assert!(rt; are_lawful(&list, 512 + 16));
+            assert!(rt; are_lawful(&list, 512 + 23));
         }
     }
     assert!(rt; is_same(&list, &plain));
@@ -161,6 +163,94 @@ fn a_chunk_made_with_much_room_is_cut_later(rt: HostRuntime) -> Result<(), Fail>
     assert!(rt; are_lawful(&list, 512));
     for item in 0..3000 {
         assert_eq!(rt; list.get(2999 - item as usize), Some(&item));
+    }
+    Ok(())
+}
+
+// A list of the items 0, 1, .. in one chunk, without room.
+fn in_one_chunk(alloc: Global, count: u64) -> Result<ChunkList<u64>, Fail> {
+    let mut list = ChunkList::new(alloc);
+    list.reserve(count as usize)?;
+    for item in 0..count {
+        if list.room() > 0 {
+            let end = list.len();
+            list.insert(end, item);
+        }
+    }
+    Ok(list)
+}
+
+// Makes room in a list of the items 0, 1, .. and puts an item in. Whether it stands at the place, those before it
+// where they were, and those behind it one place up, and whether one of the room went.
+fn goes_in(list: &mut ChunkList<u64>, place: usize) -> Result<bool, Fail> {
+    list.reserve(1)?;
+    let room = list.room();
+    if room == 0 || place > list.len() {
+        return Ok(false);
+    }
+    list.insert(place, 1000);
+    for at in 0..list.len() {
+        let want = if at == place {
+            1000
+        } else if at < place {
+            at
+        } else {
+            at - 1
+        };
+        if list.get(at) != Some(&(want as u64)) {
+            return Ok(false);
+        }
+    }
+    Ok(list.room() == room - 1)
+}
+
+#[test]
+fn a_chunk_grows_to_the_limit(rt: HostRuntime) -> Result<(), Fail> {
+    for place in [0, 255, 510, 511] {
+        let mut list = in_one_chunk(rt.alloc(), 511)?;
+        assert_eq!(rt; list.len(), 511);
+        assert_eq!(rt; list.room(), 0);
+        assert!(rt; goes_in(&mut list, place)?, "{place}");
+        assert_eq!(rt; list.len(), 512);
+        list.reserve(16)?;
+        assert_eq!(rt; list.cuts(), [0].as_slice());
+    }
+    Ok(())
+}
+
+#[test]
+fn a_chunk_grows_past_the_limit(rt: HostRuntime) -> Result<(), Fail> {
+    for place in [0, 256, 511, 512] {
+        let mut list = in_one_chunk(rt.alloc(), 512)?;
+        assert_eq!(rt; list.len(), 512);
+        assert_eq!(rt; list.room(), 0);
+        assert!(rt; goes_in(&mut list, place)?, "{place}");
+        assert_eq!(rt; list.len(), 513);
+        assert_eq!(rt; list.cuts(), [0].as_slice());
+        list.reserve(16)?;
+        assert_eq!(rt; list.cuts(), [0, 256].as_slice());
+    }
+    Ok(())
+}
+
+// What goes in at the place of the cut stands first in the second chunk, and what goes in before it in the first.
+#[test]
+fn a_chunk_past_the_limit_is_cut(rt: HostRuntime) -> Result<(), Fail> {
+    for (place, cut) in [
+        (0, 257),
+        (128, 257),
+        (255, 257),
+        (256, 256),
+        (384, 256),
+        (513, 256),
+    ] {
+        let mut list = in_one_chunk(rt.alloc(), 513)?;
+        assert_eq!(rt; list.len(), 513);
+        assert_eq!(rt; list.cuts(), [0].as_slice());
+        assert!(rt; goes_in(&mut list, place)?, "{place}");
+        assert_eq!(rt; list.len(), 514);
+        assert_eq!(rt; list.room(), 15);
+        assert_eq!(rt; list.cuts(), [0, cut].as_slice());
     }
     Ok(())
 }

@@ -1,6 +1,7 @@
 use Rattle.std.proofs.Common.{◌≡◌, ◌+◌, ◌-◌, ◌*◌, ◌<◌, ◌≤◌, length}
 use Rattle.chunk_list.specs.Kept.{limit}
 use Rattle.chunk_list.specs.Chunks.{joined, IsSound, EachBelow, IsReady}
+use Rattle.chunk_list.specs.Tended.{IsForgotten}
 use Rattle.chunk_list.proofs.list.ChunkList.make_room.Given as goal
 
 abbrev pub invariant-loop-at : goal.invariant-loop-at
@@ -11,6 +12,8 @@ invariant-loop-at g l = record {
   longest : limit + l.self-inside.made ≡ l.fn.self.longest;
   some : 0 < length l.self-inside.chunks.items;
   within : l.at ≤ length l.self-inside.chunks.items;
+  most : l.self-inside.room ≤ l.self-inside.made;
+  forgotten : IsForgotten l.self-inside.room l.self-inside.touched.items l.self-inside.spare;
   ready : EachBelow (IsReady l.wanted) l.self-inside.chunks.items l.at;
 }
 

@@ -13,9 +13,9 @@ overflow_add-result g c =
     let at = c.chunk_of-at.result in
     omega (
       arith,
-      c.self.invariant.laid_out.counted,
-      c.self.invariant.laid_out.fits,
-      found_within i.chunks.items i.starts.items i.len i.room i.made c.self.invariant at c.index-start.result.now c.place_in.result c.min-known.result c.index.result.now
+      c.self.invariant.sound.laid_out.counted,
+      c.self.invariant.sound.laid_out.fits,
+      found_within i.chunks.items i.starts.items i.len i.room i.made c.self.invariant.sound at c.index-start.result.now c.place_in.result c.min-known.result c.index.result.now
           c.chunk_of-at.ensures.within c.index-start.ensures c.index.ensures c.min-known.ensures c.place_in.ensures.low (omega (arith, c.place_in.ensures.high, c.index.result.now.ok.0)),
     )
 
@@ -24,7 +24,7 @@ returns-clause-within g c =
     let i = c.self.inside in
     let at = c.chunk_of-at.result in
     rw (← c.self.view_is)
-    (found_within i.chunks.items i.starts.items i.len i.room i.made c.self.invariant at c.index-start.result.now c.place_in.result c.min-known.result c.index.result.now
+    (found_within i.chunks.items i.starts.items i.len i.room i.made c.self.invariant.sound at c.index-start.result.now c.place_in.result c.min-known.result c.index.result.now
     c.chunk_of-at.ensures.within c.index-start.ensures c.index.ensures c.min-known.ensures c.place_in.ensures.low (omega (arith, c.place_in.ensures.high, c.index.result.now.ok.0)))
 
 pub returns-clause-before : goal.returns-clause-before
@@ -32,7 +32,7 @@ returns-clause-before g c =
     let i = c.self.inside in
     let at = c.chunk_of-at.result in
     rw (← c.self.view_is)
-    (found_before i.chunks.items i.starts.items i.len i.room i.made c.self.invariant at c.index-start.result.now c.place_in.result c.min-known.result c.index.result.now
+    (found_before i.chunks.items i.starts.items i.len i.room i.made c.self.invariant.sound at c.index-start.result.now c.place_in.result c.min-known.result c.index.result.now
     c.chunk_of-at.ensures.within c.index-start.ensures c.index.ensures c.min-known.ensures c.place_in.ensures.low (omega (arith, c.place_in.ensures.high, c.index.result.now.ok.0))
     (λ x. FnReturnsAt g.F.Fn c.args.passes x true) c.chunk_of-at.ensures.here c.place_in.ensures.before)
 
@@ -41,7 +41,7 @@ returns-clause-after g c =
     let i = c.self.inside in
     let at = c.chunk_of-at.result in
     rw (← c.self.view_is)
-    (found_after i.chunks.items i.starts.items i.len i.room i.made c.self.invariant at c.index-start.result.now c.place_in.result c.min-known.result c.index.result.now
+    (found_after i.chunks.items i.starts.items i.len i.room i.made c.self.invariant.sound at c.index-start.result.now c.place_in.result c.min-known.result c.index.result.now
     c.chunk_of-at.ensures.within c.index-start.ensures c.index.ensures c.min-known.ensures c.place_in.ensures.low (omega (arith, c.place_in.ensures.high, c.index.result.now.ok.0))
     (λ x. FnReturnsAt g.F.Fn c.args.passes x false) c.chunk_of-at.ensures.next c.place_in.ensures.after)
 
@@ -50,9 +50,9 @@ returns-clause-looks g c =
     let i = c.self.inside in
     let at = c.chunk_of-at.result in
     let short : vec_len c.index.result.now ≤ length (joined i.chunks.items) =
-    chunk_within i.chunks.items i.starts.items i.len i.room i.made c.self.invariant at c.index-start.result.now c.place_in.result c.min-known.result c.index.result.now
+    chunk_within i.chunks.items i.starts.items i.len i.room i.made c.self.invariant.sound at c.index-start.result.now c.place_in.result c.min-known.result c.index.result.now
     c.chunk_of-at.ensures.within c.index-start.ensures c.index.ensures c.min-known.ensures c.place_in.ensures.low (omega (arith, c.place_in.ensures.high, c.index.result.now.ok.0)) in
-    let few : length i.chunks.items ≤ i.len + 1 = count_most i.chunks.items i.starts.items i.len i.room i.made c.self.invariant in
+    let few : length i.chunks.items ≤ i.len + 1 = count_most i.chunks.items i.starts.items i.len i.room i.made c.self.invariant.sound in
     λ k fits.
     let all : length (joined i.chunks.items) < 2 ^ k = rw (← c.self.view_is) at fits in
-    omega (arith, c.chunk_of-at.ensures.looks k (omega (arith, c.self.invariant.laid_out.counted)), c.place_in.ensures.looks k (omega (arith, c.index.result.now.ok.0)))
+    omega (arith, c.chunk_of-at.ensures.looks k (omega (arith, c.self.invariant.sound.laid_out.counted)), c.place_in.ensures.looks k (omega (arith, c.index.result.now.ok.0)))
