@@ -8,7 +8,7 @@ use Rattle.std.specs.Ordering.{is_lt}
 use Rattle.index_tables.specs.Entries.{entries_of, has, same, is_of}
 use Rattle.index_tables.specs.Order.{Entry, IsInOrder, entry_cmp}
 use Rattle.index_tables.specs.Seen.{entry_of, seen}
-use Rattle.index_tables.specs.declared.pairs.Pair.{Pair}
+use Rattle.index_tables.specs.declared.pair.Pair.{Pair}
 use Rattle.index_tables.proofs.Lists.{filter-filter, not_or, map-remove, holds_map, holds_front, part_gone, part_kept}
 use Rattle.index_tables.proofs.PutIn.{has-push}
 use Rattle.index_tables.proofs.Sets.{filter_stands, filter_fits}

@@ -9,7 +9,7 @@ use Rattle.std.specs.Ordering.{is_eq, is_lt}
 use Rattle.index_tables.specs.Entries.{AreDistinct, AreNew, entries_of, has, same}
 use Rattle.index_tables.specs.Order.{Entry, IsInOrder, entry_cmp}
 use Rattle.index_tables.specs.Seen.{entry_of, seen}
-use Rattle.index_tables.specs.declared.pairs.Pair.{Pair}
+use Rattle.index_tables.specs.declared.pair.Pair.{Pair}
 use Rattle.index_tables.proofs.Lists.{or_comm, or_assoc, pairs_front, map-insert, list_any-insert, holds_map}
 use Rattle.index_tables.proofs.Sets.{rising_insert}
 use Rattle.index_tables.proofs.TotalOrders.{entry_total, entry_same}

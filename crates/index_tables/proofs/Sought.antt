@@ -7,7 +7,7 @@ use Rattle.std.specs.Ordering.{is_lt, ordering_then}
 use Rattle.index_tables.specs.Order.{Entry, key_cmp, entry_cmp, IsInOrder, FallsAt}
 use Rattle.std.proofs.lemmas.List.{length-map}
 use Rattle.index_tables.specs.Seen.{entry_of, seen}
-use Rattle.index_tables.specs.declared.pairs.Pair.{Pair}
+use Rattle.index_tables.specs.declared.pair.Pair.{Pair}
 use Rattle.index_tables.proofs.Lists.{holds_map}
 use Rattle.index_tables.proofs.TotalOrders.{key_total}
 

@@ -1,4 +1,5 @@
 pub mod Entries
+pub mod Fronts
 pub mod Order
 pub mod Seen
 pub mod Table

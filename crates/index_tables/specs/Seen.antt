@@ -1,7 +1,7 @@
 -- The entries that pairs of the program stand for.
 use Rattle.std.specs.Prelude.{List, map}
 use Rattle.index_tables.specs.Order.{Entry}
-use Rattle.index_tables.specs.declared.pairs.Pair.{Pair}
+use Rattle.index_tables.specs.declared.pair.Pair.{Pair}
 
 abbrev pub entry_of : Pair → Entry
 entry_of pair = (pair.key, pair.id)

@@ -6,8 +6,9 @@ ghost use Rattle.index_tables.specs.Entries.{AreDistinct, AreNew, HoldsBoth, ent
 ghost use Rattle.index_tables.specs.Order.{IsInOrder, entry_cmp};
 ghost use Rattle.index_tables.specs.Seen.{entry_of, seen};
 
+use crate::front::front;
 use crate::order::compare_pair;
-use crate::pairs::Pair;
+use crate::pair::Pair;
 use chunk_list::ChunkList;
 use u1_base::{DocId, Key, Text};
 
@@ -17,7 +18,8 @@ fn place_of(list: &ChunkList<Pair>, key: &[Text], id: &DocId) -> usize
     ensures before { 0 < result → HoldsAt (λ p. is_lt (entry_cmp (entry_of p) (key.now, id.now)) ≡ true) list.now.items (result - 1) }
     ensures after { result < length list.now.items → HoldsAt (λ p. is_lt (entry_cmp (entry_of p) (key.now, id.now)) ≡ false) list.now.items result }
 {
-    list.find_place(|pair| compare_pair(pair, key, id).is_lt())
+    let front = front(key);
+    list.find_place(|pair| compare_pair(pair, front, key, id).is_lt())
 }
 
 // Whether the pair of a key and an id stands at a place.
@@ -26,7 +28,7 @@ fn stands_at(list: &ChunkList<Pair>, place: usize, key: &[Text], id: &DocId) -> 
     ensures no { result ≡ false → place < length list.now.items → HoldsAt (λ p. same (entry_of p) (key.now, id.now) ≡ false) list.now.items place }
 {
     match list.get(place) {
-        Some(pair) => compare_pair(pair, key, id).is_eq(),
+        Some(pair) => compare_pair(pair, front(key), key, id).is_eq(),
         None => false,
     }
 }

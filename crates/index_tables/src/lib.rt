@@ -5,7 +5,9 @@
 #![tactic(auto)]
 
 mod edits;
+mod front;
 mod order;
+mod pair;
 mod pairs;
 mod table;
 #[cfg(test)]

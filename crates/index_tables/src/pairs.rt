@@ -3,15 +3,10 @@ ghost use Rattle.std.specs.Prelude.{◌≡◌, ◌↔◌, [], IfOk, IsTrue, leng
 ghost use Rattle.index_tables.specs.Entries.{entries_of};
 ghost use Rattle.index_tables.specs.Seen.{seen};
 
+use crate::front::front;
+use crate::pair::Pair;
 use std::marker::Model;
-use u1_base::{DocId, Key, Keys, Memory};
-
-// A key, and the id of a document that has it.
-#[derive(Drop)]
-pub(crate) struct Pair {
-    pub(crate) key: Key,
-    pub(crate) id: DocId,
-}
+use u1_base::{DocId, Keys, Memory};
 
 /// Pairs of a key and an id, seen as their list. None stands twice.
 #[derive(Drop)]
@@ -56,7 +51,8 @@ pub(crate) fn make_pairs(id: &DocId, keys: Keys) -> Result<Vec<Pair>, Memory>
     let mut pairs = Vec::with_capacity(*keys.allocator(), keys.len())?;
     for key in keys {
         let id = id.copy()?;
-        pairs.push(Pair { key, id })?;
+        let front = front(key.texts());
+        pairs.push(Pair { front, key, id })?;
     }
     Ok(pairs)
 }

@@ -6,8 +6,10 @@ ghost use Rattle.index_tables.specs.Entries.{AreNew, HoldsBoth, entries_of, has,
 ghost use Rattle.index_tables.specs.Order.{FallsAt, IsInOrder, key_cmp};
 
 use crate::edits::{put_all, take_id, take_keys};
-use crate::order::compare_keys;
-use crate::pairs::{Pair, Pairs, make_pairs};
+use crate::front::front;
+use crate::order::compare_key;
+use crate::pair::Pair;
+use crate::pairs::{Pairs, make_pairs};
 use chunk_list::ChunkList;
 use std::alloc::Global;
 use std::marker::Model;
@@ -148,5 +150,6 @@ fn first_from<L: Ledger>(list: &ChunkList<Pair>, key: &[Text], steps: &mut Steps
     ensures after { result < length list.now.items → HoldsAt (λ p. is_lt (key_cmp p.key key.now) ≡ false) list.now.items result }
     ensures looks { (k : ℕ) → length list.now.items < 2 ^ k → steps.new ≤ steps.old + 2 * k }
 {
-    list.search(|pair| compare_keys(pair.key.texts(), key).is_lt(), steps)
+    let front = front(key);
+    list.search(|pair| compare_key(pair, front, key).is_lt(), steps)
 }
