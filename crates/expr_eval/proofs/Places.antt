@@ -50,6 +50,31 @@ distinct-push [] y = refl
 distinct-push (x ∷ texts) y =
     step x y (distinct texts) (distinct (texts ++ y ∷ [])) (bytes_eq y x) (has texts y) (bytes_eq-flipped x y) (distinct-push texts y)
 
+-- who leaves out another text keeps this one
+kept_cond : (b : Bool) (x y z : List ℕ) (less texts : List (List ℕ)) → bytes_eq x z ≡ b → bytes_eq x y ≡ false → has less y ≡ has texts y
+    → has (cond (not b) (z ∷ less) less) y ≡ has (z ∷ texts) y
+kept_cond false x y z less texts is apart same = ap (λ (r : Bool). bytes_eq y z || r) same
+kept_cond true x y z less texts is apart same =
+    same ∙ sym (ap (λ (r : Bool). r || has texts y) (ap (bytes_eq y) (sym ((bytes_eq-Decides x z).0 is)) ∙ (bytes_eq-flipped y x ∙ apart)))
+
+kept : (x y : List ℕ) (texts : List (List ℕ)) → bytes_eq x y ≡ false → has (filter (other x) texts) y ≡ has texts y
+kept x y [] apart = refl
+kept x y (z ∷ texts) apart = kept_cond (bytes_eq x z) x y z (filter (other x) texts) texts refl apart (kept x y texts apart)
+
+had : (b : Bool) (x y : List ℕ) (firsts texts : List (List ℕ)) → bytes_eq y x ≡ b → has firsts y ≡ has texts y
+    → (b || has (filter (other x) firsts) y) ≡ (b || has texts y)
+had true x y firsts texts is same = refl
+had false x y firsts texts is same = kept x y firsts (bytes_eq-flipped x y ∙ is) ∙ same
+
+-- a list without doubles has the same texts
+pub has-distinct : (texts : List (List ℕ)) (y : List ℕ) → has (distinct texts) y ≡ has texts y
+has-distinct [] y = refl
+has-distinct (x ∷ texts) y = had (bytes_eq y x) x y (distinct texts) texts refl (has-distinct texts y)
+
+pub has-lent : (texts : List (Bor (List ℕ))) (y : List ℕ) → list_any (λ (t : Bor (List ℕ)). bytes_eq y t.now) texts ≡ has (lent texts) y
+has-lent [] y = refl
+has-lent (t ∷ texts) y = ap (λ (r : Bool). bytes_eq y t.now || r) (has-lent texts y)
+
 pub lent-push : (xs : List (Bor (List ℕ))) (text : Bor (List ℕ)) → lent (xs ++ text ∷ []) ≡ lent xs ++ text.now ∷ []
 lent-push xs text = map-append (λ (t : Bor (List ℕ)). t.now) xs (text ∷ [])
 

@@ -1,5 +1,5 @@
 -- The keys are made one after another, up to their greatest number.
-use Rattle.std.proofs.Common.{◌≡◌, ℕ, zero, suc, ◌+◌, ◌<◌, ◌≤◌, true, false, List, [], ◌∷◌, ◌++◌, length, map, take, refl, sym, ap, ap₂, subst, ◌∙◌, inl, inr, arith, append-nil, append_assoc, length-append, take_all, Bor, Vec, vec_len, eqb, ◌-◌}
+use Rattle.std.proofs.Common.{◌≡◌, ℕ, zero, suc, ◌<◌, ◌≤◌, true, List, [], ◌∷◌, ◌++◌, length, map, take, refl, sym, ap, ap₂, subst, ◌∙◌, inl, inr, arith, append-nil, append_assoc, length-append, take_all, Bor, Vec, vec_len, eqb, ◌-◌}
 use Rattle.std.specs.List.{flat_map, list_any}
 use Rattle.content.specs.Tree.{Tree}
 use Rattle.expr_parser.specs.declared.expr.Expr.{Expr}

@@ -1,5 +1,5 @@
 -- The words of a text come off its front one by one.
-use Rattle.std.proofs.Common.{◌≡◌, ℕ, ◌+◌, ◌<◌, Bool, true, not, cond, eqb, List, [], ◌∷◌, ◌++◌, length, map, encode_utf8, encode_utf8_all, chars, IsUtf8, refl, sym, ap, subst, ◌∙◌, arith, append-nil, append_assoc, Bor}
+use Rattle.std.proofs.Common.{◌≡◌, ℕ, ◌<◌, Bool, true, not, cond, eqb, List, [], ◌∷◌, ◌++◌, length, map, encode_utf8, encode_utf8_all, chars, IsUtf8, refl, sym, ap, subst, ◌∙◌, arith, append-nil, append_assoc, Bor}
 use Rattle.std.proofs.lemmas.Bool.{and_parts, ne_eqb, not-false}
 use Rattle.std.proofs.lemmas.List.{nil_from_length, map-append}
 use Rattle.expr_eval.specs.Lent.{lent}

@@ -118,6 +118,12 @@ fn words(rt: HostRuntime) -> Result<(), Fail> {
         (r#"{"a":["","  "]}"#, ""),
         (r#"{"a":"one"}"#, "one|"),
         (r#"{"a":"A a á Á a"}"#, "A|a|á|Á|"),
+        (r#"{"a":"h g f e d c b h"}"#, "h|g|f|e|d|c|b|"),
+        (r#"{"a":"i h g f e d c b h"}"#, "i|h|g|f|e|d|c|b|"),
+        (
+            r#"{"a":["c b a e d","a b i h","g f","a c i"]}"#,
+            "c|b|a|e|d|i|h|g|f|",
+        ),
         (
             r#"{"a":"x\u200by z\ufeff \u180e"}"#,
             "x\u{200b}y|z\u{feff}|\u{180e}|",

@@ -6,7 +6,7 @@ use Rattle.std.specs.Ordering.{is_eq, nat_cmp}
 use Rattle.expr_eval.specs.Lent.{lent}
 use Rattle.expr_eval.specs.Words.{distinct}
 use Rattle.expr_eval.proofs.Places.{has}
-use Rattle.expr_eval.proofs.first_places.first_places.Given as goal
+use Rattle.expr_eval.proofs.first_places.firsts_of_many.Given as goal
 
 abbrev pub invariant-loop-text : goal.invariant-loop-text
 invariant-loop-text l = record {

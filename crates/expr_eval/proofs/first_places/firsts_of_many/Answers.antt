@@ -4,8 +4,8 @@ use Rattle.std.proofs.lemmas.List.{take_more}
 use Rattle.expr_eval.specs.Lent.{lent}
 use Rattle.expr_eval.specs.Words.{distinct}
 use Rattle.expr_eval.proofs.Places.{has, met, new_text, old_text}
-use Rattle.expr_eval.proofs.first_places.first_places.Goals as goal
-use Rattle.expr_eval.proofs.first_places.first_places.Goals.{then-branch+in_ok-push, else-branch}
+use Rattle.expr_eval.proofs.first_places.firsts_of_many.Goals as goal
+use Rattle.expr_eval.proofs.first_places.firsts_of_many.Goals.{then-branch+in_ok-push, else-branch}
 
 pub loop-text-preserved : goal.loop-text-preserved
 loop-text-preserved c =
