@@ -1,14 +1,18 @@
 -- A walk through entries, from a place on, which finds each document at its first entry.
-use Rattle.std.proofs.Common.{◌≡◌, ℕ, ◌+◌, ◌≤◌, Bool, true, false, cond, not, ◌||◌, List, [], ◌∷◌, ◌++◌, length, map, drop, zero, suc, refl, sym, ◌∙◌, ap, ap₂, arith, add-one, Bor, Some, None, Ordering, Less, Equal, Greater}
+use Rattle.std.proofs.Common.{◌≡◌, ℕ, ◌+◌, ◌≤◌, Bool, true, false, cond, not, ◌||◌, List, [], ◌∷◌, ◌++◌, length, map, drop, zero, suc, refl, sym, ◌∙◌, ap, ap₂, arith, add-one, subst, Bor, Some, None, Ordering, Less, Equal, Greater}
+use Rattle.std.proofs.lemmas.Cmp.{nat_cmp_total, tied_itself}
 use Rattle.std.proofs.lemmas.List.{append-nil, append_assoc, length-append, map-append}
 use Rattle.std.proofs.lemmas.List.Folds.{list_any-append}
 use Rattle.std.proofs.lemmas.List.Sums.{take_while-cons}
+use Rattle.std.proofs.lemmas.Map.Text.{is_eq-slice_cmp}
+use Rattle.std.proofs.lemmas.Slice.Eq.{bytes_eq-Decides}
 use Rattle.std.specs.BTreeSet.{BTreeSet, contains, Updates}
 use Rattle.std.specs.Cmp.Lexicographic.{nat_list_cmp_total}
 use Rattle.std.specs.List.{list_any, slice_get, take_while}
-use Rattle.std.specs.Ordering.{eq_by_cmp, is_eq, ordering_reverse}
+use Rattle.std.specs.Ordering.{eq_by_cmp, is_eq, nat_cmp, ordering_reverse, ordering_then}
 use Rattle.index_tables.specs.Order.{Entry}
 use Rattle.query_range.specs.Answers.{firsts, id_cmp}
+use Rattle.query_range.specs.Marks.{mark}
 use Rattle.query_range.proofs.Firsts.{firsts-push}
 
 -- what stands at a place, and behind it
@@ -26,18 +30,43 @@ none_from [] (suc n) at = refl
 none_from (y ∷ xs) zero at = absurd (cc)
 none_from (y ∷ xs) (suc n) at = none_from xs n at
 
--- the order of the texts in the set
-abbrev pub text_cmp : Bor (List ℕ) → Bor (List ℕ) → Ordering
-text_cmp x y = id_cmp x.now y.now
+-- the order in the set: by the marks of the texts, and then by the texts
+abbrev pub Marked : Type 0
+Marked = ℕ × Bor (List ℕ)
+
+abbrev pub marked_cmp : Marked → Marked → Ordering
+marked_cmp x y = ordering_then (nat_cmp x.0 y.0) (id_cmp x.1.now y.1.now)
+
+abbrev pub marked : Bor (List ℕ) → Marked
+marked text = (mark text.now, text)
+
+-- texts tie with their marks where they tie without
+no_tie : (o r : Ordering) → is_eq r ≡ false → is_eq (ordering_then o r) ≡ false
+no_tie Less r apart = refl
+no_tie Equal r apart = apart
+no_tie Greater r apart = refl
+
+same_mark : (x y : List ℕ) → x ≡ y → nat_cmp (mark x) (mark y) ≡ Equal
+same_mark x y same = subst (λ (z : List ℕ). nat_cmp (mark x) (mark z) ≡ Equal) same (tied_itself nat_cmp_total (mark x))
+
+marked_tie : (x y : Bor (List ℕ)) → is_eq (marked_cmp (marked x) (marked y)) ≡ is_eq (id_cmp x.now y.now)
+marked_tie x y =
+    elim (is_eq (id_cmp x.now y.now)) as (λ (b : Bool). is_eq (id_cmp x.now y.now) ≡ b → is_eq (ordering_then (nat_cmp (mark x.now) (mark y.now)) (id_cmp x.now y.now)) ≡ b) [
+      | true ↦ λ tie.
+          ap (λ (o : Ordering). is_eq (ordering_then o (id_cmp x.now y.now)))
+          (same_mark x.now y.now ((bytes_eq-Decides x.now y.now).0 (sym (is_eq-slice_cmp x.now y.now) ∙ tie)))
+          ∙ tie
+      | false ↦ λ apart. no_tie (nat_cmp (mark x.now) (mark y.now)) (id_cmp x.now y.now) apart
+    ] refl
 
 abbrev pub ids_of : List Entry → List (List ℕ)
 ids_of entries = map (λ entry. entry.1) entries
 
 -- the entries from the first place to this one are taken: their documents are in the set, and in the list of ids each once. Each was looked at once
-pub record Walked (test : Entry → Bool) (entries : List Entry) (start place : ℕ) (found : BTreeSet (Bor (List ℕ))) (ids : List (List ℕ)) (begun now : ℕ) : Type 0 where
+pub record Walked (test : Entry → Bool) (entries : List Entry) (start place : ℕ) (found : BTreeSet Marked) (ids : List (List ℕ)) (begun now : ℕ) : Type 0 where
   pub taken : List Entry
   pub split : take_while test (drop start entries) ≡ taken ++ take_while test (drop place entries)
-  pub seen : (q : Bor (List ℕ)) → contains text_cmp found q ≡ list_any (eq_by_cmp id_cmp q.now) (ids_of taken)
+  pub seen : (q : Bor (List ℕ)) → contains marked_cmp found (marked q) ≡ list_any (eq_by_cmp id_cmp q.now) (ids_of taken)
   pub once : ids ≡ firsts id_cmp (ids_of taken)
   pub looks : now ≤ begun + length taken
 
@@ -55,7 +84,7 @@ or_cond true false = refl
 or_cond false true = refl
 or_cond false false = refl
 
-module _ (test : Entry → Bool) (entries : List Entry) (start place : ℕ) (old : BTreeSet (Bor (List ℕ))) (ids : List (List ℕ)) (begun now : ℕ) (walked : Walked test entries start place old ids begun now) where
+module _ (test : Entry → Bool) (entries : List Entry) (start place : ℕ) (old : BTreeSet Marked) (ids : List (List ℕ)) (begun now : ℕ) (walked : Walked test entries start place old ids begun now) where
   -- nothing more is taken
   pub walk_ends : take_while test (drop place entries) ≡ [] → ids ≡ firsts id_cmp (ids_of (take_while test (drop start entries)))
   walk_ends ends = walked.once ∙ ap (λ (l : List Entry). firsts id_cmp (ids_of l)) (sym (walked.split ∙ ap (λ (l : List Entry). walked.taken ++ l) ends ∙ append-nil walked.taken))
@@ -77,7 +106,7 @@ module _ (test : Entry → Bool) (entries : List Entry) (start place : ℕ) (old
         ∙ ap (λ (b : Bool). cond b (entry ∷ take_while test (drop (place + 1) entries)) []) passes
 
     -- one entry more is taken
-    module _ (passes : test entry ≡ true) (key : Bor (List ℕ)) (new : BTreeSet (Bor (List ℕ))) (fresh : Bool) (after : List (List ℕ)) (names : key.now ≡ entry.1) (updates : Updates text_cmp old new key true) (is : fresh ≡ not (contains text_cmp old key)) where
+    module _ (passes : test entry ≡ true) (key : Bor (List ℕ)) (number : ℕ) (new : BTreeSet Marked) (fresh : Bool) (after : List (List ℕ)) (names : key.now ≡ entry.1) (numbered : number ≡ mark key.now) (updates : Updates marked_cmp old new (number, key) true) (is : fresh ≡ not (contains marked_cmp old (number, key))) where
       abbrev more : List Entry
       more = walked.taken ++ entry ∷ []
 
@@ -88,7 +117,8 @@ module _ (test : Entry → Bool) (entries : List Entry) (start place : ℕ) (old
       known =
           ap (λ (id : List ℕ). list_any (eq_by_cmp id_cmp id) (ids_of walked.taken)) (sym names)
           ∙ sym (walked.seen key)
-          ∙ twice (contains text_cmp old key)
+          ∙ ap (λ (n : ℕ). contains marked_cmp old (n, key)) (sym numbered)
+          ∙ twice (contains marked_cmp old (number, key))
           ∙ ap not (sym is)
         where
           twice : (b : Bool) → b ≡ not (not b)
@@ -103,9 +133,9 @@ module _ (test : Entry → Bool) (entries : List Entry) (start place : ℕ) (old
             ∙ ap (λ (l : List Entry). walked.taken ++ l) (taken_on passes)
             ∙ sym (append_assoc walked.taken (entry ∷ []) (take_while test (drop (place + 1) entries)));
         seen = λ q.
-            updates.0 q
-            ∙ or_cond (is_eq (text_cmp key q)) (contains text_cmp old q)
-            ∙ ap₂ (λ (a b : Bool). a || (b || false)) (walked.seen q) (tie_back key.now q.now ∙ ap (λ (id : List ℕ). is_eq (id_cmp q.now id)) names)
+            updates.0 (marked q)
+            ∙ or_cond (is_eq (marked_cmp (number, key) (marked q))) (contains marked_cmp old (marked q))
+            ∙ ap₂ (λ (a b : Bool). a || (b || false)) (walked.seen q) (ap (λ (n : ℕ). is_eq (marked_cmp (n, key) (marked q))) numbered ∙ marked_tie key q ∙ tie_back key.now q.now ∙ ap (λ (id : List ℕ). is_eq (id_cmp q.now id)) names)
             ∙ sym (list_any-append (eq_by_cmp id_cmp q.now) (ids_of walked.taken) (entry.1 ∷ []))
             ∙ ap (list_any (eq_by_cmp id_cmp q.now)) (sym pushed);
         once =

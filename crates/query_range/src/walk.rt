@@ -2,12 +2,14 @@
 ghost use Rattle.std.specs.Prelude.{◌≡◌, ◌+◌, ◌≤◌, IfOk, drop, length, map, take_while};
 ghost use Rattle.index_tables.specs.Order.{IsInOrder};
 ghost use Rattle.query_range.specs.Answers.{firsts, id_cmp};
+ghost use Rattle.query_range.specs.Marks.{mark};
 ghost use Rattle.query_range.specs.Wanted.{takes};
 
 use crate::Pattern;
 use index_tables::{IndexTable, compare_keys};
 use std::alloc::Global;
 use std::collections::BTreeSet;
+use std::hash::{BuildHasher, BuildHasherDefault, FoldHasher};
 use std::sync::ledger::Ledger;
 use u1_base::{Ids, Key, Memory, Steps};
 
@@ -32,6 +34,13 @@ impl Wanted<'_> {
     }
 }
 
+// A number made of an id. Most ids differ in it, so that few are compared by their bytes.
+fn mark(id: &str) -> u64
+    ensures { result ≡ mark id.now }
+{
+    BuildHasherDefault::<FoldHasher>::new().hash_one(id)
+}
+
 /// The documents of the pairs from a place to the first whose key is not taken, each once, at its first pair.
 pub(crate) fn walk<L: Ledger>(
     alloc: Global,
@@ -53,7 +62,8 @@ pub(crate) fn walk<L: Ledger>(
         if !wanted.takes(key) {
             break;
         }
-        if found.insert(id.as_str())? {
+        let text = id.as_str();
+        if found.insert((mark(text), text))? {
             ids.push(id.copy()?)?;
         }
     }

@@ -11,11 +11,11 @@ loop-place-preserved g c =
     elim c.if-branch.branch [
       | then-branch+in_ok-copy+in_ok-push w ↦
           took_new (λ p. takes c.args.wanted.now p.0) c.args.table.now.pairs c.args.from c.loop-place.place c.loop-place.found c.loop-place.ids c.args.steps.now c.loop-place.steps c.loop-place.invariant
-          (c.in-Some.key.now, c.in-Some.id.now) c.in-Some.ensures.value (sym c.takes.ensures ∙ c.if-not-takes.false) c.as_str.result c.insert.new.self c.in_ok-insert.field-0 c.if-branch.ids c.as_str.ensures.value
+          (c.in-Some.key.now, c.in-Some.id.now) c.in-Some.ensures.value (sym c.takes.ensures ∙ c.if-not-takes.false) c.as_str-text.result c.mark.result c.insert.new.self c.in_ok-insert.field-0 c.if-branch.ids c.as_str-text.ensures.value (c.mark.ensures)
           c.in_ok-insert.ensures.updates c.in_ok-insert.ensures.added w.if-branch.true w.in_ok-copy.field-0 w.in_ok-copy.ensures (w.ids-is ∙ w.in_ok-push.ensures.ok) c.entry.new.steps (omega (arith, c.entry.ensures.looks))
       | else-branch w ↦
           took_known (λ p. takes c.args.wanted.now p.0) c.args.table.now.pairs c.args.from c.loop-place.place c.loop-place.found c.loop-place.ids c.args.steps.now c.loop-place.steps c.loop-place.invariant
-          (c.in-Some.key.now, c.in-Some.id.now) c.in-Some.ensures.value (sym c.takes.ensures ∙ c.if-not-takes.false) c.as_str.result c.insert.new.self c.in_ok-insert.field-0 c.if-branch.ids c.as_str.ensures.value
+          (c.in-Some.key.now, c.in-Some.id.now) c.in-Some.ensures.value (sym c.takes.ensures ∙ c.if-not-takes.false) c.as_str-text.result c.mark.result c.insert.new.self c.in_ok-insert.field-0 c.if-branch.ids c.as_str-text.ensures.value (c.mark.ensures)
           c.in_ok-insert.ensures.updates c.in_ok-insert.ensures.added w.if-branch.false w.ids-is c.entry.new.steps (omega (arith, c.entry.ensures.looks))
     ]
 
