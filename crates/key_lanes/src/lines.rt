@@ -28,16 +28,21 @@ pub fn find_break(bytes: &[u8], from: usize) -> Option<usize>
     }
 }
 
+// Two places are looked at in each turn: where the second byte is neither LF nor CR no line ends at either of them.
 fn break_by_bytes(bytes: &[u8], from: usize) -> Option<usize>
     requires { from ≤ length bytes.now }
     ensures { MatchOption result (NoBreak bytes.now from (length bytes.now)) (IsFirstBreak bytes.now from) }
 {
     let mut at = from;
     while bytes.len() - at > 1 {
-        if bytes[at] == b'\r' && bytes[at + 1] == b'\n' {
+        let second = bytes[at + 1];
+        if second == b'\n' && bytes[at] == b'\r' {
             return Some(at);
         }
-        at += 1;
+        if second == b'\r' && bytes.len() - at > 2 && bytes[at + 2] == b'\n' {
+            return Some(at + 1);
+        }
+        at += 2;
     }
     None
 }

@@ -45,13 +45,16 @@ fn prefix_of_few(a: &[u8], b: &[u8], len: usize) -> usize
     if len < FEW_LANES {
         return prefix_by_bytes(a, b, len);
     }
+    if let Some(lane) = difference_in_few(a, b, 0) {
+        return lane;
+    }
+    if len == FEW_LANES {
+        return len;
+    }
     let last = len - FEW_LANES;
-    match difference_in_few(a, b, 0) {
-        Some(lane) => lane,
-        None => match difference_in_few(a, b, last) {
-            Some(lane) => last + lane,
-            None => len,
-        },
+    match difference_in_few(a, b, last) {
+        Some(lane) => last + lane,
+        None => len,
     }
 }
 
