@@ -121,13 +121,13 @@ pushed_three q k f b a v0 v1 v2 v3 e1 e2 e3 p1 p2 p3 =
 
 -- ---- what is made where nothing refuses
 
-pub edit_last : (own : Uid) (c d : Clock) (ps : List Clock) (t : Option Tree) (rev : Clock) (o : Option Clock) (r : Result Accept EditFault) → ps ≡ c ∷ [] → o ≡ Some rev → o ≡ made_clock own (d ∷ []) → d ≡ c →
+pub edit_last : (own : Uid) (c : Clock) (ps : List Clock) (t : Option Tree) (rev : Clock) (o : Option Clock) (r : Result Accept EditFault) → ps ≡ c ∷ [] → o ≡ Some rev → o ≡ made_clock own ps →
     (r ≡ Err edit_fault.Memory) ⊎ (r ≡ Ok (record { rev = rev; content = t; making = Edit; parents = ps; current = true })) → (r ≡ Err edit_fault.Memory) ⊎ (r ≡ ok_or (edit_of own (c ∷ []) t) edit_fault.ClockFull)
-edit_last own c d ps t rev o r e s m q (inl h) = inl h
-edit_last own c d ps t rev o r e s m q (inr h) =
+edit_last own c ps t rev o r e s m (inl h) = inl h
+edit_last own c ps t rev o r e s m (inr h) =
     inr (h
     ∙ (λ i. Ok (record { rev = rev; content = t; making = Edit; parents = e i; current = true }))
-    ∙ ap (λ (z : Option Clock). ok_or (option_map (λ (y : Clock). record { rev = y; content = t; making = Edit; parents = c ∷ []; current = true }) z) edit_fault.ClockFull) (sym s ∙ m ∙ ap (λ (k : Clock). made_clock own (k ∷ [])) q))
+    ∙ ap (λ (z : Option Clock). ok_or (option_map (λ (y : Clock). record { rev = y; content = t; making = Edit; parents = c ∷ []; current = true }) z) edit_fault.ClockFull) (sym s ∙ m ∙ ap (made_clock own) e))
 
 -- the merged revision, where a clock is made
 pub merge_made : (k : Kept) (x : Member) (save : Bool) (own : Uid) (ps : List Clock) (rev : Clock) (o : Option Clock) (lead : Bool) (t : Option Tree) → ps ≡ merge_parents x (current_first k) → o ≡ Some rev → o ≡ made_clock own ps → may_merge (current_first k) x own ≡ true →

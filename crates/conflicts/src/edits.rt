@@ -5,7 +5,7 @@ ghost use Rattle.conflicts.specs.Document.{is_live};
 ghost use Rattle.conflicts.specs.Kept.{document};
 ghost use Rattle.conflicts.specs.Making.{deleted, edit_of, edited, names};
 
-use crate::made::{first_clock, raised_of};
+use crate::made::{first_clock, made_of};
 use crate::{Accept, DocSet, Making};
 use content::Content;
 use std::alloc::Global;
@@ -131,7 +131,7 @@ fn edit_over(
 {
     let mut parents = Clocks::new(alloc);
     parents.push(set.current().rev.copy()?)?;
-    match raised_of(&set.current().rev, own)? {
+    match made_of(parents.as_slice(), own)? {
         Some(rev) => edit_with(rev, content, parents),
         None => Err(EditFault::ClockFull),
     }

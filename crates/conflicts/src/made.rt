@@ -21,16 +21,16 @@ pub(crate) fn made_of(parents: &[Clock], own: &ReplicaUid) -> Result<Option<Cloc
     ensures { IfOk result (λ r. r ≡ made_clock own.now parents.now) }
 {
     match joined_of(parents)? {
-        Some(clock) => raised_of(&clock, own),
+        Some(clock) => raised_of(clock, own),
         None => Ok(None),
     }
 }
 
 // The clock that is made of one parent; None where the parent is full.
-pub(crate) fn raised_of(clock: &Clock, own: &ReplicaUid) -> Result<Option<Clock>, Memory>
-    ensures { IfOk result (λ r. r ≡ made_clock own.now (clock.now ∷ [])) }
+fn raised_of(clock: Clock, own: &ReplicaUid) -> Result<Option<Clock>, Memory>
+    ensures { IfOk result (λ r. r ≡ made_clock own.now (clock ∷ [])) }
 {
-    match clock.next(own) {
+    match clock.raise(own) {
         Ok(raised) => Ok(Some(raised)),
         Err(NextFault::ClockFull) => Ok(None),
         Err(NextFault::Memory) => Err(Memory),
@@ -46,7 +46,7 @@ fn joined_of(clocks: &[Clock]) -> Result<Option<Clock>, Memory>
     let mut all = clocks[place].copy()?;
     while place > 0 {
         place -= 1;
-        match joined_with(&clocks[place], &all)? {
+        match joined_with(&clocks[place], all)? {
             Some(clock) => all = clock,
             None => return Ok(None),
         }
@@ -54,13 +54,13 @@ fn joined_of(clocks: &[Clock]) -> Result<Option<Clock>, Memory>
     Ok(Some(all))
 }
 
-// The join of two clocks; None where it has more than 64 entries.
-fn joined_with(one: &Clock, other: &Clock) -> Result<Option<Clock>, Memory>
+// The join of a clock with all that were joined before; None where it has more than 64 entries.
+fn joined_with(one: &Clock, all: Clock) -> Result<Option<Clock>, Memory>
     ensures { IfOk result (λ o. MatchOption o
-        (64 < length (join (counts one.now) (counts other.now)).entries)
-        (λ z. counts z ≡ join (counts one.now) (counts other.now))) }
+        (64 < length (join (counts one.now) (counts all)).entries)
+        (λ z. counts z ≡ join (counts one.now) (counts all))) }
 {
-    match one.join(other) {
+    match one.join_into(all) {
         Ok(clock) => Ok(Some(clock)),
         Err(JoinFault::TooMany) => Ok(None),
         Err(JoinFault::Memory) => Err(Memory),

@@ -5,7 +5,7 @@ use Rattle.std.specs.Prelude.{nat_le, ◌^◌}
 use Rattle.std.specs.Cmp.Lexicographic.{nat_list_cmp_total}
 use Rattle.std.specs.FinMap.Entries.{find, is_sorted, below_all, length-put}
 use Rattle.vector_rev.specs.Counts.{Uid, uid_cmp, same_uid, Entries, Counts, count, count_in, is_counts, raised, raised_entries, raised_well, join, joined_entries, joined_well, list_all-put, both, first, second, T_true, true_T}
-use Rattle.vector_rev.specs.Clock.{Clock, count_of, counts, is_uid, is_entry, is_clock, is_counts-is_clock, Covers, covers, Dominates, dominates, same_record}
+use Rattle.vector_rev.specs.Clock.{Clock, count_of, counts, is_uid, is_entry, is_clock, Covers, covers, Dominates, dominates, same_record}
 use Rattle.vector_rev.specs.Compare.{Compares, order_of, same_entry, same}
 use Rattle.vector_rev.specs.declared.compare.Order.{Order}
 use Rattle.vector_rev.specs.declared.compare.Order.TheVariants as answer
@@ -214,27 +214,6 @@ counts-joined x y z e = same_counts_record (counts z) (join (counts x) (counts y
 
 pub occurring-joined : (x y : Clock) (es : Entries) → es ≡ joined_entries x.entries y.entries → occurring x y ≡ length es
 occurring-joined x y es e = sym (ap length e ∙ length-join x y)
-
--- joined with one entry that is greater, the clock is raised
-pub joined-one : (x : Clock) (own : Uid) (n : ℕ) → n ≡ count_of x own + 1 → T (is_clock ((own, n) ∷ [])) → joined_entries x.entries ((own, n) ∷ []) ≡ raised_entries x.entries own
-joined-one x own n e one =
-    same_entries-count (joined_entries x.entries ((own, n) ∷ [])) (raised_entries x.entries own)
-    (joined_well x.entries _ (second (is_sorted uid_cmp x.entries) _ (counts x).well) (is_counts-is_clock ((own, n) ∷ []) one))
-    (raised_well x.entries own (counts x).well)
-    (λ u. count_in-joined u x.entries ((own, n) ∷ []) ∙ at u ∙ sym (count-raised (counts x) own u))
-  where
-    above : (m k : ℕ) → k ≡ m + 1 → max m k ≡ suc m
-    above m k h = omega arith
-
-    zero_under : (m : ℕ) → max m 0 ≡ m
-    zero_under m = omega arith
-
-    at : (u : Uid) → max (count_in x.entries u) (unwrap_or (cond (same_uid u own) (Some n) None) 0) ≡ cond (same_uid u own) (suc (count_of x own)) (count_of x u)
-    at u =
-        elim (same_uid u own) as (λ b. same_uid u own ≡ b → max (count_in x.entries u) (unwrap_or (cond b (Some n) None) 0) ≡ cond b (suc (count_of x own)) (count_of x u)) [
-          | true ↦ λ t. ap (λ v. max (count_in x.entries v) n) (same_uid-tied u own t) ∙ above (count_of x own) n e
-          | false ↦ λ _. zero_under (count_of x u)
-        ] refl
 
 pub is_clock-raised : (x : Clock) (own : Uid) (n : ℕ) (es : Entries) → HasRoom x own n → T (is_entry (own, n)) → es ≡ raised_entries x.entries own → T (is_clock es)
 is_clock-raised x own n es room entry e =

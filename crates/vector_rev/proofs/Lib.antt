@@ -1,8 +1,7 @@
 pub mod CountsLaws
 pub mod ClockLaws
 pub mod Walks
-pub mod Merge
-pub mod Raising
+pub mod Putting
 pub mod Reading
 pub mod Spelling
 pub mod RoundTrip

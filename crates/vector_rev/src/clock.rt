@@ -6,7 +6,6 @@ ghost use Rattle.vector_rev.specs.Clock.{count_of, is_clock};
 ghost use Rattle.vector_rev.specs.Made.{IsFirst};
 
 use crate::ClockEntry;
-use crate::join::push_copies;
 use std::alloc::Global;
 use std::marker::Model;
 use u1_base::{Items, Memory, ReplicaUid};
@@ -44,8 +43,17 @@ impl Clock {
     pub fn copy(&self) -> Result<Clock, Memory>
         ensures { IfOk result (λ z. z ≡ self.now) }
     {
-        let mut entries = Vec::with_capacity(*self.entries.allocator(), self.entries.len())?;
-        push_copies(&mut entries, self.entries.as_slice())?;
+        self.copy_with_capacity(self.entries.len())
+    }
+
+    // The same clock, with room for that many entries.
+    pub(crate) fn copy_with_capacity(&self, capacity: usize) -> Result<Clock, Memory>
+        ensures { IfOk result (λ z. z ≡ self.now) }
+    {
+        let mut entries = Vec::with_capacity(*self.entries.allocator(), capacity)?;
+        for entry in self.entries.as_slice() {
+            entries.push(entry.copy()?)?;
+        }
         Ok(Clock { entries })
     }
 

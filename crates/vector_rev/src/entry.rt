@@ -1,5 +1,5 @@
 //! One entry of a clock.
-ghost use Rattle.std.specs.Prelude.{◌≡◌, IfOk};
+ghost use Rattle.std.specs.Prelude.{◌≡◌, IfOk, max};
 ghost use Rattle.u1_base.specs.Ids.{IsId};
 ghost use Rattle.u1_base.specs.declared.ids.Form.TheVariants as form_of;
 
@@ -46,6 +46,13 @@ impl ClockEntry {
         ensures { result ≡ self.now.1 }
     {
         self.counter
+    }
+
+    // Takes the counter, unless its own is greater.
+    pub(crate) fn raise_to(&mut self, counter: u64)
+        ensures { self.new ≡ (self.old.0, max counter self.old.1) }
+    {
+        self.counter = counter.max(self.counter);
     }
 
     pub fn copy(&self) -> Result<ClockEntry, Memory>

@@ -1,12 +1,11 @@
 //! Clocks made of others: the join of two clocks, and a clock with one counter raised.
-ghost use Rattle.std.specs.Prelude.{◌≡◌, ◌++◌, IfOk, MatchOption, OnOk, T};
-ghost use Rattle.vector_rev.specs.Clock.{counts, is_clock};
-ghost use Rattle.vector_rev.specs.Counts.{join, joined_entries, raised};
+ghost use Rattle.std.specs.Prelude.{◌≡◌, IfOk, MatchOption};
+ghost use Rattle.vector_rev.specs.Clock.{counts};
+ghost use Rattle.vector_rev.specs.Counts.{join, raised};
 ghost use Rattle.vector_rev.specs.Made.{HasRoom, IsFull, Joins, Raises};
 
-use crate::{Clock, ClockEntry};
-use std::alloc::Global;
-use std::cmp::Ordering;
+use crate::Clock;
+use crate::places::{put_each, put_greater};
 use u1_base::limits::{GREATEST_COUNT, MOST_CLOCK_ENTRIES};
 use u1_base::{Memory, ReplicaUid};
 
@@ -54,8 +53,16 @@ impl Clock {
         ensures counters { Joins self.now other.now result }
         ensures value { IfOk result (λ z. counts z ≡ join (counts self.now) (counts other.now)) }
     {
-        let alloc = *self.entries.allocator();
-        let entries = joined(alloc, self.entries(), other.entries())?;
+        self.join_into(other.copy()?)
+    }
+
+    /// The join with a clock that is consumed. It takes memory for the entries alone that are new to that clock.
+    pub fn join_into(&self, all: Clock) -> Result<Clock, JoinFault>
+        ensures counters { Joins self.now all result }
+        ensures value { IfOk result (λ z. counts z ≡ join (counts self.now) (counts all)) }
+    {
+        let Clock { mut entries } = all;
+        put_each(&mut entries, self.entries())?;
         if entries.len() > MOST_CLOCK_ENTRIES {
             return Err(JoinFault::TooMany);
         }
@@ -67,12 +74,23 @@ impl Clock {
         ensures counters { Raises self.now own.now result }
         ensures value { IfOk result (λ z. counts z ≡ raised (counts self.now) own.now) }
     {
+        self.copy_with_capacity(self.entries().len() + 1)?
+            .raise(own)
+    }
+
+    /// The clock itself, with the own counter raised by one. It takes memory for an own entry alone that is new.
+    pub fn raise(self, own: &ReplicaUid) -> Result<Clock, NextFault>
+        ensures counters { Raises self own.now result }
+        ensures value { IfOk result (λ z. counts z ≡ raised (counts self) own.now) }
+    {
         let Some(counter) = self.raised_counter(own) else {
             return Err(NextFault::ClockFull);
         };
-        let raised = [ClockEntry::new(own.copy()?, counter)];
-        let alloc = *self.entries.allocator();
-        let entries = joined(alloc, self.entries(), &raised)?;
+        // Lending the text is what tells the proof that the uid is an id.
+        let _text = own.as_str();
+        let Clock { mut entries } = self;
+        let end = entries.len();
+        put_greater(&mut entries, end, own, counter)?;
         Ok(Clock { entries })
     }
 
@@ -89,50 +107,4 @@ impl Clock {
         }
         Some(count + 1)
     }
-}
-
-// The entries of two clocks, of each uid with the greater counter.
-fn joined(
-    alloc: Global,
-    left: &[ClockEntry],
-    right: &[ClockEntry],
-) -> Result<Vec<ClockEntry>, Memory>
-    requires left { T (is_clock left.now) }
-    requires right { T (is_clock right.now) }
-    ensures { IfOk result (λ v. v.items ≡ joined_entries left.now right.now) }
-{
-    let mut entries = Vec::with_capacity(alloc, left.len().max(right.len()))?;
-    let (mut i, mut j) = (0, 0);
-    while i < left.len() && j < right.len() {
-        let (x, y) = (&left[i], &right[j]);
-        match x.uid().cmp(y.uid()) {
-            Ordering::Less => {
-                entries.push(x.copy()?)?;
-                i += 1;
-            }
-            Ordering::Greater => {
-                entries.push(y.copy()?)?;
-                j += 1;
-            }
-            Ordering::Equal => {
-                let counter = x.counter().max(y.counter());
-                entries.push(ClockEntry::new(x.uid().copy()?, counter))?;
-                i += 1;
-                j += 1;
-            }
-        }
-    }
-    push_copies(&mut entries, &left[i..])?;
-    push_copies(&mut entries, &right[j..])?;
-    Ok(entries)
-}
-
-// Adds copies of the entries at the end. At an error some of them may have been added.
-pub(crate) fn push_copies(into: &mut Vec<ClockEntry>, entries: &[ClockEntry]) -> Result<(), Memory>
-    ensures { OnOk result (into.new.items ≡ into.old.items ++ entries.now) }
-{
-    for entry in entries {
-        into.push(entry.copy()?)?;
-    }
-    Ok(())
 }

@@ -9,6 +9,7 @@ mod compare;
 mod entry;
 mod join;
 mod laws;
+mod places;
 mod read;
 #[cfg(test)]
 mod tests;

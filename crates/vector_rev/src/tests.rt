@@ -335,3 +335,28 @@ fn full_clocks_stay(rt: HostRuntime) -> Result<(), Fail> {
     assert_eq!(rt; almost.next(&uid(alloc, "v")?)?.entries().len(), 64);
     Ok(())
 }
+
+#[test]
+fn joins_and_raises_in_place(rt: HostRuntime) -> Result<(), Fail> {
+    let alloc = rt.alloc();
+    let mut all = clock(alloc, "b:2|d:1")?;
+    for text in ["a:1|e:3", "c:7|d:9", "b:1"] {
+        all = clock(alloc, text)?.join_into(all)?;
+    }
+    assert_eq!(rt; all.text()?.as_str(), "a:1|b:2|c:7|d:9|e:3");
+    let raised = all.raise(&uid(alloc, "d")?)?.raise(&uid(alloc, "aa")?)?;
+    assert_eq!(rt; raised.text()?.as_str(), "a:1|aa:1|b:2|c:7|d:10|e:3");
+    let left = clock(alloc, many(alloc, "b", 32)?.as_str())?;
+    let full = left.join_into(clock(alloc, many(alloc, "a", 32)?.as_str())?)?;
+    assert_eq!(rt; full.entries().len(), 64);
+    let one_more = clock(alloc, "aa:1")?;
+    assert_eq!(rt;
+        one_more.join_into(full.copy()?).err(),
+        Some(JoinFault::TooMany)
+    );
+    assert_eq!(rt;
+        full.raise(&uid(alloc, "aa")?).err(),
+        Some(NextFault::ClockFull)
+    );
+    Ok(())
+}

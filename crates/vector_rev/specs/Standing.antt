@@ -1,0 +1,20 @@
+-- Where a uid stands, or would stand, among entries in order.
+use Rattle.std.specs.Prelude.{◌≡◌, ℕ, ◌-◌, ◌<◌, ◌≤◌, length}
+use Rattle.std.specs.List.{HoldsAt}
+use Rattle.std.proofs.Common.{Less}
+use Rattle.vector_rev.specs.Counts.{Uid, uid_cmp, Entries}
+
+-- the uid is below the entry at a place, if there is one
+pub record IsAbove (u : Uid) (es : Entries) (place : ℕ) : Type 0 where
+  pub within : place ≤ length es
+  pub after : place < length es → HoldsAt (λ e. uid_cmp u e.0 ≡ Less) es place
+
+-- the uid has an entry at a place
+pub record StandsAt (u : Uid) (es : Entries) (place : ℕ) : Type 0 where
+  pub within : place < length es
+  pub same : HoldsAt (λ e. u ≡ e.0) es place
+
+-- the uid is below the entry at a place, and above the one before it
+pub record FitsAt (u : Uid) (es : Entries) (place : ℕ) : Type 0 where
+  pub above : IsAbove u es place
+  pub before : 0 < place → HoldsAt (λ e. uid_cmp e.0 u ≡ Less) es (place - 1)
