@@ -104,5 +104,10 @@ fn adapts_readers_and_writers(rt: HostRuntime) -> Result<(), Fail> {
     assert_eq!(rt; bytes.as_slice(), b"to a file".as_slice());
     let mut closed = StdSink::new(File::open(&rt, "streams")?);
     assert_eq!(rt; closed.put(b"x"), Err(WriteFailed));
+    // What a buffer holds back fails only when it is flushed.
+    let file = File::open(&rt, "streams")?;
+    let mut held_back = StdSink::new(BufWriter::new(alloc, file)?);
+    assert_eq!(rt; held_back.put(b"x"), Ok(()));
+    assert_eq!(rt; held_back.flush(), Err(WriteFailed));
     Ok(())
 }
