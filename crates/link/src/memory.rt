@@ -110,11 +110,13 @@ impl MemSink {
 }
 
 impl Sink for MemSink {
-    ghost use Rattle.std.specs.Prelude.{Some, ⊤};
+    ghost use Rattle.std.specs.Prelude.{false, Some, ⊤};
 
     ghost taken = { λ s. Some s.bytes };
 
     ghost write_faults = { λ s. s.faults };
+
+    ghost held = { λ _. false };
 
     ghost put_keeps = { λ _ _. ⊤ };
 
@@ -181,11 +183,13 @@ impl Source for MemConn {
 }
 
 impl Sink for MemConn {
-    ghost use Rattle.std.specs.Prelude.{◌≡◌, Some};
+    ghost use Rattle.std.specs.Prelude.{◌≡◌, false, Some};
 
     ghost taken = { λ c. Some c.sink.bytes };
 
     ghost write_faults = { λ c. c.sink.faults };
+
+    ghost held = { λ _. false };
 
     ghost put_keeps = { λ a b. b.source ≡ a.source };
 
@@ -204,9 +208,9 @@ impl Sink for MemConn {
 }
 
 impl Conn for MemConn {
-    ghost use Rattle.std.proofs.Common.{Some, ap};
+    ghost use Rattle.std.proofs.Common.{Some, ap, refl};
 
-    ghost read_leaves_sink = { λ a b same. (ap (λ s. Some s.bytes) same, ap (λ s. s.faults) same) };
+    ghost read_leaves_sink = { λ a b same. (ap (λ s. Some s.bytes) same, ap (λ s. s.faults) same, refl) };
 
     ghost put_leaves_source = { λ a b same. (ap (λ s. Some s.bytes) same, ap (λ s. s.faults) same) };
 }

@@ -1,5 +1,5 @@
 //! Where bytes go.
-ghost use Rattle.std.specs.Prelude.{List, ℕ, Option, OnOk, OnErr, take};
+ghost use Rattle.std.specs.Prelude.{◌≡◌, Bool, false, List, ℕ, Option, OnOk, OnErr, take};
 ghost use Rattle.std.specs.Io.KnownBytes.{Appends, Keeps};
 ghost use Rattle.u1_base.specs.Causes.{HasCause};
 
@@ -15,6 +15,9 @@ pub trait Sink {
     /// How many writes failed. It never falls.
     ghost write_faults: { Self → ℕ };
 
+    /// Whether some of what was taken may still be held back.
+    ghost held: { Self → Bool };
+
     /// What a put leaves alone of an object that is more than a sink.
     ghost put_keeps: { Self → Self → Type 0 };
 
@@ -27,6 +30,7 @@ pub trait Sink {
 
     /// Hands on what was taken and is still held back. Only after it a failure of the device is known.
     fn flush(&mut self) -> Result<(), WriteFailed>
+        ensures handed_on { OnOk result (held self.new ≡ false) }
         ensures same { Keeps (taken self.old) (taken self.new) }
         ensures cause { HasCause (write_faults self.old) (write_faults self.new) result }
         ensures keeps { put_keeps self.old self.new };
