@@ -11,7 +11,7 @@ use Rattle.content.specs.Faults.{fault_of, value_of}
 use Rattle.replica_cli.specs.Body.{created_body}
 use Rattle.replica_cli.specs.Lines.{create_line, init_line}
 use Rattle.replica_cli.specs.Printed.{Prints, printed_text}
-use Rattle.replica_cli.specs.Seen.{Known, Seen}
+use Rattle.replica_cli.specs.Seen.{Known, Output, Seen}
 use Rattle.replica_cli.specs.Words.{IsCommand, IsUsage}
 use Rattle.replica_cli.specs.declared.outcome.Outcome.{Outcome}
 use Rattle.replica_cli.specs.declared.outcome.Outcome.TheVariants.{Done, Usage, BadContent, Refused, Damaged, StoreFull, DiskFault, SourceFault, Memory}
@@ -132,7 +132,7 @@ pub record Decides (words : List (List ℕ)) (seed : ℕ) (before after : Seen) 
   pub ends : Ends words seed stored given before after outcome text
 
 -- the run: a decision, and its text on the output
-pub record Runs (words : List (List ℕ)) (seed : ℕ) (before after : Seen) (out_before out_after : Known) (outcome : Outcome) : Type 0 where
+pub record Runs (words : List (List ℕ)) (seed : ℕ) (before after : Seen) (out_before out_after : Output) (outcome : Outcome) : Type 0 where
   pub decided : Outcome
   pub text : List ℕ
   pub decides : Decides words seed before after decided text

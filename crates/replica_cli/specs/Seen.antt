@@ -6,6 +6,12 @@ pub record Known : Type 0 where
   pub bytes : Option (List ℕ)
   pub faults : ℕ
 
+-- of the output: the same, and whether some of what it took may still be held back
+pub record Output : Type 0 where
+  pub bytes : Option (List ℕ)
+  pub faults : ℕ
+  pub held : Bool
+
 -- of the disk and the input
 pub record Seen : Type 0 where
   pub disk : Known

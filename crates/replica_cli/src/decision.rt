@@ -18,8 +18,8 @@ pub struct Decision {
 /// Prints the decision's text, and says how the run ends.
 pub fn answer<K: Sink>(alloc: Global, decision: Decision, out: &mut K) -> Outcome
     ensures { Prints (printed_text decision.outcome (string_bytes decision.text))
-        (record { bytes = K.taken out.old; faults = K.write_faults out.old })
-        (record { bytes = K.taken out.new; faults = K.write_faults out.new })
+        (record { bytes = K.taken out.old; faults = K.write_faults out.old; held = K.held out.old })
+        (record { bytes = K.taken out.new; faults = K.write_faults out.new; held = K.held out.new })
         decision.outcome result }
 {
     let Decision { outcome, text } = decision;

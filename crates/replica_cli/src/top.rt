@@ -30,8 +30,8 @@ pub fn run<D: Disk, S: Source, K: Sink>(
     ensures { Runs words.now seed
         (seen_of D.tells (D.seen disk) (D.faults disk) (S.left input.old) (S.read_faults input.old))
         (seen_of D.tells (D.seen result.1) (D.faults result.1) (S.left input.new) (S.read_faults input.new))
-        (record { bytes = K.taken out.old; faults = K.write_faults out.old })
-        (record { bytes = K.taken out.new; faults = K.write_faults out.new })
+        (record { bytes = K.taken out.old; faults = K.write_faults out.old; held = K.held out.old })
+        (record { bytes = K.taken out.new; faults = K.write_faults out.new; held = K.held out.new })
         result.0 }
 {
     let mut disk = disk;
