@@ -3,3 +3,4 @@ pub mod Histories
 pub mod Runs
 pub mod Syncs
 pub mod Choices
+pub mod Counts

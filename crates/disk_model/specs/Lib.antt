@@ -1,4 +1,5 @@
 pub mod Disk
+pub mod Counts
 pub mod Moments
 pub mod Log
 pub mod Losses

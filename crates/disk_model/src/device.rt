@@ -26,8 +26,9 @@ pub trait Disk {
     ghost use Rattle.u1_base.specs.Causes.{HasCause};
     ghost use Rattle.disk_model.specs.Disk.{Unsynced, IsCrashImage, settled, wrote, was_cut, overwritten, Torn, Cut};
     ghost use Rattle.disk_model.specs.Moments.{Beside, Moment, Took, Looked, TookOrNot};
+    ghost use Rattle.disk_model.specs.Counts.{called};
 
-    /// Whether it tells what it holds. Where it does not, only its count of faults is known.
+    /// Whether it tells what it holds. Where it does not, only its counts of calls and of faults are known.
     ghost tells: { Bool };
 
     /// What a read gives.
@@ -42,6 +43,9 @@ pub trait Disk {
     /// The earlier moments.
     ghost past: { Self → List Moment };
 
+    /// How many calls it was given, as far as a u64 counts.
+    ghost made: { Self → ℕ };
+
     /// How often it failed.
     ghost faults: { Self → ℕ };
 
@@ -50,6 +54,7 @@ pub trait Disk {
         ensures value { IsTrue tells → IfOk result (λ n. n ≡ length (seen self.old)) }
         ensures seen { IsTrue tells → seen self.new ≡ seen self.old }
         ensures crash { IsTrue tells → Looked now beside past self.old self.new }
+        ensures counted { made self.new ≡ called 1 (made self.old) }
         ensures cause { HasCause (faults self.old) (faults self.new) result };
 
     /// Fills `into` with the bytes from `at` on.
@@ -58,6 +63,7 @@ pub trait Disk {
         ensures bytes { IsTrue tells → OnOk result (into.new ≡ take (length into.old) (drop at (seen self.old))) }
         ensures seen { IsTrue tells → seen self.new ≡ seen self.old }
         ensures crash { IsTrue tells → Looked now beside past self.old self.new }
+        ensures counted { made self.new ≡ called 1 (made self.old) }
         ensures cause { HasCause (faults self.old) (faults self.new) result };
 
     /// Writes over what stands at `at`, and past the end where the bytes reach further.
@@ -67,6 +73,7 @@ pub trait Disk {
         ensures torn { IsTrue tells → OnErr result (Torn at (length bytes.now) (seen self.old) (seen self.new)) }
         ensures crash { IsTrue tells → OnOk result (Took now beside past self.old self.new (wrote at (length bytes.now) (now self.old))) }
         ensures crash_err { IsTrue tells → OnErr result (TookOrNot now beside past self.old self.new (wrote at (length bytes.now) (now self.old))) }
+        ensures counted { made self.new ≡ called 1 (made self.old) }
         ensures cause { HasCause (faults self.old) (faults self.new) result };
 
     /// Shortens to so many bytes.
@@ -76,6 +83,7 @@ pub trait Disk {
         ensures torn { IsTrue tells → OnErr result (Cut to (seen self.old) (seen self.new)) }
         ensures crash { IsTrue tells → OnOk result (Took now beside past self.old self.new (was_cut to (now self.old))) }
         ensures crash_err { IsTrue tells → OnErr result (TookOrNot now beside past self.old self.new (was_cut to (now self.old))) }
+        ensures counted { made self.new ≡ called 1 (made self.old) }
         ensures cause { HasCause (faults self.old) (faults self.new) result };
 
     /// The barrier: after it a crash leaves what a read gives.
@@ -83,6 +91,7 @@ pub trait Disk {
         ensures seen { IsTrue tells → seen self.new ≡ seen self.old }
         ensures durable { IsTrue tells → OnOk result (Took now beside past self.old self.new (settled (seen self.old))) }
         ensures crash_err { IsTrue tells → OnErr result (Looked now beside past self.old self.new) }
+        ensures counted { made self.new ≡ called 1 (made self.old) }
         ensures cause { HasCause (faults self.old) (faults self.new) result };
 
     /// What a read gives is one of the images.

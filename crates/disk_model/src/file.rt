@@ -1,6 +1,7 @@
 //! The adapter to a file. It tells nothing of the file's content: what a file does between two calls is trusted.
 ghost use Rattle.std.specs.Prelude.{◌≡◌, ◌≤◌};
 ghost use Rattle.u1_base.specs.Causes.{HasCause, Rose};
+ghost use Rattle.disk_model.specs.Counts.{called};
 
 use crate::{Disk, DiskFailed};
 use std::fs::{File, Files, OpenOptions, TryLockError};
@@ -29,12 +30,14 @@ pub struct FileDisk<R: Files<File = File> + Clock + Drop> {
     // Whether the file was created and its folder is not yet synced.
     is_new: bool,
     pub(crate) tries: u32,
+    made: u64,
     faults: u64,
 }
 
 impl<R: Files<File = File> + Clock + Drop> FileDisk<R> {
     pub fn new(rt: R, path: Text) -> FileDisk<R>
-        ensures { result.faults ≡ 0 }
+        ensures made { result.made ≡ 0 }
+        ensures faults { result.faults ≡ 0 }
     {
         FileDisk {
             rt,
@@ -42,14 +45,17 @@ impl<R: Files<File = File> + Clock + Drop> FileDisk<R> {
             file: None,
             is_new: false,
             tries: LOCK_TRIES,
+            made: 0,
             faults: 0,
         }
     }
 
-    // The file, taken out for one call; `answer` puts it back.
+    // The file, taken out for one call, which is counted; `answer` puts it back.
     fn opened(&mut self) -> Result<File, DiskFailed>
-        ensures { HasCause self.old.faults self.new.faults result }
+        ensures counted { self.new.made ≡ called 1 self.old.made }
+        ensures cause { HasCause self.old.faults self.new.faults result }
     {
+        self.made = self.made.saturating_add(1);
         match self.file.take() {
             Some(file) => Ok(file),
             None => match self.open() {
@@ -63,7 +69,8 @@ impl<R: Files<File = File> + Clock + Drop> FileDisk<R> {
     }
 
     fn open(&mut self) -> io::Result<File>
-        ensures { self.new.faults ≡ self.old.faults }
+        ensures made { self.new.made ≡ self.old.made }
+        ensures faults { self.new.faults ≡ self.old.faults }
     {
         let path = self.path.as_str();
         let file = match OpenOptions::new()
@@ -96,7 +103,8 @@ impl<R: Files<File = File> + Clock + Drop> FileDisk<R> {
 
     // Syncs the file, and after a creation its folder too, so that the file is found again.
     fn settle(&mut self, file: &File) -> io::Result<()>
-        ensures { self.new.faults ≡ self.old.faults }
+        ensures made { self.new.made ≡ self.old.made }
+        ensures faults { self.new.faults ≡ self.old.faults }
     {
         if self.is_new {
             file.sync_all()?;
@@ -108,6 +116,7 @@ impl<R: Files<File = File> + Clock + Drop> FileDisk<R> {
     }
 
     fn count_fault(&mut self)
+        ensures made { self.new.made ≡ self.old.made }
         ensures later { self.old.faults ≤ self.new.faults }
         ensures rose { Rose self.old.faults self.new.faults }
     {
@@ -115,7 +124,8 @@ impl<R: Files<File = File> + Clock + Drop> FileDisk<R> {
     }
 
     fn answer<T: Drop>(&mut self, file: File, done: io::Result<T>) -> Result<T, DiskFailed>
-        ensures { HasCause self.old.faults self.new.faults result }
+        ensures made { self.new.made ≡ self.old.made }
+        ensures cause { HasCause self.old.faults self.new.faults result }
     {
         self.file = Some(file);
         match done {
@@ -155,6 +165,8 @@ impl<R: Files<File = File> + Clock + Drop> Disk for FileDisk<R> {
     ghost beside = { λ _. ([], []) };
 
     ghost past = { λ _. [] };
+
+    ghost made = { λ d. d.made };
 
     ghost faults = { λ d. d.faults };
 

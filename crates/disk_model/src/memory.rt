@@ -18,6 +18,7 @@ pub struct MemDisk {
     bytes: Vec<u8>,
     log: Vec<Call>,
     failing: Numbers,
+    made: u64,
     faults: u64,
     ghost image: { IsCrashImage (now_of log.items bytes.items) bytes.items } by { Prim.hlevel props },
 }
@@ -26,6 +27,7 @@ impl MemDisk {
     ghost use Rattle.std.specs.Prelude.{◌≡◌, ◌+◌, ◌<◌, ◌≤◌, ◌⊎◌, [], IfOk, length};
     ghost use Rattle.disk_model.specs.Disk.{IsCrashImage, settled};
     ghost use Rattle.u1_base.specs.Causes.{HasCause, Rose};
+    ghost use Rattle.disk_model.specs.Counts.{called};
     ghost use Rattle.disk_model.specs.Moments.{Looked, lost_at};
     ghost use Rattle.disk_model.specs.MemDisk.{mem_beside, mem_left, mem_left_after, mem_now, mem_past, mem_seen};
 
@@ -34,12 +36,14 @@ impl MemDisk {
         ensures seen { mem_seen result ≡ bytes }
         ensures now { mem_now result ≡ settled bytes }
         ensures past { mem_past result ≡ [] }
+        ensures made { result.made ≡ 0 }
         ensures faults { result.faults ≡ 0 }
     {
         MemDisk {
             bytes: bytes.into_vec(),
             log: Vec::new(alloc),
             failing,
+            made: 0,
             faults: 0,
         }
     }
@@ -82,12 +86,16 @@ impl MemDisk {
         image_at(alloc, &self.log, &self.bytes, moment, choice)
     }
 
-    // Whether the next call is one that is to fail.
-    fn is_to_fail(&self) -> bool {
+    // Counts a call, and tells whether it is one that is to fail.
+    fn begin(&mut self) -> bool
+        ensures { self.new ≡ record self.old { made = called 1 self.old.made } }
+    {
+        self.made = self.made.saturating_add(1);
         self.failing.as_slice().contains(&(self.log.len() as u64))
     }
 
     fn count_fault(&mut self)
+        ensures made { self.new.made ≡ self.old.made }
         ensures bytes { self.new.bytes ≡ self.old.bytes }
         ensures log { self.new.log ≡ self.old.log }
         ensures later { self.old.faults ≤ self.new.faults }
@@ -100,9 +108,10 @@ impl MemDisk {
     fn look(&mut self) -> Result<(), DiskFailed>
         ensures seen { mem_seen self.new ≡ mem_seen self.old }
         ensures crash { Looked mem_now mem_beside mem_past self.old self.new }
+        ensures counted { self.new.made ≡ called 1 self.old.made }
         ensures cause { HasCause self.old.faults self.new.faults result }
     {
-        if self.is_to_fail() {
+        if self.begin() {
             self.fail_early();
             return Err(DiskFailed);
         }
@@ -119,6 +128,7 @@ impl MemDisk {
     fn fail_early(&mut self)
         ensures seen { mem_seen self.new ≡ mem_seen self.old }
         ensures crash { Looked mem_now mem_beside mem_past self.old self.new }
+        ensures made { self.new.made ≡ self.old.made }
         ensures later { self.old.faults ≤ self.new.faults }
         ensures rose { Rose self.old.faults self.new.faults }
     {
@@ -143,6 +153,8 @@ impl Disk for MemDisk {
 
     ghost past = { mem_past };
 
+    ghost made = { λ d. d.made };
+
     ghost faults = { λ d. d.faults };
 
     fn length(&mut self) -> Result<u64, DiskFailed> {
@@ -158,7 +170,7 @@ impl Disk for MemDisk {
     }
 
     fn write_at(&mut self, at: u64, bytes: &[u8]) -> Result<(), DiskFailed> {
-        let fails = self.is_to_fail();
+        let fails = self.begin();
         let put = if fails { bytes.len() / 2 } else { bytes.len() };
         let piece = &bytes[..put];
         match note_write(
@@ -181,7 +193,7 @@ impl Disk for MemDisk {
     }
 
     fn cut(&mut self, to: u64) -> Result<(), DiskFailed> {
-        let fails = self.is_to_fail();
+        let fails = self.begin();
         let to = to as usize;
         let left = if fails {
             self.bytes.len().saturating_sub(to) / 2
@@ -202,7 +214,7 @@ impl Disk for MemDisk {
     }
 
     fn sync(&mut self) -> Result<(), DiskFailed> {
-        if self.is_to_fail() {
+        if self.begin() {
             self.fail_early();
             return Err(DiskFailed);
         }

@@ -1,8 +1,9 @@
 //! Writes, cuts and reads, each with its sync. Nothing above makes a device call of its own.
-ghost use Rattle.std.specs.Prelude.{◌≡◌, ◌<◌, ◌≤◌, IsTrue, IfOk, MatchOption, OnOk, IsErrOf, length, slice_index, take};
+ghost use Rattle.std.specs.Prelude.{◌≡◌, ◌+◌, ◌<◌, ◌≤◌, IsTrue, IfOk, MatchOption, OnOk, IsErrOf, length, slice_index, take};
 ghost use Rattle.u1_base.specs.Causes.{HasCause, Rose};
 ghost use Rattle.disk_model.specs.Disk.{IsAny, IsCrashImage, Cut, Torn, overwritten, settled};
 ghost use Rattle.disk_model.specs.Moments.{LeavesOnly};
+ghost use Rattle.disk_model.specs.Counts.{MakesCalls, called, pieces};
 
 use crate::{Disk, DiskFailed};
 use std::alloc::Global;
@@ -26,6 +27,7 @@ pub fn write_synced<D: Disk>(disk: &mut D, at: u64, bytes: &[u8]) -> Result<(), 
     ensures beside { IsTrue D.tells → D.beside disk.new ≡ D.beside disk.old }
     ensures any_moment { IsTrue D.tells → D.now disk.old ≡ settled (D.seen disk.old)
         → LeavesOnly D.now D.beside D.past disk.old disk.new (Torn at (length bytes.now) (D.seen disk.old)) }
+    ensures calls { MakesCalls 2 (D.made disk.old) (D.made disk.new) result }
     ensures cause { HasCause (D.faults disk.old) (D.faults disk.new) result }
 {
     disk.write_at(at, bytes)?;
@@ -40,6 +42,7 @@ pub fn cut_synced<D: Disk>(disk: &mut D, to: u64) -> Result<(), DiskFailed>
     ensures beside { IsTrue D.tells → D.beside disk.new ≡ D.beside disk.old }
     ensures any_moment { IsTrue D.tells → D.now disk.old ≡ settled (D.seen disk.old)
         → LeavesOnly D.now D.beside D.past disk.old disk.new (Cut to (D.seen disk.old)) }
+    ensures calls { MakesCalls 2 (D.made disk.old) (D.made disk.new) result }
     ensures cause { HasCause (D.faults disk.old) (D.faults disk.new) result }
 {
     disk.cut(to)?;
@@ -52,6 +55,7 @@ pub fn cut_write_synced<D: Disk>(disk: &mut D, bytes: &[u8]) -> Result<(), DiskF
     ensures durable { IsTrue D.tells → OnOk result (D.now disk.new ≡ settled (D.seen disk.new)) }
     ensures beside { IsTrue D.tells → D.beside disk.new ≡ D.beside disk.old }
     ensures any_moment { IsTrue D.tells → LeavesOnly D.now D.beside D.past disk.old disk.new IsAny }
+    ensures calls { MakesCalls 3 (D.made disk.old) (D.made disk.new) result }
     ensures cause { HasCause (D.faults disk.old) (D.faults disk.new) result }
 {
     disk.cut(0)?;
@@ -66,6 +70,8 @@ pub fn read_synced<D: Disk>(alloc: Global, disk: &mut D) -> Result<Bytes, ReadFa
     ensures durable { IsTrue D.tells → OnOk result (D.now disk.new ≡ settled (D.seen disk.new)) }
     ensures beside { IsTrue D.tells → D.beside disk.new ≡ D.beside disk.old }
     ensures any_moment { IsTrue D.tells → LeavesOnly D.now D.beside D.past disk.old disk.new (IsCrashImage (D.now disk.old)) }
+    ensures calls { IfOk result (λ bytes. D.made disk.new ≡ called (2 + pieces (length bytes)) (D.made disk.old)) }
+    ensures most_calls { IsTrue D.tells → D.made disk.new ≤ called (2 + pieces (length (D.seen disk.old))) (D.made disk.old) }
     ensures later { D.faults disk.old ≤ D.faults disk.new }
     ensures failed { IsErrOf result ReadFault.Disk → Rose (D.faults disk.old) (D.faults disk.new) }
 {
@@ -89,6 +95,7 @@ pub fn first_byte<D: Disk>(disk: &mut D) -> Result<Option<u8>, DiskFailed>
     ensures now { IsTrue D.tells → D.now disk.new ≡ D.now disk.old }
     ensures beside { IsTrue D.tells → D.beside disk.new ≡ D.beside disk.old }
     ensures any_moment { IsTrue D.tells → LeavesOnly D.now D.beside D.past disk.old disk.new (IsCrashImage (D.now disk.old)) }
+    ensures most_calls { D.made disk.new ≤ called 2 (D.made disk.old) }
     ensures cause { HasCause (D.faults disk.old) (D.faults disk.new) result }
 {
     if disk.length()? == 0 {
@@ -106,6 +113,7 @@ fn settled_length<D: Disk>(disk: &mut D) -> Result<u64, DiskFailed>
     ensures durable { IsTrue D.tells → OnOk result (D.now disk.new ≡ settled (D.seen disk.new)) }
     ensures beside { IsTrue D.tells → D.beside disk.new ≡ D.beside disk.old }
     ensures any_moment { IsTrue D.tells → LeavesOnly D.now D.beside D.past disk.old disk.new (IsCrashImage (D.now disk.old)) }
+    ensures calls { MakesCalls 2 (D.made disk.old) (D.made disk.new) result }
     ensures cause { HasCause (D.faults disk.old) (D.faults disk.new) result }
 {
     disk.sync()?;
@@ -126,6 +134,7 @@ fn fill<D: Disk>(disk: &mut D, into: &mut [u8]) -> Result<(), DiskFailed>
     ensures now { IsTrue D.tells → D.now disk.new ≡ D.now disk.old }
     ensures beside { IsTrue D.tells → D.beside disk.new ≡ D.beside disk.old }
     ensures any_moment { IsTrue D.tells → LeavesOnly D.now D.beside D.past disk.old disk.new (IsCrashImage (D.now disk.old)) }
+    ensures calls { MakesCalls (pieces (length into.old)) (D.made disk.old) (D.made disk.new) result }
     ensures cause { HasCause (D.faults disk.old) (D.faults disk.new) result }
 {
     let mut at = 0;

@@ -1,10 +1,12 @@
 -- One piece more is read.
-use Rattle.std.proofs.Common.{◌≡◌, ℕ, ◌-◌, ◌≤◌, List, ◌++◌, length, take, drop, ◌∙◌, ap, sym, arith, length-append, length-take, length-drop}
+use Rattle.std.proofs.Common.{◌≡◌, ℕ, ◌+◌, ◌-◌, ◌^◌, ◌<◌, ◌≤◌, min, List, ◌++◌, length, take, drop, ◌∙◌, ap, sym, subst, arith, length-append, length-take, length-drop}
 use Rattle.std.proofs.lemmas.List.{ext_get_or, places}
 use borrow.Rule.Slice.PartMut.{put_mid}
 use Rattle.std.proofs.lemmas.Slice.{take-put_mid}
 use Rattle.disk_model.specs.Disk.{IsCrashImage}
+use Rattle.disk_model.specs.Counts.{called, pieces}
 use Rattle.disk_model.proofs.Runs.{looked, looked_now, looked_beside}
+use Rattle.disk_model.proofs.Counts.{IsPieceEnd, called_again, one_more, next_end}
 use Rattle.disk_model.proofs.synced.fill.Goals as goal
 
 -- a front and the next piece are a longer front
@@ -36,6 +38,9 @@ loop-at-preserved g c =
     let at = c.loop-at.at in let e = c.min-end.result in let into = c.loop-at.into in
     let low : at ≤ e = omega arith in
     let high : e ≤ length into = omega arith in
+    let inside : at < length into = omega arith in
+    let next : e ≡ min (length into) (at + 2 ^ 20) = omega arith in
+    let same_length : length (put_mid at (e - at) into c.read_at.new.into) ≡ length into = simp (length-append, length-take, length-drop, c.read_at.auto.into) (omega arith) in
     record {
       in_range = long_enough at e into c.read_at.new.into low high c.read_at.auto.into;
       so_far = λ t.
@@ -47,5 +52,8 @@ loop-at-preserved g c =
       now = λ t. looked_now d.now d.beside d.past mid new (c.in_ok-read_at.ensures.crash t) ∙ c.loop-at.invariant.now t;
       beside = λ t. looked_beside d.now d.beside d.past mid new (c.in_ok-read_at.ensures.crash t) ∙ c.loop-at.invariant.beside t;
       any_moment = λ t. looked d.now d.beside d.past old mid new (IsCrashImage (d.now old)) (c.loop-at.invariant.any_moment t) (c.in_ok-read_at.ensures.crash t);
+      whole = subst (λ (n : ℕ). IsPieceEnd n e) (sym same_length) (next_end (length into) at e c.loop-at.invariant.whole inside next);
+      made = c.in_ok-read_at.ensures.counted ∙ ap (called 1) c.loop-at.invariant.made ∙ called_again 1 (pieces at) (d.made old)
+          ∙ ap (λ (n : ℕ). called n (d.made old)) (sym (one_more (length into) at e c.loop-at.invariant.whole inside next));
       later = omega (arith, c.in_ok-read_at.ensures.cause.later, c.loop-at.invariant.later);
     }
