@@ -3,6 +3,7 @@ ghost use Rattle.std.specs.Prelude.{◌≡◌, ◌+◌, ◌^◌, ◌<◌, IsTrue
 ghost use Rattle.u1_base.specs.Causes.{HasCause};
 ghost use Rattle.disk_model.specs.Disk.{overwritten, settled};
 ghost use Rattle.disk_model.specs.Moments.{LeavesOnly};
+ghost use Rattle.disk_model.specs.Counts.{MakesCalls};
 ghost use Rattle.journal.specs.Adding.{IsAdding};
 
 use crate::spelling::behind_the_gate;
@@ -41,6 +42,7 @@ impl Journal {
     ghost use Rattle.std.specs.Prelude.{◌≡◌, ◌≢◌, ℕ, ◌+◌, ◌-◌, ◌^◌, ◌<◌, ◌≤◌, ◌⊎◌, IsTrue, Err, OnOk, OnErr, IsErrOf, List, [], ◌∷◌, ◌++◌, length};
     ghost use Rattle.u1_base.specs.Causes.{Rose};
     ghost use Rattle.disk_model.specs.Moments.{LeavesOnly};
+    ghost use Rattle.disk_model.specs.Counts.{MakesCalls};
     ghost use Rattle.journal.specs.Image.{Head, ReadsAs};
     ghost use Rattle.journal.specs.Journal.{Holds, need};
 
@@ -84,6 +86,7 @@ impl Journal {
         ensures full { self.old.limit < need self.old (length body.now) → result ≡ Err (AppendFault.Full (need self.old (length body.now)) self.old.limit) }
         ensures only_full { (n : ℕ) (m : ℕ) → result ≡ Err (AppendFault.Full n m) → (n ≡ need self.old (length body.now)) × (m ≡ self.old.limit) × (m < n) }
         ensures untouched { OnErr result (result ≢ Err AppendFault.Disk → disk.new ≡ disk.old) }
+        ensures calls { MakesCalls 4 (D.made disk.old) (D.made disk.new) result }
         ensures later { D.faults disk.old ≤ D.faults disk.new }
         ensures failed { IsErrOf result AppendFault.Disk → Rose (D.faults disk.old) (D.faults disk.new) }
     {
@@ -117,6 +120,7 @@ fn add_behind<D: Disk>(disk: &mut D, gate: u64, behind: &[u8]) -> Result<(), Dis
     ensures beside { IsTrue D.tells → D.beside disk.new ≡ D.beside disk.old }
     ensures any_moment { IsTrue D.tells → D.now disk.old ≡ settled (D.seen disk.old)
         → LeavesOnly D.now D.beside D.past disk.old disk.new (IsAdding gate behind.now (D.seen disk.old)) }
+    ensures calls { MakesCalls 4 (D.made disk.old) (D.made disk.new) result }
     ensures cause { HasCause (D.faults disk.old) (D.faults disk.new) result }
 {
     write_synced(disk, gate + 1, behind)?;

@@ -1,8 +1,9 @@
 //! Opening an image: the disk is synced, and then read.
-ghost use Rattle.std.specs.Prelude.{◌≡◌, ℕ, ◌≤◌, Err, IsTrue, IfOk, IsErrOf, List};
+ghost use Rattle.std.specs.Prelude.{◌≡◌, ℕ, ◌+◌, ◌≤◌, Err, IsTrue, IfOk, IsErrOf, List, length};
 ghost use Rattle.u1_base.specs.Causes.{Rose};
 ghost use Rattle.disk_model.specs.Disk.{IsCrashImage, settled};
 ghost use Rattle.disk_model.specs.Moments.{LeavesOnly};
+ghost use Rattle.disk_model.specs.Counts.{called, pieces};
 ghost use Rattle.journal.specs.Journal.{Holds};
 ghost use Rattle.journal.specs.Opening.{Opens, head_of};
 
@@ -42,6 +43,7 @@ pub fn open_image<D: Disk>(alloc: Global, disk: &mut D) -> Result<Opened, OpenFa
     ensures seen { IsTrue D.tells → D.seen disk.new ≡ D.seen disk.old }
     ensures beside { IsTrue D.tells → D.beside disk.new ≡ D.beside disk.old }
     ensures any_moment { IsTrue D.tells → LeavesOnly D.now D.beside D.past disk.old disk.new (IsCrashImage (D.now disk.old)) }
+    ensures most_calls { IsTrue D.tells → D.made disk.new ≤ called (2 + pieces (length (D.seen disk.old))) (D.made disk.old) }
     ensures later { D.faults disk.old ≤ D.faults disk.new }
     ensures failed { IsErrOf result OpenFault.Disk → Rose (D.faults disk.old) (D.faults disk.new) }
 {

@@ -3,6 +3,7 @@ ghost use Rattle.std.specs.Prelude.{◌≡◌, ◌≢◌, ◌≤◌, ◌<◌, Er
 ghost use Rattle.u1_base.specs.Causes.{HasCause, Rose};
 ghost use Rattle.disk_model.specs.Disk.{settled};
 ghost use Rattle.disk_model.specs.Moments.{LeavesOnly};
+ghost use Rattle.disk_model.specs.Counts.{called};
 ghost use Rattle.journal.specs.Image.{image};
 ghost use Rattle.journal.specs.Journal.{Holds, IsOnTheWay, IsExtent};
 ghost use Rattle.journal.specs.Restarting.{IsAnew, IsKeptOrSpoilt};
@@ -33,6 +34,7 @@ pub fn restart_image<D: Disk>(
     ensures beside { IsTrue D.tells → D.beside disk.new ≡ D.beside disk.old }
     ensures any_moment { IsTrue D.tells → LeavesOnly D.now D.beside D.past disk.old disk.new (IsOnTheWay (D.seen disk.old) (head_of header.now)) }
     ensures untouched { result ≡ Err ImageFault.Memory → disk.new ≡ disk.old }
+    ensures most_calls { D.made disk.new ≤ called 10 (D.made disk.old) }
     ensures later { D.faults disk.old ≤ D.faults disk.new }
     ensures failed { IsErrOf result ImageFault.Disk → Rose (D.faults disk.old) (D.faults disk.new) }
 {
@@ -53,6 +55,7 @@ fn begin_anew<D: Disk>(disk: &mut D, image: &[u8]) -> Result<(), DiskFailed>
     ensures durable { IsTrue D.tells → OnOk result (D.now disk.new ≡ settled (D.seen disk.new)) }
     ensures beside { IsTrue D.tells → D.beside disk.new ≡ D.beside disk.old }
     ensures any_moment { IsTrue D.tells → LeavesOnly D.now D.beside D.past disk.old disk.new (IsAnew (D.seen disk.old) image.now) }
+    ensures most_calls { D.made disk.new ≤ called 10 (D.made disk.old) }
     ensures cause { HasCause (D.faults disk.old) (D.faults disk.new) result }
 {
     let rest = behind(image, 1);
@@ -70,6 +73,7 @@ fn spoil<D: Disk>(disk: &mut D) -> Result<(), DiskFailed>
     ensures durable { IsTrue D.tells → OnOk result (D.now disk.new ≡ settled (D.seen disk.new)) }
     ensures beside { IsTrue D.tells → D.beside disk.new ≡ D.beside disk.old }
     ensures any_moment { IsTrue D.tells → LeavesOnly D.now D.beside D.past disk.old disk.new (IsKeptOrSpoilt (D.seen disk.old)) }
+    ensures most_calls { D.made disk.new ≤ called 4 (D.made disk.old) }
     ensures cause { HasCause (D.faults disk.old) (D.faults disk.new) result }
 {
     match first_byte(disk)? {

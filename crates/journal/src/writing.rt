@@ -3,6 +3,7 @@ ghost use Rattle.std.specs.Prelude.{◌≡◌, ◌≤◌, Err, IsTrue, IfOk, OnO
 ghost use Rattle.u1_base.specs.Causes.{Rose};
 ghost use Rattle.disk_model.specs.Disk.{IsAny};
 ghost use Rattle.disk_model.specs.Moments.{LeavesOnly};
+ghost use Rattle.disk_model.specs.Counts.{MakesCalls};
 ghost use Rattle.journal.specs.Image.{AreBodies, image};
 ghost use Rattle.journal.specs.Journal.{Holds, IsExtent};
 ghost use Rattle.journal.specs.Opening.{head_of};
@@ -35,6 +36,7 @@ pub fn write_image<D: Disk>(
     ensures beside { IsTrue D.tells → D.beside disk.new ≡ D.beside disk.old }
     ensures any_moment { IsTrue D.tells → LeavesOnly D.now D.beside D.past disk.old disk.new IsAny }
     ensures untouched { result ≡ Err ImageFault.Memory → disk.new ≡ disk.old }
+    ensures calls { MakesCalls 3 (D.made disk.old) (D.made disk.new) result }
     ensures later { D.faults disk.old ≤ D.faults disk.new }
     ensures failed { IsErrOf result ImageFault.Disk → Rose (D.faults disk.old) (D.faults disk.new) }
 {
