@@ -1,6 +1,6 @@
 //! The worked commands: what each prints, how it ends, and the bytes that it leaves.
 use crate::harness::{
-    CONTENT, HEADER, NONE, bytes_of, created_image, disk_of, empty_image, run_on,
+    CONTENT, CREATE, HEADER, INIT, NONE, bytes_of, created_image, disk_of, empty_image, run_on,
 };
 use journal::{Bodies, Header, write_image};
 use replica_cli::{Outcome, outcome_status};
@@ -12,19 +12,13 @@ use u1_base::{Bytes, DbName, Memory, ReplicaUid};
 #[test]
 fn makes_a_store_and_a_document(rt: HostRuntime) -> Result<(), Fail> {
     let alloc = rt.alloc();
-    let made = run_on(alloc, &[".", "init", "db", "a"], &[], b"", NONE)?;
+    let made = run_on(alloc, INIT, &[], b"", NONE)?;
     assert_eq!(rt; made.outcome, Outcome::Done);
     assert_eq!(rt; made.printed.bytes(), b"database db replica a\n".as_slice());
     let empty = empty_image(alloc)?;
     assert_eq!(rt; empty.len(), 24);
     assert_eq!(rt; made.disk.bytes(), empty.as_slice());
-    let created = run_on(
-        alloc,
-        &[".", "create", "d1"],
-        made.disk.bytes(),
-        CONTENT,
-        NONE,
-    )?;
+    let created = run_on(alloc, CREATE, made.disk.bytes(), CONTENT, NONE)?;
     assert_eq!(rt; created.outcome, Outcome::Done);
     assert_eq!(rt; outcome_status(&created.outcome), 0);
     assert_eq!(rt; created.printed.bytes(), b"d1 a:1\n".as_slice());
@@ -135,30 +129,14 @@ fn refuses_by_the_store(rt: HostRuntime) -> Result<(), Fail> {
     refuses(
         &rt,
         alloc,
-        &[".", "init", "db", "a"],
+        INIT,
         empty.as_slice(),
         b"",
         "refused database-exists\n",
         1,
     )?;
-    refuses(
-        &rt,
-        alloc,
-        &[".", "init", "db", "a"],
-        b"x",
-        b"",
-        "refused database-exists\n",
-        1,
-    )?;
-    refuses(
-        &rt,
-        alloc,
-        &[".", "create", "d1"],
-        &[],
-        b"{}",
-        "refused no-database\n",
-        1,
-    )?;
+    refuses(&rt, alloc, INIT, b"x", b"", "refused database-exists\n", 1)?;
+    refuses(&rt, alloc, CREATE, &[], b"{}", "refused no-database\n", 1)?;
     refuses(
         &rt,
         alloc,
@@ -191,15 +169,7 @@ fn refuses_what_is_no_content(rt: HostRuntime) -> Result<(), Fail> {
         (b"{} {}".as_slice(), "bad-content not-json\n"),
         (b"\xff".as_slice(), "bad-content not-json\n"),
     ] {
-        refuses(
-            &rt,
-            alloc,
-            &[".", "create", "d1"],
-            empty.as_slice(),
-            input,
-            line,
-            1,
-        )?;
+        refuses(&rt, alloc, CREATE, empty.as_slice(), input, line, 1)?;
     }
     Ok(())
 }
@@ -220,20 +190,14 @@ fn refuses_an_input_that_is_too_big(rt: HostRuntime) -> Result<(), Fail> {
     let empty = empty_image(alloc)?;
     let largest = letters(alloc, 4_194_304 - 8)?;
     assert_eq!(rt; largest.len(), 4_194_304);
-    let ran = run_on(
-        alloc,
-        &[".", "create", "d1"],
-        empty.as_slice(),
-        largest.as_slice(),
-        NONE,
-    )?;
+    let ran = run_on(alloc, CREATE, empty.as_slice(), largest.as_slice(), NONE)?;
     assert_eq!(rt; ran.outcome, Outcome::Done);
     let larger = letters(alloc, 4_194_304 + 100)?;
     let line = "bad-content too-big 4194305\n";
     refuses(
         &rt,
         alloc,
-        &[".", "create", "d1"],
+        CREATE,
         empty.as_slice(),
         larger.as_slice(),
         line,
@@ -323,13 +287,7 @@ fn a_closed_gate_ends_the_image(rt: HostRuntime) -> Result<(), Fail> {
     let mut shut = bytes_of(alloc, &HEADER)?;
     shut.push(2)?;
     shut.extend(&created.as_slice()[24..])?;
-    let ran = run_on(
-        alloc,
-        &[".", "create", "d1"],
-        shut.as_slice(),
-        CONTENT,
-        NONE,
-    )?;
+    let ran = run_on(alloc, CREATE, shut.as_slice(), CONTENT, NONE)?;
     assert_eq!(rt; ran.outcome, Outcome::Done);
     assert_eq!(rt; ran.disk.bytes(), created.as_slice());
     Ok(())
@@ -349,20 +307,14 @@ fn a_store_is_full_at_its_limit(rt: HostRuntime) -> Result<(), Fail> {
     refuses(
         &rt,
         alloc,
-        &[".", "create", "d1"],
+        CREATE,
         disk.bytes(),
         over.as_slice(),
         "full 4097 4096\n",
         4,
     )?;
     let fits = letters(alloc, 3993)?;
-    let ran = run_on(
-        alloc,
-        &[".", "create", "d1"],
-        disk.bytes(),
-        fits.as_slice(),
-        NONE,
-    )?;
+    let ran = run_on(alloc, CREATE, disk.bytes(), fits.as_slice(), NONE)?;
     assert_eq!(rt; ran.outcome, Outcome::Done);
     assert_eq!(rt; ran.disk.bytes().len(), 4096);
     Ok(())
@@ -375,13 +327,7 @@ fn an_image_of_format_1_is_appended_to_in_format_1(rt: HostRuntime) -> Result<()
     empty.push(1)?;
     empty.extend(&HEADER[8..])?;
     empty.push(0)?;
-    let ran = run_on(
-        alloc,
-        &[".", "create", "d1"],
-        empty.as_slice(),
-        CONTENT,
-        NONE,
-    )?;
+    let ran = run_on(alloc, CREATE, empty.as_slice(), CONTENT, NONE)?;
     assert_eq!(rt; ran.outcome, Outcome::Done);
     assert_eq!(rt; ran.disk.bytes().len(), 102);
     assert_eq!(rt;

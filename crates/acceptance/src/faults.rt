@@ -1,5 +1,5 @@
 //! Each device call failing in turn: the outcome is that device's fault, and nothing that was there is lost.
-use crate::harness::{CONTENT, Failing, NONE, created_image, empty_image, run_on};
+use crate::harness::{CONTENT, CREATE, Failing, INIT, NONE, created_image, empty_image, run_on};
 use replica_cli::Outcome;
 use std::test::Fail;
 
@@ -8,12 +8,8 @@ fn a_failing_disk_is_told(rt: HostRuntime) -> Result<(), Fail> {
     let alloc = rt.alloc();
     let empty = empty_image(alloc)?;
     for (words, stored, input) in [
-        (
-            [".", "init", "db", "a"].as_slice(),
-            [].as_slice(),
-            b"".as_slice(),
-        ),
-        ([".", "create", "d1"].as_slice(), empty.as_slice(), CONTENT),
+        (INIT, [].as_slice(), b"".as_slice()),
+        (CREATE, empty.as_slice(), CONTENT),
     ] {
         let whole = run_on(alloc, words, stored, input, NONE)?;
         assert_eq!(rt; whole.outcome, Outcome::Done);
@@ -34,14 +30,8 @@ fn a_failing_disk_is_told(rt: HostRuntime) -> Result<(), Fail> {
 fn an_append_makes_four_calls(rt: HostRuntime) -> Result<(), Fail> {
     let alloc = rt.alloc();
     let empty = empty_image(alloc)?;
-    let refused = run_on(alloc, &[".", "create", "d1"], empty.as_slice(), b"[]", NONE)?;
-    let created = run_on(
-        alloc,
-        &[".", "create", "d1"],
-        empty.as_slice(),
-        CONTENT,
-        NONE,
-    )?;
+    let refused = run_on(alloc, CREATE, empty.as_slice(), b"[]", NONE)?;
+    let created = run_on(alloc, CREATE, empty.as_slice(), CONTENT, NONE)?;
     assert_eq!(rt; created.disk.calls().wrapping_sub(refused.disk.calls()), 4);
     Ok(())
 }
@@ -55,13 +45,7 @@ fn a_failing_input_is_told(rt: HostRuntime) -> Result<(), Fail> {
             input: &[call],
             ..NONE
         };
-        let ran = run_on(
-            alloc,
-            &[".", "create", "d1"],
-            empty.as_slice(),
-            CONTENT,
-            failing,
-        )?;
+        let ran = run_on(alloc, CREATE, empty.as_slice(), CONTENT, failing)?;
         assert_eq!(rt; ran.outcome, Outcome::SourceFault, "at call {call}");
         assert_eq!(rt; ran.printed.bytes(), b"failed input\n".as_slice());
         assert_eq!(rt; ran.disk.bytes(), empty.as_slice());
@@ -79,13 +63,7 @@ fn a_failing_output_leaves_the_document(rt: HostRuntime) -> Result<(), Fail> {
             output: &[call],
             ..NONE
         };
-        let ran = run_on(
-            alloc,
-            &[".", "create", "d1"],
-            empty.as_slice(),
-            CONTENT,
-            failing,
-        )?;
+        let ran = run_on(alloc, CREATE, empty.as_slice(), CONTENT, failing)?;
         assert_eq!(rt; ran.outcome, Outcome::SinkFault, "at call {call}");
         assert_eq!(rt; ran.printed.bytes(), printed);
         assert_eq!(rt; ran.disk.bytes(), created.as_slice());

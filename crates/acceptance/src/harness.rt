@@ -28,6 +28,11 @@ pub const NONE: Failing<'static> = Failing {
     output: &[],
 };
 
+/// The words of the worked commands.
+pub const INIT: &[&str] = &[".", "init", "db", "a"];
+
+pub const CREATE: &[&str] = &[".", "create", "d1"];
+
 /// The content of the worked commands.
 pub const CONTENT: &[u8] = b"{\"b\":1,\"a\":\"x\"}";
 
