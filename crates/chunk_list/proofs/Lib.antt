@@ -3,6 +3,7 @@ pub mod Each
 pub mod Edits
 pub mod Emptied
 pub mod Found
+pub mod Fronts
 pub mod Halves
 pub mod Pieces
 pub mod Places

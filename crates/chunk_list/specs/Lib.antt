@@ -1,4 +1,5 @@
 pub mod Chunks
+pub mod Fronts
 pub mod Halves
 pub mod Kept
 pub mod Sorted

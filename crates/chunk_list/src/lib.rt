@@ -4,6 +4,7 @@
 #![tactic(auto)]
 
 mod chunks;
+mod front;
 mod list;
 mod search;
 mod starts;
@@ -11,4 +12,5 @@ mod starts;
 mod tests;
 mod touched;
 
+pub use front::number_of;
 pub use list::ChunkList;

@@ -1,5 +1,5 @@
 //! The list against a plain one, and each call on its own.
-use crate::ChunkList;
+use crate::{ChunkList, number_of};
 use std::alloc::Global;
 use std::test::Fail;
 
@@ -268,5 +268,23 @@ fn finds_places(rt: HostRuntime) -> Result<(), Fail> {
         let want = if key < 1000 { key as usize * 2 } else { 2000 };
         assert_eq!(rt; list.find_place(|item| *item / 2 < key), want, "{key}");
     }
+    Ok(())
+}
+
+#[test]
+fn numbers_first_bytes(rt: HostRuntime) -> Result<(), Fail> {
+    assert_eq!(rt; number_of("".as_bytes(), 16), 0);
+    assert_eq!(rt; number_of("ab".as_bytes(), 0), 0);
+    assert_eq!(rt; number_of("ab".as_bytes(), 1), 97);
+    assert_eq!(rt; number_of("ab".as_bytes(), 2), 0x6162);
+    assert_eq!(rt; number_of("ab".as_bytes(), 3), 0x616200);
+    assert_eq!(rt;
+        number_of("abcdefghijklmnopq".as_bytes(), 8),
+        0x6162636465666768
+    );
+    assert_eq!(rt;
+        number_of("abcdefghijklmnopq".as_bytes(), 16),
+        0x6162636465666768696a6b6c6d6e6f70
+    );
     Ok(())
 }
