@@ -11,7 +11,7 @@ use Rattle.chunk_list.specs.Sorted.{StandsAt, FitsAt}
 use Rattle.chunk_list.proofs.Sorted.{fits_at, sorted_put, sorted_where, put_fits, find_fits, where_fits, put_stands, find_stands, where_stands}
 use Rattle.doc_table.specs.Listed.{id_cmp}
 use Rattle.doc_table.specs.Entries.{pair_of, pairs_of, AreSorted}
-use Rattle.doc_table.specs.declared.table.Entry.{Entry}
+use Rattle.doc_table.specs.declared.entry.Entry.{Entry}
 
 same_ids : (x y : List ℕ) → id_cmp x y ≡ Equal → x ≡ y
 same_ids = slice_cmp-IsAntisymmetric nat_cmp-IsAntisymmetric

@@ -2,7 +2,7 @@
 use Rattle.std.specs.Prelude.{ℕ, List, map, IsTrue}
 use Rattle.std.specs.FinMap.Entries.{is_sorted}
 use Rattle.doc_table.specs.Listed.{id_cmp}
-use Rattle.doc_table.specs.declared.table.Entry.{Entry}
+use Rattle.doc_table.specs.declared.entry.Entry.{Entry}
 
 -- an entry as a pair
 abbrev pub pair_of : {T : Type 0} → Entry T → List ℕ × T

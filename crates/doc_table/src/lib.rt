@@ -3,6 +3,7 @@
 //! A contract sees the list of its pairs in id order, and how many new ones may be put without memory.
 #![tactic(auto)]
 
+mod entry;
 mod table;
 #[cfg(test)]
 mod tests;

@@ -4,28 +4,15 @@ ghost use Rattle.std.specs.Option.{option_copied, option_map};
 ghost use Rattle.std.specs.Ordering.{eq_by_cmp};
 ghost use Rattle.std.specs.FinMap.Entries.{find, put, where_key};
 ghost use Rattle.chunk_list.specs.Sorted.{FitsAt, StandsAt};
-ghost use Rattle.doc_table.specs.Listed.{id_cmp};
 ghost use Rattle.doc_table.specs.Entries.{pairs_of};
+ghost use Rattle.doc_table.specs.Fronts.{IsFront};
+ghost use Rattle.doc_table.specs.Listed.{id_cmp};
 
+use crate::entry::{Entry, front};
 use chunk_list::ChunkList;
 use std::alloc::Global;
 use std::marker::Model;
 use u1_base::{DocId, Memory};
-
-// An id and its value.
-#[derive(Drop)]
-struct Entry<T> {
-    id: DocId,
-    value: T,
-}
-
-impl<T> Entry<T> {
-    fn value(&self) -> &T
-        ensures { result.now ≡ self.now.value }
-    {
-        &self.value
-    }
-}
 
 /// A map from document ids to values, in the order of the ids' bytes.
 #[derive(Drop)]
@@ -78,13 +65,14 @@ impl<T> Table<T> {
         ensures pairs { self.new.pairs ≡ put id_cmp id value self.old.pairs }
         ensures room { self.new.room + length self.new.pairs ≡ self.old.room + length self.old.pairs }
     {
-        match place_of(&self.entries, &id) {
+        let front = front(&id);
+        match place_of(&self.entries, front, &id) {
             Ok(place) => {
-                let old = self.entries.replace(place, Entry { id, value });
+                let old = self.entries.replace(place, Entry { front, id, value });
                 Some(old.value)
             }
             Err(place) => {
-                self.entries.insert(place, Entry { id, value });
+                self.entries.insert(place, Entry { front, id, value });
                 None
             }
         }
@@ -98,7 +86,7 @@ impl<T> Table<T> {
         ensures pairs { self.new.pairs ≡ where_key id_cmp (λ k. not (eq_by_cmp id_cmp id.now k)) self.old.pairs }
         ensures room { self.new.room ≡ self.old.room }
     {
-        match place_of(&self.entries, id) {
+        match place_of(&self.entries, front(id), id) {
             Ok(place) => {
                 let gone = self.entries.remove(place);
                 Some(gone.value)
@@ -111,7 +99,7 @@ impl<T> Table<T> {
     pub fn get(&self, id: &DocId) -> Option<&T>
         ensures { option_copied result ≡ find id_cmp id.now self.now.pairs }
     {
-        match place_of(&self.entries, id) {
+        match place_of(&self.entries, front(id), id) {
             Ok(place) => match self.entries.get(place) {
                 Some(entry) => Some(entry.value()),
                 None => None,
@@ -138,14 +126,15 @@ impl<T> Table<T> {
     }
 }
 
-// The place where an id stands, or else where it would stand.
-fn place_of<T>(entries: &ChunkList<Entry<T>>, id: &DocId) -> Result<usize, usize>
+// The place where an id with its front stands, or else where it would stand.
+fn place_of<T>(entries: &ChunkList<Entry<T>>, front: u64, id: &DocId) -> Result<usize, usize>
+    requires { IsFront id.now front }
     ensures { MatchResult result (StandsAt id_cmp (pairs_of entries.now.items) id.now) (FitsAt id_cmp (pairs_of entries.now.items) id.now) }
 {
-    let place = entries.find_place(|entry| entry.id.cmp(id).is_lt());
+    let place = entries.find_place(|entry| entry.compare(front, id).is_lt());
     match entries.get(place) {
         Some(entry) => {
-            if entry.id.cmp(id).is_eq() {
+            if entry.compare(front, id).is_eq() {
                 Ok(place)
             } else {
                 Err(place)

@@ -1,4 +1,4 @@
-//! A small address book, the worked rows of one document, and a table of made ids.
+//! A small address book, the worked rows of one document, ids with one front, and a table of made ids.
 use crate::Table;
 use std::alloc::Global;
 use std::test::Fail;
@@ -29,6 +29,19 @@ fn is_in_order(table: &Table<u64>) -> bool {
         before = Some(id);
     }
     table.walk(table.length()).is_none()
+}
+
+// Whether the first ids are those of the text, in its order.
+fn begins_with(table: &Table<u64>, sorted: &str) -> bool {
+    for (place, text) in sorted.split(' ').enumerate() {
+        let Some((id, _)) = table.walk(place as u64) else {
+            return false;
+        };
+        if id.as_str() != text {
+            return false;
+        }
+    }
+    true
 }
 
 #[test]
@@ -63,15 +76,43 @@ fn lends_an_address_book_in_order(rt: HostRuntime) -> Result<(), Fail> {
         put(&mut table, DocId::read(alloc, text)?, 0)?;
     }
     assert_eq!(rt; table.length(), 12);
-    for (place, text) in sorted.split(' ').enumerate() {
-        match table.walk(place as u64) {
-            Some((id, _)) => assert_eq!(rt; id.as_str(), text),
-            None => panic!(rt; "no pair at {place}"),
-        }
-    }
+    assert!(rt; begins_with(&table, sorted));
     assert!(rt; is_in_order(&table));
     assert_eq!(rt; table.take(&DocId::read(alloc, "c12")?), Some(0));
     assert!(rt; table.walk(11).is_none());
+    Ok(())
+}
+
+#[test]
+fn tells_ids_with_one_front_apart(rt: HostRuntime) -> Result<(), Fail> {
+    let alloc = rt.alloc();
+    // Four have the same first 8 bytes, four have fewer, and most begin with another one.
+    let given = "note-0002 notes note-000 n note-00012 note-1 note note-0001";
+    let sorted = "n note note-000 note-0001 note-00012 note-0002 note-1 notes";
+    let mut table = Table::new(alloc);
+    for (number, text) in given.split(' ').enumerate() {
+        let id = DocId::read(alloc, text)?;
+        assert_eq!(rt; put(&mut table, id, number as u64)?, None);
+    }
+    assert_eq!(rt; table.length(), 8);
+    assert!(rt; begins_with(&table, sorted));
+    for (number, text) in given.split(' ').enumerate() {
+        let id = DocId::read(alloc, text)?;
+        assert_eq!(rt; table.get(&id), Some(&(number as u64)));
+    }
+    for text in "no note- note-00 note-0000 note-00011 note-000123 notes0".split(' ') {
+        let id = DocId::read(alloc, text)?;
+        assert!(rt; table.get(&id).is_none());
+        assert!(rt; table.take(&id).is_none());
+    }
+    assert_eq!(rt;
+        put(&mut table, DocId::read(alloc, "note-0001")?, 8)?,
+        Some(7)
+    );
+    assert_eq!(rt; table.take(&DocId::read(alloc, "note-0001")?), Some(8));
+    assert_eq!(rt; table.take(&DocId::read(alloc, "note")?), Some(6));
+    assert_eq!(rt; table.length(), 6);
+    assert!(rt; begins_with(&table, "n note-000 note-00012 note-0002 note-1 notes"));
     Ok(())
 }
 

@@ -1,6 +1,6 @@
 -- The entry goes where the id stands, or where it fits.
 use Rattle.std.proofs.Common.{List, refl, sym, subst}
-use Rattle.doc_table.specs.declared.table.Entry.{Entry}
+use Rattle.doc_table.specs.declared.entry.Entry.{Entry}
 use Rattle.doc_table.specs.Entries.{AreSorted}
 use Rattle.doc_table.proofs.Places.{put_new, put_new_sorted, not_found, put_there, put_there_sorted, found}
 use Rattle.doc_table.proofs.table.Table.put.Goals as goal

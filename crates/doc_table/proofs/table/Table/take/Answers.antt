@@ -1,6 +1,6 @@
 -- The entry where the id stands goes.
 use Rattle.std.proofs.Common.{List, sym, subst}
-use Rattle.doc_table.specs.declared.table.Entry.{Entry}
+use Rattle.doc_table.specs.declared.entry.Entry.{Entry}
 use Rattle.doc_table.specs.Entries.{AreSorted}
 use Rattle.doc_table.proofs.Places.{found, not_found, take_there, take_there_sorted, take_none}
 use Rattle.doc_table.proofs.table.Table.take.Goals as goal
