@@ -1,7 +1,7 @@
--- How many calls a disk was given, as far as a u64 counts.
+-- How many calls a disk was given.
 use Rattle.std.specs.Prelude.{◌≡◌, ℕ, ◌+◌, ◌-◌, ◌/◌, ◌^◌, ◌≤◌, min, Result, OnOk}
 
--- the count after n calls more, of which it takes as many as there is room for
+-- the count after n calls more; at 2^64-1, the end of its type, it stands still
 abbrev pub called : ℕ → ℕ → ℕ
 called n before = before + min n (2 ^ 64 - 1 - before)
 

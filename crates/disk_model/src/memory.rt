@@ -48,7 +48,7 @@ impl MemDisk {
         }
     }
 
-    /// How many calls it was given.
+    /// How many calls were noted: all but those that found no memory.
     pub fn calls(&self) -> u64
         ensures { result ≡ length (mem_past self.now) }
     {
