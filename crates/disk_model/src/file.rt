@@ -1,5 +1,5 @@
 //! The adapter to a file. It tells nothing of the file's content: what a file does between two calls is trusted.
-ghost use Rattle.std.specs.Prelude.{◌≡◌, ◌≤◌};
+ghost use Rattle.std.specs.Prelude.{◌≡◌, ◌≤◌, true, false, OnOk};
 ghost use Rattle.u1_base.specs.Causes.{HasCause, Rose};
 ghost use Rattle.disk_model.specs.Counts.{called};
 
@@ -52,7 +52,8 @@ impl<R: Files<File = File> + Clock + Drop> FileDisk<R> {
 
     // The file, taken out for one call, which is counted; `answer` puts it back.
     fn opened(&mut self) -> Result<File, DiskFailed>
-        ensures counted { self.new.made ≡ called 1 self.old.made }
+        ensures same { self.new ≡ record self.old { file = self.new.file; is_new = self.new.is_new; made = called 1 self.old.made; faults = self.new.faults } }
+        ensures still_new { self.old.is_new ≡ true → self.new.is_new ≡ true }
         ensures cause { HasCause self.old.faults self.new.faults result }
     {
         self.made = self.made.saturating_add(1);
@@ -69,8 +70,8 @@ impl<R: Files<File = File> + Clock + Drop> FileDisk<R> {
     }
 
     fn open(&mut self) -> io::Result<File>
-        ensures made { self.new.made ≡ self.old.made }
-        ensures faults { self.new.faults ≡ self.old.faults }
+        ensures same { self.new ≡ record self.old { is_new = self.new.is_new } }
+        ensures still_new { self.old.is_new ≡ true → self.new.is_new ≡ true }
     {
         let path = self.path.as_str();
         let file = match OpenOptions::new()
@@ -103,8 +104,8 @@ impl<R: Files<File = File> + Clock + Drop> FileDisk<R> {
 
     // Syncs the file, and after a creation its folder too, so that the file is found again.
     fn settle(&mut self, file: &File) -> io::Result<()>
-        ensures made { self.new.made ≡ self.old.made }
-        ensures faults { self.new.faults ≡ self.old.faults }
+        ensures same { self.new ≡ record self.old { is_new = self.new.is_new } }
+        ensures settled { OnOk result (self.new.is_new ≡ false) }
     {
         if self.is_new {
             file.sync_all()?;
@@ -116,7 +117,7 @@ impl<R: Files<File = File> + Clock + Drop> FileDisk<R> {
     }
 
     fn count_fault(&mut self)
-        ensures made { self.new.made ≡ self.old.made }
+        ensures same { self.new ≡ record self.old { faults = self.new.faults } }
         ensures later { self.old.faults ≤ self.new.faults }
         ensures rose { Rose self.old.faults self.new.faults }
     {
@@ -124,7 +125,7 @@ impl<R: Files<File = File> + Clock + Drop> FileDisk<R> {
     }
 
     fn answer<T: Drop>(&mut self, file: File, done: io::Result<T>) -> Result<T, DiskFailed>
-        ensures made { self.new.made ≡ self.old.made }
+        ensures same { self.new ≡ record self.old { file = self.new.file; faults = self.new.faults } }
         ensures cause { HasCause self.old.faults self.new.faults result }
     {
         self.file = Some(file);
@@ -145,10 +146,6 @@ fn sync_folder<R: Files<File = File>>(rt: &R, path: &str) -> io::Result<()> {
         _ => ".",
     };
     File::open(rt, folder)?.sync_all()
-}
-
-fn length_of(file: &File) -> io::Result<u64> {
-    Ok(file.metadata()?.len())
 }
 
 impl<R: Files<File = File> + Clock + Drop> Disk for FileDisk<R> {
@@ -172,7 +169,7 @@ impl<R: Files<File = File> + Clock + Drop> Disk for FileDisk<R> {
 
     fn length(&mut self) -> Result<u64, DiskFailed> {
         let file = self.opened()?;
-        let done = length_of(&file);
+        let done = file.metadata().map(|metadata| metadata.len());
         self.answer(file, done)
     }
 
