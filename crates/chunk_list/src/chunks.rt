@@ -7,7 +7,7 @@ use std::alloc::AllocError;
 use std::mem;
 
 // A chunk that is widened gets spare capacity for so many items more, so that it is seldom moved.
-const SPARE: usize = 48;
+const SPARE: usize = 16;
 
 // Puts an item into the chunk at `at`, which has spare capacity.
 pub(crate) fn put<T: Drop>(chunks: &mut Vec<Vec<T>>, at: usize, place: usize, item: T)

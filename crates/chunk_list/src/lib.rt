@@ -1,6 +1,7 @@
 //! A list kept in chunks, so that an insertion or a removal moves the items of one chunk alone.
 //!
 //! A contract sees the items, how many more may be inserted without memory, and where the chunks begin.
+//! `number_of` makes the fronts that sorted tables keep beside their texts.
 #![tactic(auto)]
 
 mod chunks;
