@@ -40,7 +40,7 @@ changed chunks starts len room made s i c to len' room' made' within long low hi
       fits = fit;
     }
 
-module _ {T : Type 0} (chunks : List (Vec T)) (starts : List ℕ) (len room made : ℕ) (s : IsSound chunks starts len room made) (i p start : ℕ) (f : FallsInto starts p i) (start_is : start ≡ get_or starts i start) where
+module _ {T : Type 0} (chunks : List (Vec T)) (starts : List ℕ) (len room made : ℕ) (s : IsSound chunks starts len room made) (i p start : ℕ) (f : FallsInto starts p i) (start_is : start ≡ get_or starts i 0) where
   at_chunk : i < length chunks
   at_chunk = is_chunk chunks starts len room made s.laid_out i p start f start_is
 
@@ -59,10 +59,11 @@ module _ {T : Type 0} (chunks : List (Vec T)) (starts : List ℕ) (len room made
   pub take_place : p < length (joined chunks) → (d : Vec T) → p - start < vec_len (get_or chunks i d)
   take_place = inside chunks starts len room made s.laid_out i p start f start_is
 
-  pub lower_fits : p < length (joined chunks) → (d : Vec T) (k : ℕ) → i < k → k < length starts → 0 < get_or starts k 0
+  pub lower_fits : p < length (joined chunks) → (d : Vec T) (k : ℕ) → i < k → k < length starts → get_or starts i 0 < get_or starts k 0
   lower_fits lt d k gt in_starts =
       omega (
         arith,
+        s.laid_out.begins i at_chunk,
         s.laid_out.begins k (omega (arith, s.laid_out.as_many)),
         start_at-next vec_items chunks i d at_chunk,
         start_at-rises vec_items chunks (i + 1) k (omega arith),

@@ -6,8 +6,8 @@ use Rattle.std.proofs.lemmas.List.Edits.{length-remove, get_or-remove_below, get
 use Rattle.std.specs.Global.{Vec}
 use Rattle.std.specs.Vec.{vec_items, vec_len}
 use Rattle.std.specs.List.{remove}
-use Rattle.chunk_list.specs.Chunks.{start_at, joined, HasRoom, NoneEmpty, AreLaidOut, IsSound, IsGivenBack}
-use Rattle.chunk_list.proofs.Pieces.{gone-joined, start_at-gone_low, start_at-gone_high}
+use Rattle.chunk_list.specs.Chunks.{AreStarts, joined, HasRoom, NoneEmpty, AreLaidOut, IsSound, IsGivenBack}
+use Rattle.chunk_list.proofs.Pieces.{gone-joined}
 use Rattle.chunk_list.proofs.Each.{each_remove}
 
 -- no chunk but the one at i is empty
@@ -32,27 +32,18 @@ module _ {T : Type 0} (chunks : List (Vec T)) (starts : List ℕ) (len room made
     fewer : length (remove chunks i) + 1 ≡ length chunks
     fewer = length-remove chunks i within
 
-    within_starts : i < length starts
-    within_starts = omega (arith, s.as_many)
-
-    gone_begins : (k : ℕ) → k < length (remove chunks i) → get_or (remove starts i) k 0 ≡ start_at vec_items (remove chunks i) k
-    gone_begins k lt = elim (cases_lt k i) [
-      | inl low ↦ get_or-remove_below starts i 0 k low within_starts ∙ s.begins k (omega (arith, fewer)) ∙ sym (start_at-gone_low vec_items chunks i k within low)
-      | inr high ↦ get_or-remove_above starts i 0 k high within_starts ∙ s.begins (k + 1) (omega (arith, fewer)) ∙ ap (start_at vec_items chunks) (add-one k) ∙ sym (start_at-gone_high vec_items chunks i k d0 within none high)
-    ]
-
     gone_full : NoneEmpty (remove chunks i)
     gone_full = λ still k d lt. elim (cases_lt k i) [
       | inl low ↦ subst (λ (v : Vec T). 0 < vec_len v) (sym (get_or-remove_below chunks i d k low within)) (others many k d (omega (arith, fewer)) (λ e. omega arith))
       | inr high ↦ subst (λ (v : Vec T). 0 < vec_len v) (sym (get_or-remove_above chunks i d k high within)) (others many (k + 1) d (omega (arith, fewer)) (λ e. omega arith))
     ]
 
-    pub gone_sound : IsSound (remove chunks i) (remove starts i) len room made
-    gone_sound = record {
+    pub gone_sound : (new_starts : List ℕ) → AreStarts (remove chunks i) new_starts → IsSound (remove chunks i) new_starts len room made
+    gone_sound new_starts starts_are = record {
       laid_out = record {
         counted = s.counted ∙ ap length (sym gone_joined);
-        as_many = omega (arith, length-remove starts i within_starts, fewer, s.as_many);
-        begins = gone_begins;
+        as_many = starts_are.as_many;
+        begins = starts_are.begins;
         has_room = each_remove (HasRoom room made) chunks i within s.has_room;
         some = λ _. omega (arith, fewer);
         fits = s.fits;
@@ -73,7 +64,7 @@ module _ {T : Type 0} (chunks : List (Vec T)) (starts : List ℕ) (len room made
   pub given_back_sound : (new : List (Vec T)) (new_starts : List ℕ) → Vec T → (g : Bool) → IsGivenBack chunks starts i new new_starts g → IsSound new new_starts len room made
   given_back_sound new new_starts d g (inl gone) =
       subst (λ (l : List (Vec T)). IsSound l new_starts len room made) (sym gone.2)
-      (subst (λ (l : List ℕ). IsSound (remove chunks i) l len room made) (sym gone.3) (gone_sound gone.0 gone.1 d))
+      (gone_sound gone.0 gone.1 d new_starts (subst (λ (l : List (Vec T)). AreStarts l new_starts) gone.2 gone.3))
   given_back_sound new new_starts d g (inr stays) =
       subst (λ (l : List (Vec T)). IsSound l new_starts len room made) (sym stays.1)
       (subst (λ (l : List ℕ). IsSound chunks l len room made) (sym stays.2) (kept_sound stays.0))

@@ -1,7 +1,7 @@
 -- What a search in one chunk says of the whole list.
 use Rattle.std.proofs.Common.{◌≡◌, ℕ, ◌+◌, ◌-◌, ◌<◌, ◌≤◌, List, length, get_or, sym, subst, ◌∙◌, ap, arith, min, add-one, inl, inr}
 use Rattle.std.proofs.lemmas.Bool.{cases_lt}
-use Rattle.std.proofs.lemmas.List.{get_or_read, get_or_default}
+use Rattle.std.proofs.lemmas.List.{get_or_default}
 use Rattle.std.specs.Global.{Vec}
 use Rattle.std.specs.Vec.{vec_items, vec_len}
 use Rattle.std.specs.List.{HoldsAt}
@@ -15,10 +15,10 @@ module _ {T : Type 0} (chunks : List (Vec T)) (starts : List ℕ) (len room made
       let fits : j < length (vec_items (get_or chunks i c)) = omega (arith, ap vec_len is, (get_or chunks i c).ok.0) in
       subst P (ap (λ (v : Vec T). get_or (vec_items v) j d) is ∙ get_or-joined vec_items chunks i j c d within fits) (holds d)
 
-  module _ (at start r known : ℕ) (c : Vec T) (within : at < length chunks) (start_is : start ≡ get_or starts at start) (is : c ≡ get_or chunks at c)
+  module _ (at start r known : ℕ) (c : Vec T) (within : at < length chunks) (start_is : start ≡ get_or starts at 0) (is : c ≡ get_or chunks at c)
       (known_is : known ≡ min at 1) (low : known ≤ r) (high : r ≤ vec_len c) where
     begin_is : start ≡ start_at vec_items chunks at
-    begin_is = get_or_read starts at start (omega (arith, s.laid_out.as_many)) start_is 0 ∙ s.laid_out.begins at within
+    begin_is = start_is ∙ s.laid_out.begins at within
 
     same_len : vec_len c ≡ length (vec_items (get_or chunks at c))
     same_len = ap vec_len is ∙ (get_or chunks at c).ok.0

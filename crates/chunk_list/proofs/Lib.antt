@@ -5,6 +5,8 @@ pub mod Emptied
 pub mod Found
 pub mod Fronts
 pub mod Halves
+pub mod InBlocks
+pub mod InStarts
 pub mod Pieces
 pub mod Places
 pub mod Room

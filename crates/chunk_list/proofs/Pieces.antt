@@ -115,42 +115,17 @@ module _ {X T : Type 0} (f : X → List T) where
   halved-joined (x ∷ xs) zero lower upper d lt e = sym (append_assoc (f lower) (f upper) (flat_map f xs)) ∙ ap (λ (l : List T). l ++ flat_map f xs) e
   halved-joined (x ∷ xs) (suc i) lower upper d lt e = ap (λ (l : List T). f x ++ l) (halved-joined xs i lower upper d (omega arith) e)
 
-  pub start_at-halved_low : (xs : List X) (i k : ℕ) (lower upper : X) → i < length xs → k ≤ i → start_at f (insert (set xs i lower) (suc i) upper) k ≡ start_at f xs k
-  start_at-halved_low [] i k lower upper lt le = absurd (omega arith)
-  start_at-halved_low (x ∷ xs) zero zero lower upper lt le = refl
-  start_at-halved_low (x ∷ xs) zero (suc k) lower upper lt le = absurd (omega arith)
-  start_at-halved_low (x ∷ xs) (suc i) zero lower upper lt le = refl
-  start_at-halved_low (x ∷ xs) (suc i) (suc k) lower upper lt le = ap (λ (n : ℕ). length (f x) + n) (start_at-halved_low xs i k lower upper (omega arith) (omega arith))
-
-  pub start_at-halved_here : (xs : List X) (i : ℕ) (lower upper : X) → i < length xs → start_at f (insert (set xs i lower) (suc i) upper) (suc i) ≡ start_at f xs i + length (f lower)
-  start_at-halved_here [] i lower upper lt = absurd (omega arith)
-  start_at-halved_here (x ∷ xs) zero lower upper lt = omega arith
-  start_at-halved_here (x ∷ xs) (suc i) lower upper lt = omega (arith, start_at-halved_here xs i lower upper (omega arith))
-
-  pub start_at-halved_high : (xs : List X) (i k : ℕ) (lower upper d : X) → i < length xs → length (f lower) + length (f upper) ≡ length (f (get_or xs i d)) → i < k
-      → start_at f (insert (set xs i lower) (suc i) upper) (suc k) ≡ start_at f xs k
-  start_at-halved_high [] i k lower upper d lt e gt = absurd (omega arith)
-  start_at-halved_high (x ∷ xs) i zero lower upper d lt e gt = absurd (omega arith)
-  start_at-halved_high (x ∷ xs) zero (suc k) lower upper d lt e gt = omega arith
-  start_at-halved_high (x ∷ xs) (suc i) (suc k) lower upper d lt e gt = omega (arith, start_at-halved_high xs i k lower upper d (omega arith) e (omega arith))
-
   -- an empty piece gone
   pub gone-joined : (xs : List X) (i : ℕ) (d : X) → i < length xs → f (get_or xs i d) ≡ [] → flat_map f (remove xs i) ≡ flat_map f xs
   gone-joined [] i d lt e = absurd (omega arith)
   gone-joined (x ∷ xs) zero d lt e = ap (λ (l : List T). l ++ flat_map f xs) (sym e)
   gone-joined (x ∷ xs) (suc i) d lt e = ap (λ (l : List T). f x ++ l) (gone-joined xs i d (omega arith) e)
 
-  pub start_at-gone_low : (xs : List X) (i k : ℕ) → i < length xs → k < i → start_at f (remove xs i) k ≡ start_at f xs k
-  start_at-gone_low [] i k lt low = absurd (omega arith)
-  start_at-gone_low (x ∷ xs) zero k lt low = absurd (omega arith)
-  start_at-gone_low (x ∷ xs) (suc i) zero lt low = refl
-  start_at-gone_low (x ∷ xs) (suc i) (suc k) lt low = ap (λ (n : ℕ). length (f x) + n) (start_at-gone_low xs i k (omega arith) (omega arith))
-
-  pub start_at-gone_high : (xs : List X) (i k : ℕ) (d : X) → i < length xs → f (get_or xs i d) ≡ [] → i ≤ k → start_at f (remove xs i) k ≡ start_at f xs (suc k)
-  start_at-gone_high [] i k d lt e high = absurd (omega arith)
-  start_at-gone_high (x ∷ xs) zero k d lt e high = omega (arith, ap length e)
-  start_at-gone_high (x ∷ xs) (suc i) zero d lt e high = absurd (omega arith)
-  start_at-gone_high (x ∷ xs) (suc i) (suc k) d lt e high = ap (λ (n : ℕ). length (f x) + n) (start_at-gone_high xs i k d (omega arith) e (omega arith))
+  -- a piece gone
+  pub length-gone : (xs : List X) (i : ℕ) → i < length xs → length (flat_map f (remove xs i)) ≤ length (flat_map f xs)
+  length-gone [] i lt = absurd (omega arith)
+  length-gone (x ∷ xs) zero lt = omega (arith, length-append (f x) (flat_map f xs))
+  length-gone (x ∷ xs) (suc i) lt = omega (arith, length-gone xs i (omega arith), length-append (f x) (flat_map f xs), length-append (f x) (flat_map f (remove xs i)))
 
   -- pieces that are not empty are no more than the items
   pub length-pieces : (xs : List X) → ((k : ℕ) (d : X) → k < length xs → 0 < length (f (get_or xs k d))) → length xs ≤ length (flat_map f xs)

@@ -1,16 +1,27 @@
 -- How a list that was sound gets room: a first chunk, a chunk cut in two, a chunk in more memory.
-use Rattle.std.proofs.Common.{◌≡◌, ◌≢◌, ℕ, ◌+◌, ◌^◌, ◌<◌, ◌≤◌, List, [], ◌∷◌, ◌++◌, length, take, get_or, set, zero, suc, refl, sym, subst, ◌∙◌, ap, arith, add-one, inl, inr, get_or-set_same, get_or-set_other, length-append}
+use Rattle.std.proofs.Common.{◌≡◌, ◌≢◌, ℕ, ◌+◌, ◌^◌, ◌<◌, ◌≤◌, List, [], ◌∷◌, ◌++◌, length, take, get_or, set, zero, suc, refl, sym, subst, ◌∙◌, ap, arith, add-one, inl, inr, get_or-set_same, get_or-set_other}
 use Rattle.std.proofs.lemmas.Bool.{cases_lt, cases_eq}
 use Rattle.std.proofs.lemmas.List.{get_or_read, length-set, take-append-drop, nil_from_length}
-use Rattle.std.proofs.lemmas.List.Edits.{length-insert, get_or-insert_below, get_or-insert_at, get_or-insert_above}
+use Rattle.std.proofs.lemmas.List.Edits.{length-insert, get_or-insert_below}
 use Rattle.std.specs.Global.{Vec}
 use Rattle.std.specs.Vec.{vec_items, vec_len, vec_capacity}
 use Rattle.std.specs.List.{insert}
 use Rattle.chunk_list.specs.Kept.{limit}
-use Rattle.chunk_list.specs.Chunks.{start_at, joined, Each, EachBelow, HasRoom, IsReady, NoneEmpty, IsSound, IsWidened, IsHalved, IsOneEmpty}
-use Rattle.chunk_list.proofs.Pieces.{halved-joined, start_at-halved_low, start_at-halved_here, start_at-halved_high, same-joined, length-pieces}
+use Rattle.chunk_list.specs.Chunks.{joined, Each, EachBelow, HasRoom, IsReady, NoneEmpty, IsSound, IsWidened, IsParted, IsHalved, IsOneEmpty}
+use Rattle.chunk_list.proofs.Pieces.{halved-joined, same-joined, length-pieces}
 use Rattle.chunk_list.proofs.Each.{each_set, each_insert}
 use Rattle.chunk_list.proofs.Edits.{changed}
+
+-- both parts of a chunk have its items
+pub whole : {T : Type 0} (old : Vec T) (middle room : ℕ) (lower upper : Vec T) → IsParted old middle room lower upper → vec_items lower ++ vec_items upper ≡ vec_items old
+whole {T} old middle room lower upper p =
+    ap (λ (l : List T). l ++ vec_items upper) p.lower_items ∙ ap (λ (l : List T). take middle (vec_items old) ++ l) p.upper_items ∙ take-append-drop middle (vec_items old)
+
+pub parted_joined : {T : Type 0} (chunks : List (Vec T)) (at middle room : ℕ) (lower upper : Vec T) → at < length chunks → ((d : Vec T) → IsParted (get_or chunks at d) middle room lower upper)
+    → joined (insert (set chunks at lower) (at + 1) upper) ≡ joined chunks
+parted_joined chunks at middle room lower upper within p =
+    ap (λ (n : ℕ). joined (insert (set chunks at lower) n upper)) (add-one at)
+    ∙ halved-joined vec_items chunks at lower upper lower within (whole (get_or chunks at lower) middle room lower upper (p lower))
 
 module _ {T : Type 0} (chunks : List (Vec T)) (starts : List ℕ) (len room made : ℕ) (s : IsSound chunks starts len room made) where
   -- there are no more chunks than items, but for one
@@ -58,25 +69,20 @@ module _ {T : Type 0} (chunks : List (Vec T)) (starts : List ℕ) (len room made
     first_room zero d lt = record { spare = omega (arith, no_items, no_room); short = omega (arith, no_items, no_room) }
     first_room (suc k) d lt = absurd (omega arith)
 
-    first_begins : (k : ℕ) → k < 1 → get_or (0 ∷ []) k 0 ≡ start_at vec_items (o.chunk ∷ []) k
-    first_begins zero lt = refl
-    first_begins (suc k) lt = absurd (omega arith)
-
     pub first_sound : IsSound new new_starts len room made
     first_sound =
-        subst (λ (l : List (Vec T)). IsSound l new_starts len room made) (sym o.one)
-        (subst (λ (l : List ℕ). IsSound (o.chunk ∷ []) l len room made) (sym o.start)
-        (record {
+        let one : length new ≡ 1 = ap length o.one in
+        record {
           laid_out = record {
-            counted = s.laid_out.counted ∙ ap length (sym first_joined) ∙ ap (λ (l : List (Vec T)). length (joined l)) o.one;
-            as_many = refl;
-            begins = first_begins;
-            has_room = first_room;
+            counted = s.laid_out.counted ∙ ap length (sym first_joined);
+            as_many = o.starts_are.as_many;
+            begins = o.starts_are.begins;
+            has_room = subst (Each (HasRoom room made)) (sym o.one) first_room;
             some = λ _. omega arith;
             fits = s.laid_out.fits;
           };
           full = λ many. absurd (omega arith);
-        }))
+        }
 
   -- a chunk in more memory
   module _ (i : ℕ) (c : Vec T) (within : i < length chunks) (w : (d : Vec T) → IsWidened (get_or chunks i d) c) where
@@ -111,32 +117,15 @@ module _ {T : Type 0} (chunks : List (Vec T)) (starts : List ℕ) (len room made
     ]
 
   -- a chunk cut in two
-  module _ (i wanted : ℕ) (new : List (Vec T)) (new_starts : List ℕ) (h : IsHalved chunks starts i wanted new new_starts) (within : i < length chunks) (wider : room ≤ wanted) where
+  module _ (i wanted : ℕ) (new : List (Vec T)) (new_starts : List ℕ) (h : IsHalved chunks i wanted new new_starts) (within : i < length chunks) (wider : room ≤ wanted) where
     two : List (Vec T)
     two = insert (set chunks i h.lower) (suc i) h.upper
-
-    whole : (d : Vec T) → vec_items h.lower ++ vec_items h.upper ≡ vec_items (get_or chunks i d)
-    whole d =
-        ap (λ (l : List T). l ++ vec_items h.upper) (h.parted d).lower_items ∙ ap (λ (l : List T). take h.middle (vec_items (get_or chunks i d)) ++ l) (h.parted d).upper_items
-        ∙ take-append-drop h.middle (vec_items (get_or chunks i d))
-
-    lengths : length h.lower.items + length h.upper.items ≡ length (vec_items (get_or chunks i h.lower))
-    lengths = sym (length-append h.lower.items h.upper.items) ∙ ap length (whole h.lower)
 
     is : new ≡ insert (set chunks i h.lower) (suc i) h.upper
     is = h.chunks_are ∙ ap (λ (n : ℕ). insert (set chunks i h.lower) n h.upper) (add-one i)
 
-    start : ℕ
-    start = get_or starts i 0 + h.middle
-
-    starts_are : new_starts ≡ insert starts (suc i) (get_or starts i 0 + h.middle)
-    starts_are = h.starts_are ∙ ap (λ (n : ℕ). insert starts n (get_or starts i 0 + h.middle)) (add-one i)
-
     pub halved_joined : joined new ≡ joined chunks
-    halved_joined = ap joined is ∙ halved-joined vec_items chunks i h.lower h.upper h.lower within (whole h.lower)
-
-    le : suc i ≤ length starts
-    le = omega (arith, s.laid_out.as_many)
+    halved_joined = ap joined h.chunks_are ∙ parted_joined chunks i h.middle wanted h.lower h.upper within h.parted
 
     le_set : suc i ≤ length (set chunks i h.lower)
     le_set = omega (arith, length-set chunks i h.lower)
@@ -146,30 +135,6 @@ module _ {T : Type 0} (chunks : List (Vec T)) (starts : List ℕ) (len room made
 
     pub halved_count : length new ≡ length chunks + 1
     halved_count = ap length is ∙ long
-
-    begins_low : (k : ℕ) → k ≤ i → get_or (insert starts (suc i) (get_or starts i 0 + h.middle)) k 0 ≡ start_at vec_items (insert (set chunks i h.lower) (suc i) h.upper) k
-    begins_low k low =
-        get_or-insert_below starts (suc i) (get_or starts i 0 + h.middle) 0 k (omega arith) le ∙ s.laid_out.begins k (omega arith) ∙ sym (start_at-halved_low vec_items chunks i k h.lower h.upper within low)
-
-    begins_here : get_or (insert starts (suc i) (get_or starts i 0 + h.middle)) (suc i) 0 ≡ start_at vec_items (insert (set chunks i h.lower) (suc i) h.upper) (suc i)
-    begins_here =
-        get_or-insert_at starts (suc i) (get_or starts i 0 + h.middle) 0 le
-        ∙ omega (arith, s.laid_out.begins i within, (h.parted h.lower).lower_len, h.lower.ok.0, start_at-halved_here vec_items chunks i h.lower h.upper within)
-
-    begins_high : (m : ℕ) → i < m → m < length chunks → get_or (insert starts (suc i) (get_or starts i 0 + h.middle)) (suc m) 0 ≡ start_at vec_items (insert (set chunks i h.lower) (suc i) h.upper) (suc m)
-    begins_high m gt in_old =
-        subst (λ (n : ℕ). get_or (insert starts (suc i) (get_or starts i 0 + h.middle)) n 0 ≡ get_or starts m 0) (add-one m) (get_or-insert_above starts (suc i) (get_or starts i 0 + h.middle) 0 m (omega arith) le)
-        ∙ s.laid_out.begins m in_old ∙ sym (start_at-halved_high vec_items chunks i m h.lower h.upper h.lower within lengths gt)
-
-    begins : (k : ℕ) → k < length chunks + 1 → get_or (insert starts (suc i) (get_or starts i 0 + h.middle)) k 0 ≡ start_at vec_items (insert (set chunks i h.lower) (suc i) h.upper) k
-    begins zero lt = begins_low zero (omega arith)
-    begins (suc m) lt = elim (cases_lt m i) [
-      | inl low ↦ begins_low (suc m) (omega arith)
-      | inr high ↦ elim (cases_eq m i) [
-        | inl e ↦ subst (λ (n : ℕ). get_or (insert starts (suc i) (get_or starts i 0 + h.middle)) (suc n) 0 ≡ start_at vec_items (insert (set chunks i h.lower) (suc i) h.upper) (suc n)) (sym e) begins_here
-        | inr ne ↦ begins_high m (omega arith) (omega arith)
-      ]
-    ]
 
     -- what holds of all chunks and of both halves holds of all
     each_half : (P : Vec T → Type 0) → Each P chunks → P h.lower → P h.upper → Each P (insert (set chunks i h.lower) (suc i) h.upper)
@@ -202,23 +167,18 @@ module _ {T : Type 0} (chunks : List (Vec T)) (starts : List ℕ) (len room made
               subst (λ (n : ℕ). 0 < vec_len (get_or chunks n d)) (sym e) (omega (arith, h.upper_some d))
         ]) lower_full upper_full
 
-    sound : IsSound (insert (set chunks i h.lower) (suc i) h.upper) (insert starts (suc i) (get_or starts i 0 + h.middle)) len room made
-    sound = record {
+    pub halved_sound : IsSound new new_starts len room made
+    halved_sound = record {
       laid_out = record {
-        counted = s.laid_out.counted ∙ ap length (sym (halved-joined vec_items chunks i h.lower h.upper h.lower within (whole h.lower)));
-        as_many = length-insert starts (suc i) (get_or starts i 0 + h.middle) le ∙ ap (λ (n : ℕ). n + 1) s.laid_out.as_many ∙ sym long;
-        begins = λ k lt. begins k (omega (arith, long));
-        has_room = each_half (HasRoom room made) s.laid_out.has_room lower_room upper_room;
-        some = λ _. omega (arith, long);
+        counted = s.laid_out.counted ∙ ap length (sym halved_joined);
+        as_many = h.starts_are.as_many;
+        begins = h.starts_are.begins;
+        has_room = subst (Each (HasRoom room made)) (sym is) (each_half (HasRoom room made) s.laid_out.has_room lower_room upper_room);
+        some = λ _. omega (arith, halved_count);
         fits = s.laid_out.fits;
       };
-      full = full;
+      full = subst NoneEmpty (sym is) full;
     }
-
-    pub halved_sound : IsSound new new_starts len room made
-    halved_sound =
-        subst (λ (l : List (Vec T)). IsSound l new_starts len room made) (sym is)
-        (subst (λ (l : List ℕ). IsSound (insert (set chunks i h.lower) (suc i) h.upper) l len room made) (sym starts_are) sound)
 
     pub halved_ready : EachBelow (IsReady wanted) chunks i → EachBelow (IsReady wanted) new i
     halved_ready ready = subst (λ (l : List (Vec T)). EachBelow (IsReady wanted) l i) (sym is)

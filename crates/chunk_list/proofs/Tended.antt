@@ -1,8 +1,10 @@
 -- What is known of the chunks after each change of one of them.
-use Rattle.std.proofs.Common.{◌≡◌, Bool, ℕ, ◌+◌, ◌<◌, ◌≤◌, ◌⊎◌, List, [], ◌∷◌, ◌++◌, length, get_or, set, take, sym, subst, ◌∙◌, arith, inl, inr, get_or-set_same, get_or-set_other, length-append, true, false}
+use Rattle.std.proofs.Common.{◌≡◌, ◌≢◌, Bool, ℕ, ◌+◌, ◌-◌, ◌<◌, ◌≤◌, ◌⊎◌, List, [], ◌∷◌, ◌++◌, length, get_or, set, take, sym, subst, ◌∙◌, ap, arith, inl, inr, get_or-set_same, get_or-set_other, length-append, true, false}
 use Rattle.std.proofs.lemmas.Bool.{cases_eq, cases_lt}
 use Rattle.std.proofs.lemmas.List.{length-set, get_or_append_left, get_or-take, length-take-le}
+use Rattle.std.proofs.lemmas.List.Edits.{length-insert, get_or-insert_below, get_or-insert_at, get_or-insert_above}
 use Rattle.std.proofs.Math.Seq.{get_or-append_seam}
+use Rattle.std.specs.List.{insert}
 use Rattle.std.specs.Global.{Vec}
 use Rattle.std.specs.Vec.{vec_len, vec_capacity}
 use Rattle.chunk_list.specs.Chunks.{Each, HasRoom, IsSound, IsGivenBack}
@@ -98,6 +100,66 @@ module _ {T : Type 0} (chunks : List (Vec T)) (room made : ℕ) (touched : List 
   refilled = record {
     others = λ k d lt. still k d (known.others k d lt);
     within = λ j lt. let low : j < left = omega (arith, fewer) in omega (arith, get_or-take left touched j 0 low, known.within j (omega arith));
+    room_made = known.room_made;
+    spare_made = known.spare_made;
+  }
+
+-- the chunk at i, which is touched, was cut in two, and those behind it moved up by one
+module _ {T : Type 0} (chunks : List (Vec T)) (room made : ℕ) (touched : List ℕ) (spare : ℕ) (known : OthersHave chunks room made touched spare) (i : ℕ) (within : i < length chunks) (here : IsTouched touched i)
+    (lower upper : Vec T) (has : HasRoom spare made upper) (moved : List ℕ) (len : length moved ≡ length touched)
+    (up_to : (j : ℕ) → j < length touched → get_or touched j 0 ≤ i → get_or moved j 0 ≡ get_or touched j 0)
+    (behind : (j : ℕ) → j < length touched → i < get_or touched j 0 → get_or moved j 0 ≡ get_or touched j 0 + 1) where
+  le : i + 1 ≤ length (set chunks i lower)
+  le = omega (arith, within, length-set chunks i lower)
+
+  long : length (insert (set chunks i lower) (i + 1) upper) ≡ length chunks + 1
+  long = length-insert (set chunks i lower) (i + 1) upper le ∙ ap (λ (n : ℕ). n + 1) (length-set chunks i lower)
+
+  stays : (k : ℕ) → k ≤ i → IsTouched touched k → IsTouched moved k
+  stays k low t = (t.0, omega (arith, len, t.1), up_to t.0 t.1 (omega (arith, t.2)) ∙ t.2)
+
+  moves : (k : ℕ) → i < k → IsTouched touched k → IsTouched moved (k + 1)
+  moves k high t = (t.0, omega (arith, len, t.1), omega (arith, t.2, behind t.0 t.1 (omega (arith, t.2))))
+
+  low_known : (k : ℕ) (v : Vec T) → k ≤ i → IsTouched touched k ⊎ HasRoom spare made v → IsTouched moved k ⊎ HasRoom spare made v
+  low_known k v low (inl t) = inl (stays k low t)
+  low_known k v low (inr h) = inr h
+
+  high_known : (k : ℕ) (v : Vec T) → i < k → IsTouched touched k ⊎ HasRoom spare made v → IsTouched moved (k + 1) ⊎ HasRoom spare made v
+  high_known k v high (inl t) = inl (moves k high t)
+  high_known k v high (inr h) = inr h
+
+  abbrev KnownNow : ℕ → Vec T → Type 0
+  KnownNow k v = IsTouched moved k ⊎ HasRoom spare made v
+
+  each_known_two : (k : ℕ) (d : Vec T) → k < length chunks + 1 → KnownNow k (get_or (insert (set chunks i lower) (i + 1) upper) k d)
+  each_known_two k d lt = elim (cases_lt k (i + 1)) [
+    | inl low ↦ subst (KnownNow k) (sym (get_or-insert_below (set chunks i lower) (i + 1) upper d k low le)) (elim (cases_eq k i) [
+      | inl e ↦ inl (subst (IsTouched moved) (sym e) (stays i (omega arith) here))
+      | inr ne ↦ subst (KnownNow k) (sym (get_or-set_other chunks i k lower d ne)) (low_known k (get_or chunks k d) (omega arith) (known.others k d (omega arith)))
+    ])
+    | inr high ↦ elim (cases_eq k (i + 1)) [
+      | inl e ↦ subst (λ (m : ℕ). KnownNow m (get_or (insert (set chunks i lower) (i + 1) upper) m d)) (sym e) (subst (KnownNow (i + 1)) (sym (get_or-insert_at (set chunks i lower) (i + 1) upper d le)) (inr has))
+      | inr ne ↦
+          let m : ℕ = k - 1 in
+          let back : m + 1 ≡ k = omega arith in
+          let other : m ≢ i = omega arith in
+          subst (λ (n : ℕ). KnownNow n (get_or (insert (set chunks i lower) (i + 1) upper) n d)) back
+          (subst (KnownNow (m + 1)) (sym (get_or-insert_above (set chunks i lower) (i + 1) upper d m (omega arith) le ∙ get_or-set_other chunks i m lower d other))
+          (high_known m (get_or chunks m d) (omega arith) (known.others m d (omega arith))))
+    ]
+  ]
+
+  moved_within : (j : ℕ) → j < length moved → get_or moved j 0 < length chunks + 1
+  moved_within j lt = elim (cases_lt i (get_or touched j 0)) [
+    | inl high ↦ omega (arith, len, behind j (omega arith) high, known.within j (omega arith))
+    | inr low ↦ omega (arith, len, up_to j (omega arith) (omega arith), known.within j (omega arith))
+  ]
+
+  pub halved_known : OthersHave (insert (set chunks i lower) (i + 1) upper) room made moved spare
+  halved_known = record {
+    others = λ k d lt. each_known_two k d (omega (arith, long));
+    within = λ j lt. omega (arith, long, moved_within j lt);
     room_made = known.room_made;
     spare_made = known.spare_made;
   }

@@ -1,5 +1,5 @@
 -- The chunks behind the list, and what an edit does to one of them.
-use Rattle.std.specs.Prelude.{◌≡◌, ℕ, ◌+◌, ◌^◌, ◌<◌, ◌≤◌, ◌⊎◌, Bool, true, false, List, [], ◌∷◌, length, zero, suc, slice_index, slice_index_or, vec_len, vec_capacity, take, drop, slice_set}
+use Rattle.std.specs.Prelude.{◌≡◌, ℕ, ◌+◌, ◌/◌, ◌^◌, ◌<◌, ◌≤◌, ◌⊎◌, Bool, true, false, List, [], ◌∷◌, length, zero, suc, slice_index, slice_index_or, vec_len, vec_capacity, take, drop, slice_set}
 use Rattle.std.specs.List.{flat_map, insert, remove}
 use Rattle.std.specs.Global.{Vec}
 use Rattle.std.specs.Vec.{vec_items}
@@ -29,6 +29,11 @@ module _ {T : Type 0} where
   -- the chunks, one after another
   abbrev pub joined : List (Vec T) → List T
   joined chunks = flat_map vec_items chunks
+
+  -- the places where the chunks begin
+  pub record AreStarts (chunks : List (Vec T)) (starts : List ℕ) : Type 0 where
+    pub as_many : length starts ≡ length chunks
+    pub begins : (k : ℕ) → k < length chunks → slice_index starts k ≡ start_at vec_items chunks k
 
   -- a chunk has spare capacity for `room` items, and filled with them it is no longer than it may be
   pub record HasRoom (room made : ℕ) (chunk : Vec T) : Type 0 where
@@ -94,14 +99,15 @@ module _ {T : Type 0} where
     pub upper_len : vec_len upper + middle ≡ vec_len old
     pub upper_spare : vec_len upper + room ≤ vec_capacity upper
 
-  -- the chunk at `at` was cut into two parts, neither of them empty
-  pub record IsHalved (chunks : List (Vec T)) (starts : List ℕ) (at room : ℕ) (new : List (Vec T)) (new_starts : List ℕ) : Type 0 where
+  -- the chunk at `at` was cut into two halves, neither of them empty
+  pub record IsHalved (chunks : List (Vec T)) (at room : ℕ) (new : List (Vec T)) (new_starts : List ℕ) : Type 0 where
     pub middle : ℕ
     pub lower : Vec T
     pub upper : Vec T
     pub chunks_are : new ≡ insert (slice_set chunks at lower) (at + 1) upper
-    pub starts_are : new_starts ≡ insert starts (at + 1) (slice_index starts at + middle)
+    pub starts_are : AreStarts new new_starts
     pub parted : (d : Vec T) → IsParted (slice_index_or chunks at d) middle room lower upper
+    pub half : (d : Vec T) → middle ≡ vec_len (slice_index_or chunks at d) / 2
     pub lower_some : 0 < middle
     pub upper_some : (d : Vec T) → middle < vec_len (slice_index_or chunks at d)
 
@@ -111,10 +117,10 @@ module _ {T : Type 0} where
     pub empty : chunk.items ≡ []
     pub spare : room ≤ vec_capacity chunk
     pub one : chunks ≡ chunk ∷ []
-    pub start : starts ≡ 0 ∷ []
+    pub starts_are : AreStarts chunks starts
 
   -- the chunk at `at` was empty and not the only one, and is gone; or it is there still
   abbrev pub IsGivenBack : List (Vec T) → List ℕ → ℕ → List (Vec T) → List ℕ → Bool → Type 0
   IsGivenBack chunks starts at new new_starts gone =
-      ((1 < length chunks) × ((d : Vec T) → vec_len (slice_index_or chunks at d) ≡ 0) × (new ≡ remove chunks at) × (new_starts ≡ remove starts at) × (gone ≡ true))
+      ((1 < length chunks) × ((d : Vec T) → vec_len (slice_index_or chunks at d) ≡ 0) × (new ≡ remove chunks at) × AreStarts new new_starts × (gone ≡ true))
       ⊎ ((1 < length chunks → (d : Vec T) → 0 < vec_len (slice_index_or chunks at d)) × (new ≡ chunks) × (new_starts ≡ starts) × (gone ≡ false))

@@ -1,3 +1,4 @@
+pub mod Begun
 pub mod Chunks
 pub mod Fronts
 pub mod Halves

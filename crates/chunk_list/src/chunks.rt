@@ -1,8 +1,9 @@
 //! Edits of one chunk among the others.
 ghost use Rattle.std.specs.Prelude.{◌≡◌, ◌+◌, ◌-◌, ◌^◌, ◌<◌, ◌≤◌, ℕ, [], length, slice_index, slice_index_or, slice_set, IfOk, OnOk, OnErr, vec_len, vec_capacity};
 ghost use Rattle.std.specs.List.{insert};
-ghost use Rattle.chunk_list.specs.Chunks.{IsExchanged, IsGivenBack, IsHalved, IsOneEmpty, IsParted, IsPut, IsTakenOut, IsWidened};
+ghost use Rattle.chunk_list.specs.Chunks.{IsExchanged, IsGivenBack, IsHalved, IsOneEmpty, IsParted, IsPut, IsTakenOut, IsWidened, joined};
 
+use crate::starts::Starts;
 use std::alloc::AllocError;
 use std::mem;
 
@@ -44,19 +45,16 @@ pub(crate) fn take_out<T>(chunks: &mut Vec<Vec<T>>, at: usize, place: usize) -> 
 }
 
 // Gives the memory of the chunk at `at` back, where it is empty and not the only one. Whether it did.
-pub(crate) fn give_back<T: Drop>(
-    chunks: &mut Vec<Vec<T>>,
-    starts: &mut Vec<usize>,
-    at: usize,
-) -> bool
+pub(crate) fn give_back<T: Drop>(chunks: &mut Vec<Vec<T>>, starts: &mut Starts, at: usize) -> bool
     requires within { at < length chunks.old.items }
-    requires as_many { length starts.old.items ≡ length chunks.old.items }
-    ensures { IsGivenBack chunks.old.items starts.old.items at chunks.new.items starts.new.items result }
+    requires as_many { length starts.old.places ≡ length chunks.old.items }
+    requires fits { length (joined chunks.old.items) < 2 ^ 64 }
+    ensures { IsGivenBack chunks.old.items starts.old.places at chunks.new.items starts.new.places result }
 {
     let gone = chunks.len() > 1 && chunks[at].len() == 0;
     if gone {
-        starts.remove(at);
         chunks.remove(at);
+        starts.recount(chunks);
     }
     gone
 }
@@ -64,19 +62,18 @@ pub(crate) fn give_back<T: Drop>(
 // The first chunk, which is empty.
 pub(crate) fn first_chunk<T: Drop>(
     chunks: &mut Vec<Vec<T>>,
-    starts: &mut Vec<usize>,
+    starts: &mut Starts,
     room: usize,
 ) -> Result<(), AllocError>
     requires chunks { chunks.old.items ≡ [] }
-    requires starts { starts.old.items ≡ [] }
-    ensures ok { OnOk result (IsOneEmpty room chunks.new.items starts.new.items) }
+    ensures ok { OnOk result (IsOneEmpty room chunks.new.items starts.new.places) }
     ensures err_chunks { OnErr result (chunks.new.items ≡ []) }
-    ensures err_starts { OnErr result (starts.new.items ≡ []) }
+    ensures err_starts { OnErr result (starts.new.places ≡ starts.old.places) }
 {
-    starts.reserve(1)?;
-    let chunk = Vec::with_capacity(*starts.allocator(), room)?;
+    starts.reserve()?;
+    let chunk = Vec::with_capacity(*chunks.allocator(), room)?;
     chunks.push(chunk)?;
-    starts.push_reserved(0);
+    starts.recount(chunks);
     Ok(())
 }
 
@@ -93,29 +90,28 @@ pub(crate) fn widen<T>(chunks: &mut Vec<Vec<T>>, at: usize, room: usize) -> Resu
     Ok(())
 }
 
-// Cuts the chunk at `at` into two halves, each with spare capacity for `room` items.
+// Cuts the chunk at `at` into two halves. The upper one has spare capacity for `room` items, the lower one for as
+// many of them as the chunk had.
 pub(crate) fn halve<T: Drop>(
     chunks: &mut Vec<Vec<T>>,
-    starts: &mut Vec<usize>,
+    starts: &mut Starts,
     at: usize,
     room: usize,
 ) -> Result<(), AllocError>
     requires within { at < length chunks.old.items }
-    requires as_many { length starts.old.items ≡ length chunks.old.items }
+    requires as_many { length starts.old.places ≡ length chunks.old.items }
     requires long { (d : _) → 1 < vec_len (slice_index_or chunks.old.items at d) }
-    requires fits { (d : _) → vec_len (slice_index_or chunks.old.items at d) + room < 2 ^ 64 }
-    requires start_fits { (d : _) → slice_index starts.old.items at + vec_len (slice_index_or chunks.old.items at d) < 2 ^ 64 }
-    ensures ok { OnOk result (IsHalved chunks.old.items starts.old.items at room chunks.new.items starts.new.items) }
+    requires fits { length (joined chunks.old.items) + room < 2 ^ 64 }
+    ensures ok { OnOk result (IsHalved chunks.old.items at room chunks.new.items starts.new.places) }
     ensures err_chunks { OnErr result (chunks.new.items ≡ chunks.old.items) }
-    ensures err_starts { OnErr result (starts.new.items ≡ starts.old.items) }
+    ensures err_starts { OnErr result (starts.new.places ≡ starts.old.places) }
 {
     chunks.reserve(1)?;
-    starts.reserve(1)?;
+    starts.reserve()?;
     let middle = chunks[at].len() / 2;
-    let start = starts[at] + middle;
     let upper = part(chunks, at, middle, room)?;
     place(chunks, at + 1, upper);
-    place(starts, at + 1, start);
+    starts.recount(chunks);
     Ok(())
 }
 

@@ -4,6 +4,7 @@
 //! `number_of` makes the fronts that sorted tables keep beside their texts.
 #![tactic(auto)]
 
+mod blocks;
 mod chunks;
 mod front;
 mod list;
@@ -15,3 +16,4 @@ mod touched;
 
 pub use front::number_of;
 pub use list::ChunkList;
+pub use starts::Starts;

@@ -6,9 +6,9 @@ ghost use Rattle.std.specs.List.{HoldsAt, insert, remove};
 ghost use Rattle.chunk_list.specs.Kept.{AreCuts, limit, slack};
 
 use crate::chunks::{exchange, first_chunk, give_back, halve, put, take_out, widen};
-use crate::search::{chunk_of, place_in};
-use crate::starts::{home, lower, raise};
-use crate::touched::{forget, forget_if, note};
+use crate::search::{chunk_of, item_from, place_in};
+use crate::starts::Starts;
+use crate::touched::{forget, forget_if, move_up, note};
 use std::alloc::Global;
 use std::marker::{Brand, Model};
 use std::sync::ledger::{Blank, Ledger};
@@ -24,8 +24,7 @@ const SLACK: usize = 16;
 #[derive(Drop)]
 pub struct ChunkList<T> {
     chunks: Vec<Vec<T>>,
-    // Where each chunk begins in the list.
-    starts: Vec<usize>,
+    starts: Starts,
     len: usize,
     // Each chunk has spare capacity for so many items.
     room: usize,
@@ -48,9 +47,9 @@ impl<T> Model for ChunkList<T> {
     ghost use Rattle.chunk_list.specs.Chunks.{joined};
     ghost use Rattle.chunk_list.specs.Tended.{IsTended};
 
-    ghost view = { λ s. record { items = joined s.chunks.items; room = s.room; cuts = s.starts.items; longest = limit + s.made } };
+    ghost view = { λ s. record { items = joined s.chunks.items; room = s.room; cuts = s.starts.places; longest = limit + s.made } };
 
-    ghost invariant = { λ s. IsTended s.chunks.items s.starts.items s.len s.room s.made s.touched.items s.spare };
+    ghost invariant = { λ s. IsTended s.chunks.items s.starts.places s.len s.room s.made s.touched.items s.spare };
 }
 
 impl<T> ChunkList<T> {
@@ -62,7 +61,7 @@ impl<T> ChunkList<T> {
     {
         ChunkList {
             chunks: Vec::new(alloc),
-            starts: Vec::new(alloc),
+            starts: Starts::new(alloc),
             len: 0,
             room: 0,
             made: 0,
@@ -90,13 +89,12 @@ impl<T> ChunkList<T> {
         self.room
     }
 
-    /// The places where the chunks begin, the first one first. Each chunk ends where the next one begins.
-    pub fn cuts(&self) -> &[usize]
-        ensures value { result.now ≡ self.now.cuts }
+    /// The places where the chunks begin. Each chunk ends where the next one begins.
+    pub fn cuts(&self) -> &Starts
+        ensures value { result.now.places ≡ self.now.cuts }
         ensures cuts { AreCuts self.now.cuts (length self.now.items) self.now.longest }
     {
-        let _ = &self.chunks;
-        self.starts.as_slice()
+        &self.starts
     }
 
     /// The item at a place, which counts from 0. None past the end.
@@ -106,37 +104,44 @@ impl<T> ChunkList<T> {
         if place >= self.len {
             return None;
         }
-        let at = home(&self.starts, place);
-        let start = self.starts[at];
+        let at = self.starts.home(place);
+        let start = self.starts.start(at);
         let chunk = &self.chunks[at];
         Some(&chunk[place - start])
     }
 
-    /// The place of the first item that does not pass the test, where those that pass stand first; the length
-    /// where all pass. It looks at no more than two times as many items as the length has bits.
-    pub fn search<L: Ledger, F: Fn(&T) -> bool>(&self, passes: F, steps: &mut Steps<L>) -> usize
+    /// The place of the first item that does not pass the test, where those that pass stand first, and that item; the
+    /// length and None where all pass. It looks at no more than two times as many items as the length has bits.
+    pub fn search<L: Ledger, F: Fn(&T) -> bool>(
+        &self,
+        passes: F,
+        steps: &mut Steps<L>,
+    ) -> (usize, Option<&T>)
         requires { F.IsAlwaysCallable passes }
-        ensures within { result ≤ length self.now.items }
-        ensures before { 0 < result → HoldsAt (λ x. FnReturnsAt F.Fn passes x true) self.now.items (result - 1) }
-        ensures after { result < length self.now.items → HoldsAt (λ x. FnReturnsAt F.Fn passes x false) self.now.items result }
+        ensures within { result.0 ≤ length self.now.items }
+        ensures before { 0 < result.0 → HoldsAt (λ x. FnReturnsAt F.Fn passes x true) self.now.items (result.0 - 1) }
+        ensures after { result.0 < length self.now.items → HoldsAt (λ x. FnReturnsAt F.Fn passes x false) self.now.items result.0 }
+        ensures item { option_copied result.1 ≡ slice_get self.now.items result.0 }
         ensures looks { (k : ℕ) → length self.now.items < 2 ^ k → steps.new ≤ steps.old + 2 * k }
     {
         if self.len == 0 {
-            return 0;
+            return (0, None);
         }
         let at = chunk_of(&self.chunks, &passes, steps);
-        let start = self.starts[at];
+        let start = self.starts.start(at);
         // The first item of the chunk passes, unless it is the first chunk, of which nothing is known.
         let known = at.min(1);
-        start + place_in(&self.chunks[at], known, &passes, steps)
+        let place = place_in(&self.chunks[at], known, &passes, steps);
+        (start + place, item_from(&self.chunks, at, place))
     }
 
     /// `search` for who counts nothing.
-    pub fn find_place<F: Fn(&T) -> bool>(&self, passes: F) -> usize
+    pub fn find<F: Fn(&T) -> bool>(&self, passes: F) -> (usize, Option<&T>)
         requires { F.IsAlwaysCallable passes }
-        ensures within { result ≤ length self.now.items }
-        ensures before { 0 < result → HoldsAt (λ x. FnReturnsAt F.Fn passes x true) self.now.items (result - 1) }
-        ensures after { result < length self.now.items → HoldsAt (λ x. FnReturnsAt F.Fn passes x false) self.now.items result }
+        ensures within { result.0 ≤ length self.now.items }
+        ensures before { 0 < result.0 → HoldsAt (λ x. FnReturnsAt F.Fn passes x true) self.now.items (result.0 - 1) }
+        ensures after { result.0 < length self.now.items → HoldsAt (λ x. FnReturnsAt F.Fn passes x false) self.now.items result.0 }
+        ensures item { option_copied result.1 ≡ slice_get self.now.items result.0 }
     {
         counted::<T, Brand, F>(self, passes, Blank::new(1))
     }
@@ -151,44 +156,52 @@ impl<T> ChunkList<T> {
         ensures room { self.old.room ≤ self.new.room }
         ensures longest { self.new.longest ≤ max self.old.longest (limit + max more slack) }
     {
-        if more <= self.room || self.refill(more)? {
+        let wanted = more.max(SLACK);
+        if more <= self.room || self.refill(wanted)? {
             return Ok(());
         }
-        let wanted = more.max(SLACK);
         if usize::MAX - self.len < wanted {
             return Err(Memory);
         }
         self.make_room(wanted)
     }
 
-    // Makes the room in the touched chunks alone, if that is enough and none of them has grown long: all others have
-    // it still. So that room is made often costs no look at each chunk.
-    fn refill(&mut self, more: usize) -> Result<bool, Memory>
-        requires { self.old.room ≤ more }
+    // Makes the room in the touched chunks alone, and cuts those that have grown long, if that is enough: all others
+    // have the room still. So that room is made often costs no look at each chunk. Whether it is made; where a half
+    // would be too long it is not.
+    fn refill(&mut self, wanted: usize) -> Result<bool, Memory>
+    where
+        T: Drop,
+        requires { self.old.room ≤ wanted }
         ensures items { self.new.items ≡ self.old.items }
-        ensures done { IfOk result (λ done. done ≡ true → more ≤ self.new.room) }
+        ensures done { IfOk result (λ done. done ≡ true → wanted ≤ self.new.room) }
         ensures not_done { IfOk result (λ done. done ≡ false → self.new.room ≡ self.old.room) }
         ensures room { self.old.room ≤ self.new.room }
         ensures longest { self.new.longest ≡ self.old.longest }
     {
-        if more > self.spare || self.chunks.len() == 0 || usize::MAX - self.len < self.spare {
+        if wanted > self.spare || self.chunks.len() == 0 || usize::MAX - self.len < self.spare {
             return Ok(false);
         }
-        let mut left = self.touched.len();
-        while left > 0 {
-            left -= 1;
-            let at = self.touched[left];
+        while self.touched.len() > 0 {
+            let last = self.touched.len() - 1;
+            let at = self.touched[last];
             let length = self.chunks[at].len();
-            if length > LIMIT {
+            if length > 2 * LIMIT {
                 return Ok(false);
             }
-            widen(&mut self.chunks, at, self.spare)?;
-            self.touched.truncate(left);
+            if length > LIMIT {
+                halve(&mut self.chunks, &mut self.starts, at, self.spare)?;
+                move_up(&mut self.touched, at);
+            } else {
+                widen(&mut self.chunks, at, self.spare)?;
+                self.touched.truncate(last);
+            }
         }
         self.room = self.spare;
         Ok(true)
     }
 
+    // Makes the room in each chunk, and cuts those that have grown long.
     fn make_room(&mut self, wanted: usize) -> Result<(), Memory>
     where
         T: Drop,
@@ -229,10 +242,10 @@ impl<T> ChunkList<T> {
         ensures room { self.new.room + 1 ≡ self.old.room }
         ensures longest { self.new.longest ≡ self.old.longest }
     {
-        let at = home(&self.starts, place);
-        let start = self.starts[at];
+        let at = self.starts.home(place);
+        let start = self.starts.start(at);
         put(&mut self.chunks, at, place - start, item);
-        raise(&mut self.starts, at);
+        self.starts.raise(at);
         self.len += 1;
         self.room -= 1;
         note(&mut self.touched, &mut self.spare, self.room, at);
@@ -246,8 +259,8 @@ impl<T> ChunkList<T> {
         ensures room { self.new.room ≡ self.old.room }
         ensures longest { self.new.longest ≡ self.old.longest }
     {
-        let at = home(&self.starts, place);
-        let start = self.starts[at];
+        let at = self.starts.home(place);
+        let start = self.starts.start(at);
         exchange(&mut self.chunks, at, place - start, item)
     }
 
@@ -262,10 +275,10 @@ impl<T> ChunkList<T> {
         ensures room { self.new.room ≡ self.old.room }
         ensures longest { self.new.longest ≡ self.old.longest }
     {
-        let at = home(&self.starts, place);
-        let start = self.starts[at];
+        let at = self.starts.home(place);
+        let start = self.starts.start(at);
         let item = take_out(&mut self.chunks, at, place - start);
-        lower(&mut self.starts, at);
+        self.starts.lower(at);
         self.len -= 1;
         let gone = give_back(&mut self.chunks, &mut self.starts, at);
         forget_if(gone, &mut self.touched, &mut self.spare, self.room);
@@ -274,14 +287,19 @@ impl<T> ChunkList<T> {
 }
 
 // A search with a counter of its own.
-fn counted<T, L: Ledger, F: Fn(&T) -> bool>(list: &ChunkList<T>, passes: F, blank: Blank) -> usize
+fn counted<T, L: Ledger, F: Fn(&T) -> bool>(
+    list: &ChunkList<T>,
+    passes: F,
+    blank: Blank,
+) -> (usize, Option<&T>)
     requires callable { F.IsAlwaysCallable passes }
     requires name { blank.name ≡ L.name }
     requires parts { blank.parts ≡ L.parts }
     requires some { 0 < L.parts }
-    ensures within { result ≤ length list.now.items }
-    ensures before { 0 < result → HoldsAt (λ x. FnReturnsAt F.Fn passes x true) list.now.items (result - 1) }
-    ensures after { result < length list.now.items → HoldsAt (λ x. FnReturnsAt F.Fn passes x false) list.now.items result }
+    ensures within { result.0 ≤ length list.now.items }
+    ensures before { 0 < result.0 → HoldsAt (λ x. FnReturnsAt F.Fn passes x true) list.now.items (result.0 - 1) }
+    ensures after { result.0 < length list.now.items → HoldsAt (λ x. FnReturnsAt F.Fn passes x false) list.now.items result.0 }
+    ensures item { option_copied result.1 ≡ slice_get list.now.items result.0 }
 {
     let mut steps = Steps::<L>::new(blank);
     list.search(passes, &mut steps)

@@ -1,8 +1,10 @@
 //! A search by halves, first among the chunks and then inside one of them.
-ghost use Rattle.std.specs.Prelude.{◌≡◌, ◌+◌, ◌-◌, ◌^◌, ◌<◌, ◌≤◌, ℕ, true, false, length};
+ghost use Rattle.std.specs.Prelude.{◌≡◌, ◌+◌, ◌-◌, ◌^◌, ◌<◌, ◌≤◌, ℕ, true, false, length, slice_get, slice_index_or, vec_len};
 ghost use Rattle.std.specs.Fn.{FnReturnsAt};
 ghost use Rattle.std.specs.List.{HoldsAt};
-ghost use Rattle.chunk_list.specs.Chunks.{NoneEmpty};
+ghost use Rattle.std.specs.Option.{option_copied};
+ghost use Rattle.std.specs.Vec.{vec_items};
+ghost use Rattle.chunk_list.specs.Chunks.{NoneEmpty, joined, start_at};
 
 use std::sync::ledger::Ledger;
 use u1_base::Steps;
@@ -63,4 +65,22 @@ pub(crate) fn place_in<T, L: Ledger, F: Fn(&T) -> bool>(
         }
     }
     low
+}
+
+// The item at a place of the chunk at `at`; at its end, the first one of the next chunk. None where that is the end.
+pub(crate) fn item_from<T>(chunks: &Vec<Vec<T>>, at: usize, place: usize) -> Option<&T>
+    requires within { at < length chunks.now.items }
+    requires place { (d : _) → place ≤ vec_len (slice_index_or chunks.now.items at d) }
+    requires full { NoneEmpty chunks.now.items }
+    ensures { option_copied result ≡ slice_get (joined chunks.now.items) (start_at vec_items chunks.now.items at + place) }
+{
+    let chunk = &chunks[at];
+    if place < chunk.len() {
+        return Some(&chunk[place]);
+    }
+    if at < chunks.len() - 1 {
+        let next = &chunks[at + 1];
+        return Some(&next[0]);
+    }
+    None
 }

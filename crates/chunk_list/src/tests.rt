@@ -72,19 +72,31 @@ fn is_same(list: &ChunkList<u64>, plain: &Vec<u64>) -> bool {
     true
 }
 
-// Whether the cuts begin at 0, rise, stay below the length and are no further apart than `longest`.
+// Whether the first chunk begins at 0, each begins where the one before it ends, none is empty but an only one, and none
+// is longer than `longest`.
 fn are_lawful(list: &ChunkList<u64>, longest: usize) -> bool {
     let cuts = list.cuts();
-    let mut end = list.len();
-    for cut in cuts.iter().rev() {
-        let is_short = *cut <= end && end - *cut <= longest;
-        let is_full = *cut < end || cuts.len() == 1;
+    for at in 0..cuts.len() {
+        let begin = cuts.get(at).unwrap_or(usize::MAX);
+        let end = cuts.get(at + 1).unwrap_or(list.len());
+        let is_short = begin <= end && end - begin <= longest;
+        let is_full = begin < end || cuts.len() == 1;
         if !is_short || !is_full {
             return false;
         }
-        end = *cut;
     }
-    end == 0
+    cuts.get(cuts.len()).is_none() && (cuts.is_empty() || cuts.get(0) == Some(0))
+}
+
+// Whether the chunks begin at these places.
+fn begin_at(list: &ChunkList<u64>, places: &[usize]) -> bool {
+    let cuts = list.cuts();
+    for (at, place) in places.iter().enumerate() {
+        if cuts.get(at) != Some(*place) {
+            return false;
+        }
+    }
+    cuts.len() == places.len()
 }
 
 #[test]
@@ -95,7 +107,7 @@ fn starts_empty(rt: HostRuntime) -> Result<(), Fail> {
     assert_eq!(rt; list.room(), 0);
     assert_eq!(rt; list.get(0), None);
     assert!(rt; list.cuts().is_empty());
-    assert_eq!(rt; list.find_place(|_| true), 0);
+    assert_eq!(rt; list.find(|_| true), (0, None));
     list.reserve(1)?;
     assert!(rt; 1 <= list.room());
     list.insert(0, 7);
@@ -143,7 +155,39 @@ fn is_as_a_plain_list(rt: HostRuntime) -> Result<(), Fail> {
         }
     }
     assert!(rt; is_same(&list, &plain));
-    assert_eq!(rt; list.cuts(), [0].as_slice());
+    assert!(rt; begin_at(&list, [0].as_slice()));
+    Ok(())
+}
+
+// So many items that the places of the chunks fill more than two blocks.
+#[test]
+fn keeps_many_chunks(rt: HostRuntime) -> Result<(), Fail> {
+    let mut random = Random {
+        state: 0x2545_f491_4f6c_dd1d,
+    };
+    let mut list = ChunkList::new(rt.alloc());
+    let mut plain = Vec::new(rt.alloc());
+    for item in 0..30_000 {
+        let place = random.below(plain.len() + 1);
+        insert_into_both(&mut list, &mut plain, place, item)?;
+        if item % 5000 == 4999 {
+            assert!(rt; is_same(&list, &plain));
+            assert!(rt; are_lawful(&list, 512 + 23));
+        }
+    }
+    assert_eq!(rt; list.len(), 30_000);
+    assert!(rt; list.cuts().len() > 64);
+    for round in 0..29_000 {
+        let place = random.below(plain.len());
+        assert!(rt; remove_from_both(&mut list, &mut plain, place));
+        if round % 5000 == 4999 {
+            assert!(rt; is_same(&list, &plain));
+            assert!(rt; are_lawful(&list, 512 + 23));
+        }
+    }
+    assert_eq!(rt; list.len(), 1000);
+    assert!(rt; is_same(&list, &plain));
+    assert!(rt; are_lawful(&list, 512 + 23));
     Ok(())
 }
 
@@ -158,7 +202,7 @@ fn a_chunk_made_with_much_room_is_cut_later(rt: HostRuntime) -> Result<(), Fail>
     }
     assert_eq!(rt; list.len(), 3000);
     assert_eq!(rt; list.room(), 0);
-    assert_eq!(rt; list.cuts(), [0].as_slice());
+    assert!(rt; begin_at(&list, [0].as_slice()));
     list.reserve(1)?;
     assert!(rt; are_lawful(&list, 512));
     for item in 0..3000 {
@@ -213,7 +257,7 @@ fn a_chunk_grows_to_the_limit(rt: HostRuntime) -> Result<(), Fail> {
         assert!(rt; goes_in(&mut list, place)?, "{place}");
         assert_eq!(rt; list.len(), 512);
         list.reserve(16)?;
-        assert_eq!(rt; list.cuts(), [0].as_slice());
+        assert!(rt; begin_at(&list, [0].as_slice()));
     }
     Ok(())
 }
@@ -226,9 +270,9 @@ fn a_chunk_grows_past_the_limit(rt: HostRuntime) -> Result<(), Fail> {
         assert_eq!(rt; list.room(), 0);
         assert!(rt; goes_in(&mut list, place)?, "{place}");
         assert_eq!(rt; list.len(), 513);
-        assert_eq!(rt; list.cuts(), [0].as_slice());
+        assert!(rt; begin_at(&list, [0].as_slice()));
         list.reserve(16)?;
-        assert_eq!(rt; list.cuts(), [0, 256].as_slice());
+        assert!(rt; begin_at(&list, [0, 256].as_slice()));
     }
     Ok(())
 }
@@ -246,11 +290,11 @@ fn a_chunk_past_the_limit_is_cut(rt: HostRuntime) -> Result<(), Fail> {
     ] {
         let mut list = in_one_chunk(rt.alloc(), 513)?;
         assert_eq!(rt; list.len(), 513);
-        assert_eq!(rt; list.cuts(), [0].as_slice());
+        assert!(rt; begin_at(&list, [0].as_slice()));
         assert!(rt; goes_in(&mut list, place)?, "{place}");
         assert_eq!(rt; list.len(), 514);
         assert_eq!(rt; list.room(), 15);
-        assert_eq!(rt; list.cuts(), [0, cut].as_slice());
+        assert!(rt; begin_at(&list, [0, cut].as_slice()));
     }
     Ok(())
 }
@@ -266,7 +310,9 @@ fn finds_places(rt: HostRuntime) -> Result<(), Fail> {
     assert!(rt; list.cuts().len() > 2);
     for key in 0..1100 {
         let want = if key < 1000 { key as usize * 2 } else { 2000 };
-        assert_eq!(rt; list.find_place(|item| *item / 2 < key), want, "{key}");
+        let (place, item) = list.find(|item| *item / 2 < key);
+        assert_eq!(rt; place, want, "{key}");
+        assert_eq!(rt; item, list.get(want), "{key}");
     }
     Ok(())
 }

@@ -1,4 +1,5 @@
 //! Which chunks may have less spare capacity than the others.
+ghost use Rattle.std.specs.Prelude.{◌≡◌, ◌+◌, ◌<◌, ◌≤◌, ◌^◌, ℕ, length, slice_index};
 ghost use Rattle.chunk_list.specs.Tended.{IsForgotten, IsForgottenIf, IsNotedIn};
 
 // Notes that an item went into the chunk at `at`. Where there is no space for one more, all is forgotten.
@@ -26,5 +27,19 @@ pub(crate) fn forget_if(gone: bool, touched: &mut Vec<usize>, spare: &mut usize,
 {
     if gone {
         forget(touched, spare, room);
+    }
+}
+
+// The chunks behind the one at `at` have moved up by one.
+pub(crate) fn move_up(touched: &mut Vec<usize>, at: usize)
+    requires { (j : ℕ) → j < length touched.old.items → slice_index touched.old.items j + 1 < 2 ^ 64 }
+    ensures len { length touched.new.items ≡ length touched.old.items }
+    ensures up_to { (j : ℕ) → j < length touched.old.items → slice_index touched.old.items j ≤ at → slice_index touched.new.items j ≡ slice_index touched.old.items j }
+    ensures behind { (j : ℕ) → j < length touched.old.items → at < slice_index touched.old.items j → slice_index touched.new.items j ≡ slice_index touched.old.items j + 1 }
+{
+    for j in 0..touched.len() {
+        if touched[j] > at {
+            touched[j] += 1;
+        }
     }
 }

@@ -1,5 +1,5 @@
 //! The table, over a list of entries that is kept in chunks.
-ghost use Rattle.std.specs.Prelude.{◌≡◌, ◌+◌, ◌<◌, ◌≤◌, [], length, map, slice_get, OnOk, MatchResult, None, not};
+ghost use Rattle.std.specs.Prelude.{◌≡◌, ◌+◌, ◌<◌, ◌≤◌, [], length, map, slice_get, OnOk, MatchResult, None, Some, not};
 ghost use Rattle.std.specs.Option.{option_copied, option_map};
 ghost use Rattle.std.specs.Ordering.{eq_by_cmp};
 ghost use Rattle.std.specs.FinMap.Entries.{find, put, where_key};
@@ -66,8 +66,8 @@ impl<T> Table<T> {
         ensures room { self.new.room + length self.new.pairs ≡ self.old.room + length self.old.pairs }
     {
         let front = front(&id);
-        match place_of(&self.entries, front, &id) {
-            Ok(place) => {
+        match search(&self.entries, front, &id) {
+            Ok((place, _)) => {
                 let old = self.entries.replace(place, Entry { front, id, value });
                 Some(old.value)
             }
@@ -86,8 +86,8 @@ impl<T> Table<T> {
         ensures pairs { self.new.pairs ≡ where_key id_cmp (λ k. not (eq_by_cmp id_cmp id.now k)) self.old.pairs }
         ensures room { self.new.room ≡ self.old.room }
     {
-        match place_of(&self.entries, front(id), id) {
-            Ok(place) => {
+        match search(&self.entries, front(id), id) {
+            Ok((place, _)) => {
                 let gone = self.entries.remove(place);
                 Some(gone.value)
             }
@@ -99,11 +99,8 @@ impl<T> Table<T> {
     pub fn get(&self, id: &DocId) -> Option<&T>
         ensures { option_copied result ≡ find id_cmp id.now self.now.pairs }
     {
-        match place_of(&self.entries, front(id), id) {
-            Ok(place) => match self.entries.get(place) {
-                Some(entry) => Some(entry.value()),
-                None => None,
-            },
+        match search(&self.entries, front(id), id) {
+            Ok((_, entry)) => Some(entry.value()),
             Err(_) => None,
         }
     }
@@ -126,16 +123,20 @@ impl<T> Table<T> {
     }
 }
 
-// The place where an id with its front stands, or else where it would stand.
-fn place_of<T>(entries: &ChunkList<Entry<T>>, front: u64, id: &DocId) -> Result<usize, usize>
+// The place where an id with its front stands, and its entry, or else the place where it would stand.
+fn search<'a, T>(
+    entries: &'a ChunkList<Entry<T>>,
+    front: u64,
+    id: &DocId,
+) -> Result<(usize, &'a Entry<T>), usize>
     requires { IsFront id.now front }
-    ensures { MatchResult result (StandsAt id_cmp (pairs_of entries.now.items) id.now) (FitsAt id_cmp (pairs_of entries.now.items) id.now) }
+    ensures { MatchResult result (λ found. StandsAt id_cmp (pairs_of entries.now.items) id.now found.0 × (Some found.1.now ≡ slice_get entries.now.items found.0)) (FitsAt id_cmp (pairs_of entries.now.items) id.now) }
 {
-    let place = entries.find_place(|entry| entry.compare(front, id).is_lt());
-    match entries.get(place) {
+    let (place, found) = entries.find(|entry| entry.compare(front, id).is_lt());
+    match found {
         Some(entry) => {
             if entry.compare(front, id).is_eq() {
-                Ok(place)
+                Ok((place, entry))
             } else {
                 Err(place)
             }

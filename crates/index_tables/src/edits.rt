@@ -12,24 +12,19 @@ use crate::pair::Pair;
 use chunk_list::ChunkList;
 use u1_base::{DocId, Key, Text};
 
-// The place of the first pair that is not below a key and an id.
-fn place_of(list: &ChunkList<Pair>, key: &[Text], id: &DocId) -> usize
-    ensures within { result ≤ length list.now.items }
-    ensures before { 0 < result → HoldsAt (λ p. is_lt (entry_cmp (entry_of p) (key.now, id.now)) ≡ true) list.now.items (result - 1) }
-    ensures after { result < length list.now.items → HoldsAt (λ p. is_lt (entry_cmp (entry_of p) (key.now, id.now)) ≡ false) list.now.items result }
+// The place of the first pair that is not below a key and an id, and whether it is theirs.
+fn place_of(list: &ChunkList<Pair>, key: &[Text], id: &DocId) -> (usize, bool)
+    ensures within { result.0 ≤ length list.now.items }
+    ensures before { 0 < result.0 → HoldsAt (λ p. is_lt (entry_cmp (entry_of p) (key.now, id.now)) ≡ true) list.now.items (result.0 - 1) }
+    ensures after { result.0 < length list.now.items → HoldsAt (λ p. is_lt (entry_cmp (entry_of p) (key.now, id.now)) ≡ false) list.now.items result.0 }
+    ensures yes { result.1 ≡ true → (result.0 < length list.now.items) × HoldsAt (λ p. same (entry_of p) (key.now, id.now) ≡ true) list.now.items result.0 }
+    ensures no { result.1 ≡ false → result.0 < length list.now.items → HoldsAt (λ p. same (entry_of p) (key.now, id.now) ≡ false) list.now.items result.0 }
 {
     let front = front(key);
-    list.find_place(|pair| compare_pair(pair, front, key, id).is_lt())
-}
-
-// Whether the pair of a key and an id stands at a place.
-fn stands_at(list: &ChunkList<Pair>, place: usize, key: &[Text], id: &DocId) -> bool
-    ensures yes { result ≡ true → (place < length list.now.items) × HoldsAt (λ p. same (entry_of p) (key.now, id.now) ≡ true) list.now.items place }
-    ensures no { result ≡ false → place < length list.now.items → HoldsAt (λ p. same (entry_of p) (key.now, id.now) ≡ false) list.now.items place }
-{
-    match list.get(place) {
-        Some(pair) => compare_pair(pair, front(key), key, id).is_eq(),
-        None => false,
+    let (place, found) = list.find(|pair| compare_pair(pair, front, key, id).is_lt());
+    match found {
+        Some(pair) => (place, compare_pair(pair, front, key, id).is_eq()),
+        None => (place, false),
     }
 }
 
@@ -43,7 +38,7 @@ fn put(list: &mut ChunkList<Pair>, pair: Pair)
     ensures count { length (seen list.new.items) ≡ length (seen list.old.items) + 1 }
     ensures room { list.new.room + 1 ≡ list.old.room }
 {
-    let place = place_of(list, pair.key.texts(), &pair.id);
+    let (place, _) = place_of(list, pair.key.texts(), &pair.id);
     list.insert(place, pair);
 }
 
@@ -70,8 +65,8 @@ fn take_out(list: &mut ChunkList<Pair>, key: &[Text], id: &DocId)
     ensures pairs { seen list.new.items ≡ filter (λ p. not (same p (key.now, id.now))) (seen list.old.items) }
     ensures room { list.new.room ≡ list.old.room }
 {
-    let place = place_of(list, key, id);
-    if stands_at(list, place, key, id) {
+    let (place, stands) = place_of(list, key, id);
+    if stands {
         list.remove(place);
     }
 }

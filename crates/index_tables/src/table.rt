@@ -151,5 +151,6 @@ fn first_from<L: Ledger>(list: &ChunkList<Pair>, key: &[Text], steps: &mut Steps
     ensures looks { (k : ℕ) → length list.now.items < 2 ^ k → steps.new ≤ steps.old + 2 * k }
 {
     let front = front(key);
-    list.search(|pair| compare_key(pair, front, key).is_lt(), steps)
+    let (place, _) = list.search(|pair| compare_key(pair, front, key).is_lt(), steps);
+    place
 }

@@ -1,5 +1,5 @@
 -- One chunk, which is empty.
-use Rattle.std.proofs.Common.{ℕ, [], List, ◌∷◌, ◌++◌, ◌∙◌, ap}
+use Rattle.std.proofs.Common.{[], List, ◌∷◌, ◌++◌, ◌∙◌, ap}
 use Rattle.std.specs.Global.{Vec}
 use Rattle.chunk_list.proofs.chunks.first_chunk.Goals as goal
 
@@ -9,5 +9,5 @@ returns-clause-ok g c = record {
   empty = c.in_ok-chunk.ensures.items;
   spare = c.in_ok-chunk.ensures.capacity;
   one = c.in_ok-push.ensures.items ∙ ap (λ (l : List (Vec g.row.T.Denot)). l ++ c.in_ok-chunk.chunk ∷ []) c.requires.chunks;
-  start = c.push_reserved.ensures.items ∙ ap (λ (l : List ℕ). l ++ 0 ∷ []) (c.in_ok-reserve.ensures.items ∙ c.requires.starts);
+  starts_are = c.recount.ensures;
 }

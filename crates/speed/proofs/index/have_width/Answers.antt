@@ -1,5 +1,5 @@
 -- The key at the place has the width too.
-use Rattle.std.proofs.Common.{◌≡◌, ◌∙◌, sym, ap, length, arith}
+use Rattle.std.proofs.Common.{ap, length, arith}
 use Rattle.query_range.proofs.Alone.{width_more}
 use Rattle.speed.proofs.index.have_width.Goals as goal
 

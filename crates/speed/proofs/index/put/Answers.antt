@@ -1,5 +1,5 @@
 -- The pair was dropped, so that it is new.
-use Rattle.std.proofs.Common.{◌≡◌, ◌≢◌, ◌++◌, [], ◌∷◌, ℕ, List, AllPairs, not, filter, sym, subst, ◌∙◌, ap}
+use Rattle.std.proofs.Common.{◌≢◌, ◌++◌, [], ◌∷◌, ℕ, List, AllPairs, not, filter, sym, subst, ◌∙◌, ap}
 use Rattle.index_tables.specs.Entries.{AreNew, entries_of, has}
 use Rattle.index_tables.specs.Order.{Entry}
 use Rattle.query_range.proofs.Alone.{new_after_drop, one_distinct}

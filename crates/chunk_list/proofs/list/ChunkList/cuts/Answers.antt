@@ -5,4 +5,4 @@ use Rattle.chunk_list.proofs.list.ChunkList.cuts.Goals as goal
 pub returns-clause-cuts : goal.returns-clause-cuts
 returns-clause-cuts g c =
     let i = c.self.inside in
-    rw (← c.self.view_is) (cuts_are i.chunks.items i.starts.items i.len i.room i.made c.self.invariant.sound)
+    rw (← c.self.view_is) (cuts_are i.chunks.items i.starts.places i.len i.room i.made c.self.invariant.sound)

@@ -6,7 +6,7 @@ use Rattle.chunk_list.proofs.list.ChunkList.make_room.Given as goal
 
 abbrev pub invariant-loop-at : goal.invariant-loop-at
 invariant-loop-at g l = record {
-  sound : IsSound l.self-inside.chunks.items l.self-inside.starts.items l.self-inside.len l.self-inside.room l.self-inside.made;
+  sound : IsSound l.self-inside.chunks.items l.self-inside.starts.places l.self-inside.len l.self-inside.room l.self-inside.made;
   items : joined l.self-inside.chunks.items ≡ l.fn.self.items;
   room : l.self-inside.room ≡ l.fn.self.room;
   longest : limit + l.self-inside.made ≡ l.fn.self.longest;

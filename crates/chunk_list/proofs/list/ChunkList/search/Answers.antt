@@ -1,8 +1,9 @@
 -- First the chunk, then the place inside it.
-use Rattle.std.proofs.Common.{◌+◌, ◌<◌, ◌≤◌, ◌^◌, true, false, length, arith}
+use Rattle.std.proofs.Common.{◌≡◌, ◌∙◌, ◌+◌, ◌<◌, ◌≤◌, ◌^◌, true, false, length, arith, ap}
 use Rattle.std.specs.Fn.{FnReturnsAt}
-use Rattle.std.specs.Vec.{vec_len}
-use Rattle.chunk_list.specs.Chunks.{joined}
+use Rattle.std.specs.Prelude.{slice_get}
+use Rattle.std.specs.Vec.{vec_items, vec_len}
+use Rattle.chunk_list.specs.Chunks.{joined, start_at}
 use Rattle.chunk_list.proofs.Found.{found_within, chunk_within, found_before, found_after}
 use Rattle.chunk_list.proofs.Room.{count_most}
 use Rattle.chunk_list.proofs.list.ChunkList.search.Goals as goal
@@ -15,8 +16,8 @@ overflow_add-result g c =
       arith,
       c.self.invariant.sound.laid_out.counted,
       c.self.invariant.sound.laid_out.fits,
-      found_within i.chunks.items i.starts.items i.len i.room i.made c.self.invariant.sound at c.index-start.result.now c.place_in.result c.min-known.result c.index.result.now
-          c.chunk_of-at.ensures.within c.index-start.ensures c.index.ensures c.min-known.ensures c.place_in.ensures.low (omega (arith, c.place_in.ensures.high, c.index.result.now.ok.0)),
+      found_within i.chunks.items i.starts.places i.len i.room i.made c.self.invariant.sound at c.start-start.result c.place_in-place.result c.min-known.result c.index.result.now
+          c.chunk_of-at.ensures.within c.start-start.ensures c.index.ensures c.min-known.ensures c.place_in-place.ensures.low (omega (arith, c.place_in-place.ensures.high, c.index.result.now.ok.0)),
     )
 
 pub returns-clause-within : goal.returns-clause-within
@@ -24,35 +25,44 @@ returns-clause-within g c =
     let i = c.self.inside in
     let at = c.chunk_of-at.result in
     rw (← c.self.view_is)
-    (found_within i.chunks.items i.starts.items i.len i.room i.made c.self.invariant.sound at c.index-start.result.now c.place_in.result c.min-known.result c.index.result.now
-    c.chunk_of-at.ensures.within c.index-start.ensures c.index.ensures c.min-known.ensures c.place_in.ensures.low (omega (arith, c.place_in.ensures.high, c.index.result.now.ok.0)))
+    (found_within i.chunks.items i.starts.places i.len i.room i.made c.self.invariant.sound at c.start-start.result c.place_in-place.result c.min-known.result c.index.result.now
+    c.chunk_of-at.ensures.within c.start-start.ensures c.index.ensures c.min-known.ensures c.place_in-place.ensures.low (omega (arith, c.place_in-place.ensures.high, c.index.result.now.ok.0)))
 
 pub returns-clause-before : goal.returns-clause-before
 returns-clause-before g c =
     let i = c.self.inside in
     let at = c.chunk_of-at.result in
     rw (← c.self.view_is)
-    (found_before i.chunks.items i.starts.items i.len i.room i.made c.self.invariant.sound at c.index-start.result.now c.place_in.result c.min-known.result c.index.result.now
-    c.chunk_of-at.ensures.within c.index-start.ensures c.index.ensures c.min-known.ensures c.place_in.ensures.low (omega (arith, c.place_in.ensures.high, c.index.result.now.ok.0))
-    (λ x. FnReturnsAt g.F.Fn c.args.passes x true) c.chunk_of-at.ensures.here c.place_in.ensures.before)
+    (found_before i.chunks.items i.starts.places i.len i.room i.made c.self.invariant.sound at c.start-start.result c.place_in-place.result c.min-known.result c.index.result.now
+    c.chunk_of-at.ensures.within c.start-start.ensures c.index.ensures c.min-known.ensures c.place_in-place.ensures.low (omega (arith, c.place_in-place.ensures.high, c.index.result.now.ok.0))
+    (λ x. FnReturnsAt g.F.Fn c.args.passes x true) c.chunk_of-at.ensures.here c.place_in-place.ensures.before)
 
 pub returns-clause-after : goal.returns-clause-after
 returns-clause-after g c =
     let i = c.self.inside in
     let at = c.chunk_of-at.result in
     rw (← c.self.view_is)
-    (found_after i.chunks.items i.starts.items i.len i.room i.made c.self.invariant.sound at c.index-start.result.now c.place_in.result c.min-known.result c.index.result.now
-    c.chunk_of-at.ensures.within c.index-start.ensures c.index.ensures c.min-known.ensures c.place_in.ensures.low (omega (arith, c.place_in.ensures.high, c.index.result.now.ok.0))
-    (λ x. FnReturnsAt g.F.Fn c.args.passes x false) c.chunk_of-at.ensures.next c.place_in.ensures.after)
+    (found_after i.chunks.items i.starts.places i.len i.room i.made c.self.invariant.sound at c.start-start.result c.place_in-place.result c.min-known.result c.index.result.now
+    c.chunk_of-at.ensures.within c.start-start.ensures c.index.ensures c.min-known.ensures c.place_in-place.ensures.low (omega (arith, c.place_in-place.ensures.high, c.index.result.now.ok.0))
+    (λ x. FnReturnsAt g.F.Fn c.args.passes x false) c.chunk_of-at.ensures.next c.place_in-place.ensures.after)
 
 pub returns-clause-looks : goal.returns-clause-looks
 returns-clause-looks g c =
     let i = c.self.inside in
     let at = c.chunk_of-at.result in
     let short : vec_len c.index.result.now ≤ length (joined i.chunks.items) =
-    chunk_within i.chunks.items i.starts.items i.len i.room i.made c.self.invariant.sound at c.index-start.result.now c.place_in.result c.min-known.result c.index.result.now
-    c.chunk_of-at.ensures.within c.index-start.ensures c.index.ensures c.min-known.ensures c.place_in.ensures.low (omega (arith, c.place_in.ensures.high, c.index.result.now.ok.0)) in
-    let few : length i.chunks.items ≤ i.len + 1 = count_most i.chunks.items i.starts.items i.len i.room i.made c.self.invariant.sound in
+    chunk_within i.chunks.items i.starts.places i.len i.room i.made c.self.invariant.sound at c.start-start.result c.place_in-place.result c.min-known.result c.index.result.now
+    c.chunk_of-at.ensures.within c.start-start.ensures c.index.ensures c.min-known.ensures c.place_in-place.ensures.low (omega (arith, c.place_in-place.ensures.high, c.index.result.now.ok.0)) in
+    let few : length i.chunks.items ≤ i.len + 1 = count_most i.chunks.items i.starts.places i.len i.room i.made c.self.invariant.sound in
     λ k fits.
     let all : length (joined i.chunks.items) < 2 ^ k = rw (← c.self.view_is) at fits in
-    omega (arith, c.chunk_of-at.ensures.looks k (omega (arith, c.self.invariant.sound.laid_out.counted)), c.place_in.ensures.looks k (omega (arith, c.index.result.now.ok.0)))
+    omega (arith, c.chunk_of-at.ensures.looks k (omega (arith, c.self.invariant.sound.laid_out.counted)), c.place_in-place.ensures.looks k (omega (arith, c.index.result.now.ok.0)))
+
+pub returns-clause-item : goal.returns-clause-item
+returns-clause-item g c =
+    let i = c.self.inside in
+    let at = c.chunk_of-at.result in
+    let place = c.place_in-place.result in
+    let begin : c.start-start.result ≡ start_at vec_items i.chunks.items at = c.start-start.ensures ∙ c.self.invariant.sound.laid_out.begins at c.chunk_of-at.ensures.within in
+    let here : start_at vec_items i.chunks.items at + place ≡ c.start-start.result + place = omega (arith, begin) in
+    rw (← c.self.view_is) (c.item_from.ensures ∙ ap (slice_get (joined i.chunks.items)) here)

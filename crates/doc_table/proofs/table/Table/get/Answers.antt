@@ -1,21 +1,14 @@
 -- The value is that of the entry where the id stands.
-use Rattle.std.proofs.Common.{arith, sym, ◌∙◌, ap, Some}
-use Rattle.std.proofs.lemmas.List.{length-map}
-use Rattle.doc_table.specs.Entries.{pair_of}
-use Rattle.doc_table.proofs.Places.{entry_at, no_entry, found, not_found}
+use Rattle.std.proofs.Common.{sym, ◌∙◌, ap, Some}
+use Rattle.doc_table.proofs.Places.{entry_at, found, not_found}
 use Rattle.doc_table.proofs.table.Table.get.Goals as goal
 
-pub returns-in-Some : goal.returns-in-Some
-returns-in-Some g c =
+pub returns-in-Ok : goal.returns-in-Ok
+returns-in-Ok g c =
     let es = c.self.inside.entries.items in
     rw (← c.self.view_is)
     (ap Some c.value.ensures
-    ∙ sym (found es c.args.id.now c.in-Ok.place c.self.invariant c.in-Ok.ensures c.in-Some.entry.now (entry_at es c.in-Ok.place c.in-Some.entry.now c.in-Some.ensures).1))
-
-pub returns-in-None : goal.returns-in-None
-returns-in-None g c =
-    let es = c.self.inside.entries.items in
-    absurd (omega (arith, no_entry es c.in-Ok.place c.in-None.ensures, c.in-Ok.ensures.within, length-map es pair_of))
+    ∙ sym (found es c.args.id.now c.in-Ok.field-0-0 c.self.invariant c.in-Ok.ensures.0 c.in-Ok.entry.now (entry_at es c.in-Ok.field-0-0 c.in-Ok.entry.now c.in-Ok.ensures.1).1))
 
 pub returns-in-Err : goal.returns-in-Err
 returns-in-Err g c =

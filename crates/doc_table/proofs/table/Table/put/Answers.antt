@@ -8,7 +8,7 @@ use Rattle.doc_table.proofs.table.Table.put.Goals as goal
 pub invariant_of-self : goal.invariant_of-self
 invariant_of-self g c =
     subst (λ (l : List (Entry g.row.T.Denot)). AreSorted l) (sym c.replace-old.ensures.items)
-    (put_there_sorted c.self.inside.entries.items c.args.id c.in-Ok.place c.self.invariant c.in-Ok.ensures _ c.replace-old.result refl c.replace-old.ensures.value)
+    (put_there_sorted c.self.inside.entries.items c.args.id c.in-Ok.place c.self.invariant c.in-Ok.ensures.0 _ c.replace-old.result refl c.replace-old.ensures.value)
 
 pub insert-requires-clause-room : goal.insert-requires-clause-room
 insert-requires-clause-room g c =
@@ -23,12 +23,12 @@ invariant_of-self-in-Err g c =
 pub returns-in-Ok-clause-value : goal.returns-in-Ok-clause-value
 returns-in-Ok-clause-value g c =
     rw (← c.self.view_is)
-    (sym (found c.self.inside.entries.items c.args.id c.in-Ok.place c.self.invariant c.in-Ok.ensures c.replace-old.result c.replace-old.ensures.value))
+    (sym (found c.self.inside.entries.items c.args.id c.in-Ok.place c.self.invariant c.in-Ok.ensures.0 c.replace-old.result c.replace-old.ensures.value))
 
 pub returns-in-Ok-clause-pairs : goal.returns-in-Ok-clause-pairs
 returns-in-Ok-clause-pairs g c =
     rw (← c.self.view_is, c.replace-old.ensures.items)
-    (put_there c.self.inside.entries.items c.args.id c.in-Ok.place c.self.invariant c.in-Ok.ensures _ c.replace-old.result refl c.replace-old.ensures.value)
+    (put_there c.self.inside.entries.items c.args.id c.in-Ok.place c.self.invariant c.in-Ok.ensures.0 _ c.replace-old.result refl c.replace-old.ensures.value)
 
 pub returns-in-Err-clause-value : goal.returns-in-Err-clause-value
 returns-in-Err-clause-value g c =
