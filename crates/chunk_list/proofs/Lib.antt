@@ -12,3 +12,4 @@ pub mod Places
 pub mod Room
 pub mod Sorted
 pub mod Tended
+pub mod Walking

@@ -56,6 +56,3 @@ module _ {T : Type 0} (chunks : List (Vec T)) (starts : List ℕ) (len room made
     module _ (c : Vec T) (c_is : c ≡ get_or chunks i c) (lt : p < len) where
       pub read_fits : p - start < vec_len c
       read_fits = omega (arith, inside (omega (arith, s.counted)) c, ap vec_len c_is)
-
-      pub item_is : (x : T) → x ≡ get_or (vec_items c) (p - start) x → Some x ≡ slice_get (joined chunks) p
-      item_is x x_is = item_of_chunk chunks i (p - start) c x is_chunk c_is read_fits x_is ∙ ap (slice_get (joined chunks)) here

@@ -5,3 +5,4 @@ pub mod Halves
 pub mod Kept
 pub mod Sorted
 pub mod Tended
+pub mod Walks

@@ -13,7 +13,9 @@ mod starts;
 #[cfg(test)]
 mod tests;
 mod touched;
+mod walk;
 
 pub use front::number_of;
 pub use list::ChunkList;
 pub use starts::Starts;
+pub use walk::Walk;

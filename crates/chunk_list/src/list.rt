@@ -4,11 +4,13 @@ ghost use Rattle.std.specs.Fn.{FnReturnsAt};
 ghost use Rattle.std.specs.Option.{option_copied};
 ghost use Rattle.std.specs.List.{HoldsAt, insert, remove};
 ghost use Rattle.chunk_list.specs.Kept.{AreCuts, limit, slack};
+ghost use Rattle.chunk_list.specs.Walks.{IsRun};
 
 use crate::chunks::{exchange, first_chunk, give_back, halve, put, take_out, widen};
 use crate::search::{chunk_of, item_from, place_in};
 use crate::starts::Starts;
 use crate::touched::{forget, forget_if, move_up, note};
+use crate::walk::Walk;
 use std::alloc::Global;
 use std::marker::{Brand, Model};
 use std::sync::ledger::{Blank, Ledger};
@@ -101,13 +103,27 @@ impl<T> ChunkList<T> {
     pub fn get(&self, place: usize) -> Option<&T>
         ensures { option_copied result ≡ slice_get self.now.items place }
     {
+        self.run(place).first()
+    }
+
+    // The items from a place to the end of its chunk.
+    pub(crate) fn run(&self, place: usize) -> &[T]
+        ensures { IsRun self.now.items place result.now }
+    {
         if place >= self.len {
-            return None;
+            return &[];
         }
         let at = self.starts.home(place);
         let start = self.starts.start(at);
         let chunk = &self.chunks[at];
-        Some(&chunk[place - start])
+        &chunk[place - start..]
+    }
+
+    /// A walk through the items, for who wants many that stand together.
+    pub fn walk(&self) -> Walk<'_, T>
+        ensures { result ≡ self.now.items }
+    {
+        Walk::new(self)
     }
 
     /// The place of the first item that does not pass the test, where those that pass stand first, and that item; the

@@ -60,16 +60,18 @@ fn replace_in_both(
     list.replace(place, item) == old
 }
 
+// Each item by its place, and by a walk from the first to the last.
 fn is_same(list: &ChunkList<u64>, plain: &Vec<u64>) -> bool {
     if list.len() != plain.len() || list.get(plain.len()).is_some() {
         return false;
     }
+    let mut walk = list.walk();
     for (place, item) in plain.iter().enumerate() {
-        if list.get(place) != Some(item) {
+        if list.get(place) != Some(item) || walk.get(place) != Some(item) {
             return false;
         }
     }
-    true
+    walk.get(plain.len()).is_none()
 }
 
 // Whether the first chunk begins at 0, each begins where the one before it ends, none is empty but an only one, and none
@@ -314,6 +316,40 @@ fn finds_places(rt: HostRuntime) -> Result<(), Fail> {
         assert_eq!(rt; place, want, "{key}");
         assert_eq!(rt; item, list.get(want), "{key}");
     }
+    Ok(())
+}
+
+#[test]
+fn a_walk_goes_to_any_place(rt: HostRuntime) -> Result<(), Fail> {
+    let mut random = Random {
+        state: 0x0123_4567_89ab_cdef,
+    };
+    let empty = ChunkList::<u64>::new(rt.alloc());
+    assert_eq!(rt; empty.walk().get(0), None);
+    let mut list = ChunkList::<u64>::new(rt.alloc());
+    for item in 0..3000 {
+        list.reserve(1)?;
+        let end = list.len();
+        list.insert(end, item);
+    }
+    let mut walk = list.walk();
+    for _ in 0..5000 {
+        let place = random.below(3200);
+        let want = if place < 3000 {
+            Some(place as u64)
+        } else {
+            None
+        };
+        assert_eq!(rt; walk.get(place).copied(), want, "{place}");
+        // and on from there
+        let want = if place < 2999 {
+            Some(place as u64 + 1)
+        } else {
+            None
+        };
+        assert_eq!(rt; walk.get(place.saturating_add(1)).copied(), want, "{place}");
+    }
+    assert_eq!(rt; walk.get(usize::MAX), None);
     Ok(())
 }
 

@@ -12,7 +12,9 @@ mod pairs;
 mod table;
 #[cfg(test)]
 mod tests;
+mod walk;
 
 pub use order::compare_keys;
 pub use pairs::Pairs;
 pub use table::IndexTable;
+pub use walk::Entries;

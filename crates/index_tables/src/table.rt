@@ -10,6 +10,7 @@ use crate::front::front;
 use crate::order::compare_key;
 use crate::pair::Pair;
 use crate::pairs::{Pairs, make_pairs};
+use crate::walk::Entries;
 use chunk_list::ChunkList;
 use std::alloc::Global;
 use std::marker::Model;
@@ -129,6 +130,15 @@ impl IndexTable {
         match self.pairs.get(place as usize) {
             Some(pair) => Some((&pair.key, &pair.id)),
             None => None,
+        }
+    }
+
+    /// A walk through the pairs.
+    pub fn walk(&self) -> Entries<'_>
+        ensures { result ≡ self.now.pairs }
+    {
+        Entries {
+            pairs: self.pairs.walk(),
         }
     }
 

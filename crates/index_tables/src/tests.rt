@@ -138,6 +138,32 @@ fn shows(table: &IndexTable, place: u64, alloc: Global, code: u64) -> Result<boo
     Ok(is_key && *id == document(alloc, code % 100)?)
 }
 
+fn counted_walk<L: Ledger>(table: &IndexTable, blank: Blank) -> bool
+    requires name { blank.name ≡ L.name }
+    requires parts { blank.parts ≡ L.parts }
+    requires some { 0 < L.parts }
+{
+    let mut steps = Steps::<L>::new(blank);
+    let mut entries = table.walk();
+    for place in 0..table.length() {
+        let (Some((key, id)), Some((other, another))) = (
+            entries.entry(place, &mut steps),
+            table.entry(place, &mut steps),
+        ) else {
+            return false;
+        };
+        if id != another || compare_keys(key.texts(), other.texts()).is_ne() {
+            return false;
+        }
+    }
+    entries.entry(table.length(), &mut steps).is_none()
+}
+
+// Whether a walk meets each pair at its place, and none past the end.
+fn walks(table: &IndexTable) -> bool {
+    counted_walk::<Brand>(table, Blank::new(1))
+}
+
 fn is_same(table: &IndexTable, plain: &[u64], alloc: Global) -> Result<bool, Fail> {
     if table.length() != plain.len() as u64 || entry(table, plain.len() as u64).is_some() {
         return Ok(false);
@@ -147,7 +173,7 @@ fn is_same(table: &IndexTable, plain: &[u64], alloc: Global) -> Result<bool, Fai
             return Ok(false);
         }
     }
-    Ok(true)
+    Ok(walks(table))
 }
 
 #[test]

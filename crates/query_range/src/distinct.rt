@@ -21,8 +21,9 @@ pub fn distinct_keys<L: Ledger>(
     ensures looks { steps.new ≤ steps.old + length table.now.pairs + 4 }
 {
     let mut keys = Keys::new(alloc);
+    let mut entries = table.walk();
     for place in 0..table.length() {
-        let Some((key, _)) = table.entry(place, steps) else {
+        let Some((key, _)) = entries.entry(place, steps) else {
             break;
         };
         if !is_last(keys.as_slice(), key) {

@@ -55,8 +55,9 @@ pub(crate) fn walk<L: Ledger>(
 {
     let mut ids = Ids::new(alloc);
     let mut found = BTreeSet::new(alloc);
+    let mut entries = table.walk();
     for place in from..table.length() {
-        let Some((key, id)) = table.entry(place, steps) else {
+        let Some((key, id)) = entries.entry(place, steps) else {
             break;
         };
         if !wanted.takes(key) {
