@@ -1,3 +1,7 @@
 pub mod Alphabets
-pub mod IdFaults
+pub mod Booleans
+pub mod IdFacts
 pub mod MadeIds
+pub mod SameIds
+pub mod SamePlaces
+pub mod Worked

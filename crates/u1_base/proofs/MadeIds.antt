@@ -9,6 +9,7 @@ use Rattle.u1_base.specs.declared.ids.Form.TheVariants as form_of
 use Rattle.u1_base.specs.declared.made.IdKind.{IdKind}
 use Rattle.u1_base.specs.declared.made.IdKind.TheVariants as kind_of
 use Rattle.u1_base.specs.Ids.{IsId, is_allowed, longest}
+use Rattle.u1_base.proofs.IdFacts.{id_from}
 use Rattle.u1_base.specs.NewId.{new_id_text, identifier_text, prefix_of}
 
 -- a hexadecimal digit is a letter or a digit
@@ -75,8 +76,7 @@ new_id_text_allowed form seed kind number =
 
 -- a made id is an id, whatever the form
 pub IsId-new_id_text : (form : Form) (seed : ℕ) (kind : IdKind) (number : ℕ) → IsId form (new_id_text seed kind number)
-IsId-new_id_text form seed kind number = record {
-  some = omega (arith, length-new_id_text seed kind number);
-  short = omega (arith, length-new_id_text seed kind number, at_least_64 form);
-  allowed = new_id_text_allowed form seed kind number;
-}
+IsId-new_id_text form seed kind number =
+    id_from form (new_id_text seed kind number)
+    (omega (arith, length-new_id_text seed kind number))
+    (omega (arith, length-new_id_text seed kind number, at_least_64 form)) (new_id_text_allowed form seed kind number)

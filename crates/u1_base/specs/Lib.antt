@@ -2,3 +2,4 @@ pub mod Causes
 pub mod Fields
 pub mod Ids
 pub mod NewId
+pub mod Places

@@ -1,10 +1,12 @@
 //! Ids: short ASCII texts, each form with its alphabet and its greatest length.
-ghost use Rattle.std.specs.Prelude.{◌≡◌, ◌≤◌, ◌↔◌, IsTrue, IfOk, MatchOption, not, position};
-ghost use Rattle.u1_base.specs.Ids.{IsFault, IsId, ReadsId, is_allowed, longest};
+ghost use Rattle.std.specs.Prelude.{◌≡◌, ◌≤◌, ◌↔◌, IsTrue, IfOk, MatchOption, None, not, position};
+ghost use Rattle.u1_base.specs.Ids.{IsFault, IsId, ReadsId, id_in, is_allowed, longest};
 
+use crate::limits::{MOST_DOCUMENT_ID_BYTES, MOST_NAME_BYTES};
 use crate::{Items, Memory, Text};
 use std::alloc::Global;
 use std::cmp::Ordering;
+use std::error::Error;
 use std::fmt;
 use std::marker::{Model, PhantomData};
 
@@ -42,6 +44,24 @@ impl From<Memory> for IdFault {
         IdFault::Memory
     }
 }
+
+impl fmt::Display for IdFault {
+    ghost use Rattle.std.specs.Prelude.{Some};
+    ghost use Rattle.u1_base.specs.Ids.{id_fault_text};
+
+    ghost output = { λ fault. Some (id_fault_text fault) };
+
+    fn fmt<W: fmt::Write>(&self, f: &mut fmt::Formatter<W>) -> fmt::Result {
+        match self {
+            IdFault::Empty => f.write_str("the id is empty"),
+            IdFault::TooLong(length) => write!(f, "the id has {length} bytes, which is too long"),
+            IdFault::BadByte(place) => write!(f, "byte {place} of the id is not allowed in it"),
+            IdFault::Memory => f.write_str("out of memory"),
+        }
+    }
+}
+
+impl Error for IdFault {}
 
 /// A kind of id: a type that names its form.
 pub trait FormOf {
@@ -194,7 +214,8 @@ impl<F: FormOf> Id<F> {
 }
 
 fn fault_of(form: Form, bytes: &[u8]) -> Option<IdFault>
-    ensures { MatchOption result (IsId form bytes.now) (IsFault form bytes.now) }
+    ensures { MatchOption result (IsId form bytes.now)
+        (λ fault. IsFault form bytes.now fault × (id_in form bytes.now ≡ None)) }
 {
     if bytes.is_empty() {
         return Some(IdFault::Empty);
@@ -212,8 +233,8 @@ fn longest_of(form: Form) -> usize
     ensures { result ≡ longest form }
 {
     match form {
-        Form::Document => 128,
-        Form::Replica | Form::Transaction | Form::Name => 64,
+        Form::Document => MOST_DOCUMENT_ID_BYTES,
+        Form::Replica | Form::Transaction | Form::Name => MOST_NAME_BYTES,
     }
 }
 

@@ -1,5 +1,5 @@
 //! Lists that contracts see as lists.
-ghost use Rattle.std.specs.Prelude.{◌≡◌, [], ◌∷◌, ◌++◌, ◌↔◌, IsTrue, OnOk, OnErr, length};
+ghost use Rattle.std.specs.Prelude.{◌≡◌, [], ◌∷◌, ◌++◌, ◌↔◌, IsTrue, IfOk, OnOk, OnErr, length};
 
 use crate::{Memory, Text};
 use std::alloc::Global;
@@ -77,5 +77,18 @@ impl<T> Items<T> {
         ensures { result.now ≡ self.now }
     {
         self.inner.as_slice()
+    }
+}
+
+impl Texts {
+    /// A list of the same texts.
+    pub fn duplicate(&self) -> Result<Texts, Memory>
+        ensures { IfOk result (λ texts. texts ≡ self.now) }
+    {
+        let mut inner = Vec::with_capacity(*self.inner.allocator(), self.inner.len())?;
+        for text in self.inner.as_slice() {
+            inner.push(text.duplicate()?)?;
+        }
+        Ok(Items { inner })
     }
 }

@@ -1,7 +1,7 @@
 //! The key of a document in an index.
-ghost use Rattle.std.specs.Prelude.{◌≡◌, ◌≤◌, length};
+ghost use Rattle.std.specs.Prelude.{◌≡◌, ◌≤◌, IfOk, length};
 
-use crate::{Items, Text, Texts};
+use crate::{Items, Memory, Text, Texts};
 use std::marker::Model;
 
 /// One to eight texts, seen as their list.
@@ -38,5 +38,13 @@ impl Key {
         ensures few { length self.now ≤ 8 }
     {
         self.texts.as_slice()
+    }
+
+    pub fn copy(&self) -> Result<Key, Memory>
+        ensures { IfOk result (λ key. key ≡ self.now) }
+    {
+        Ok(Key {
+            texts: self.texts.duplicate()?,
+        })
     }
 }

@@ -9,6 +9,7 @@ mod fields;
 mod ids;
 mod items;
 mod key;
+mod laws;
 pub mod limits;
 mod made;
 mod memory;
@@ -25,6 +26,7 @@ pub use ids::{
 };
 pub use items::{Bytes, Items, Numbers, Texts};
 pub use key::{Key, Keys};
+pub use laws::{law_ids, law_same_id, law_same_place};
 pub use made::{IdKind, new_id};
 pub use memory::Memory;
 pub use position::Position;

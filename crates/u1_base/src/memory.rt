@@ -1,4 +1,4 @@
-//! Want of memory, the one answer that no clause ties to a cause.
+//! Running out of memory: the one answer of which the contracts do not say when it comes.
 use std::alloc::{AllocError, AllocFailed};
 use std::error::Error;
 use std::fmt;

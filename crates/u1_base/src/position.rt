@@ -1,12 +1,14 @@
 //! A place in a transaction log.
-ghost use Rattle.std.specs.Prelude.{◌≡◌, ◌<◌, ◌^◌, ◌↔◌, IfOk, IsNone, None};
+ghost use Rattle.std.specs.Prelude.{◌≡◌, ◌<◌, ◌^◌, ◌↔◌, IfOk, IsNone};
+ghost use Rattle.u1_base.specs.Places.{nowhere};
 
 use crate::{Memory, TransId};
+use std::marker::Model;
 
-/// A generation of a log, and the transaction id of the entry that stands there.
+/// A generation of a log, and the transaction id of the entry that stands there, seen as the two.
 ///
 /// Generation 0 is the place before the first entry, and has no transaction id.
-#[derive(Debug, PartialEq, Eq, Drop)]
+#[derive(Debug, Drop)]
 pub struct Position {
     /// From 0 to 2^63-1.
     pub generation: u64,
@@ -15,11 +17,20 @@ pub struct Position {
     pub ghost counted: { generation < 2 ^ 63 },
 }
 
+impl Model for Position {
+    ghost use Rattle.u1_base.specs.Places.{Place, place_code};
+
+    ghost Value = { Place };
+
+    ghost coded = { place_code };
+
+    ghost view = { λ p. record { generation = p.generation; trans = p.trans } };
+}
+
 impl Position {
     /// The place before the first entry.
     pub fn start() -> Position
-        ensures generation { result.generation ≡ 0 }
-        ensures trans { result.trans ≡ None }
+        ensures { result ≡ nowhere }
     {
         Position {
             generation: 0,
@@ -28,8 +39,7 @@ impl Position {
     }
 
     pub fn copy(&self) -> Result<Position, Memory>
-        ensures generation { IfOk result (λ p. p.generation ≡ self.now.generation) }
-        ensures trans { IfOk result (λ p. p.trans ≡ self.now.trans) }
+        ensures { IfOk result (λ p. p ≡ self.now) }
     {
         let trans = match &self.trans {
             Some(trans) => Some(trans.copy()?),
@@ -40,4 +50,23 @@ impl Position {
             trans,
         })
     }
+}
+
+impl PartialEq for Position {
+    ghost use Rattle.std.specs.Cmp.{partial_equiv_from_equiv};
+    ghost use Rattle.u1_base.specs.Places.{same_place, same_place_equals};
+
+    ghost eq = { same_place };
+
+    ghost laws = { partial_equiv_from_equiv same_place_equals };
+
+    fn eq(&self, other: &Position) -> bool {
+        self.generation == other.generation && self.trans == other.trans
+    }
+}
+
+impl Eq for Position {
+    ghost use Rattle.u1_base.specs.Places.{same_place_equals};
+
+    ghost laws = { same_place_equals };
 }

@@ -1,7 +1,7 @@
 //! The worked rows of ids, made ids as another program makes them, and each call that allocates once.
 use crate::{
-    Bytes, DbName, DocId, IdFault, IdKind, IndexName, Key, Position, ReplicaUid, Text, Texts,
-    TransId, new_id, u16_at, u32_at, u64_at,
+    Bytes, DbName, DocId, IdFault, IdKind, IndexName, Key, Memory, Position, ReplicaUid, Text,
+    Texts, TransId, new_id, u16_at, u32_at, u64_at,
 };
 use std::alloc::Global;
 use std::test::Fail;
@@ -35,6 +35,24 @@ fn reads_document_ids(rt: HostRuntime) -> Result<(), Fail> {
     ] {
         assert_eq!(rt; DocId::read(alloc, text).err(), Some(fault), "{text:?}");
     }
+    Ok(())
+}
+
+#[test]
+fn faults_say_why(rt: HostRuntime) -> Result<(), Fail> {
+    let alloc = rt.alloc();
+    for (fault, want) in [
+        (IdFault::Empty, "the id is empty"),
+        (
+            IdFault::TooLong(129),
+            "the id has 129 bytes, which is too long",
+        ),
+        (IdFault::BadByte(1), "byte 1 of the id is not allowed in it"),
+        (IdFault::Memory, "out of memory"),
+    ] {
+        assert_eq!(rt; format!(in alloc; "{fault}")?.as_str(), want);
+    }
+    assert_eq!(rt; format!(in alloc; "{Memory}")?.as_str(), "out of memory");
     Ok(())
 }
 
@@ -146,8 +164,9 @@ fn keeps_keys_and_positions(rt: HostRuntime) -> Result<(), Fail> {
     let mut texts = Texts::new(alloc);
     texts.push(Text::copy(alloc, "ann")?)?;
     texts.push(Text::copy(alloc, "work")?)?;
-    let key = Key::of(texts);
+    let key = Key::of(texts).copy()?;
     assert_eq!(rt; key.texts().len(), 2);
+    assert_eq!(rt; key.texts()[0].as_str(), "ann");
     assert_eq!(rt; key.texts()[1].duplicate()?.as_str(), "work");
     let at = Position {
         generation: 3,
@@ -155,5 +174,10 @@ fn keeps_keys_and_positions(rt: HostRuntime) -> Result<(), Fail> {
     };
     assert!(rt; at.copy()? == at);
     assert!(rt; Position::start() != at);
+    let other = Position {
+        generation: 3,
+        trans: Some(TransId::read(alloc, "T-4")?),
+    };
+    assert!(rt; other != at);
     Ok(())
 }
