@@ -1,3 +1,4 @@
+pub mod AbbreviatedKeys
 pub mod AsciiLanes
 pub mod BreakLanes
 pub mod BreakLaws

@@ -1,5 +1,5 @@
 //! Each call against its plain meaning: at each length up to two and a half blocks and at each place in it.
-use crate::{common_prefix, compare, find_break, is_ascii, lower_ascii};
+use crate::{abbreviated_key, common_prefix, compare, find_break, is_ascii, lower_ascii};
 use std::cmp::Ordering;
 use std::process::Abort;
 use std::test::Fail;
@@ -190,5 +190,23 @@ fn orders_an_address_book(rt: HostRuntime) -> Result<(), Fail> {
         last = key;
     }
     assert_eq!(rt; last.as_slice(), b"ida foy".as_slice());
+    Ok(())
+}
+
+#[test]
+fn abbreviates_keys(rt: HostRuntime) -> Result<(), Fail> {
+    assert_eq!(rt; abbreviated_key("".as_bytes(), 16), 0);
+    assert_eq!(rt; abbreviated_key("ab".as_bytes(), 0), 0);
+    assert_eq!(rt; abbreviated_key("ab".as_bytes(), 1), 97);
+    assert_eq!(rt; abbreviated_key("ab".as_bytes(), 2), 0x6162);
+    assert_eq!(rt; abbreviated_key("ab".as_bytes(), 3), 0x616200);
+    assert_eq!(rt;
+        abbreviated_key("abcdefghijklmnopq".as_bytes(), 8),
+        0x6162636465666768
+    );
+    assert_eq!(rt;
+        abbreviated_key("abcdefghijklmnopq".as_bytes(), 16),
+        0x6162636465666768696a6b6c6d6e6f70
+    );
     Ok(())
 }
