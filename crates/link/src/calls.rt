@@ -1,7 +1,8 @@
 //! Counting the calls of an object in memory, some of which are to fail.
-ghost use Rattle.std.specs.Prelude.{◌≡◌, ◌+◌, ◌-◌, ◌^◌, ◌≤◌, ◌↔◌, IsTrue, Contains, min};
+ghost use Rattle.std.specs.Prelude.{◌≡◌, ◌≤◌, ◌↔◌, IsTrue, Contains};
 ghost use Rattle.std.specs.Bool.{OnTrue, OnFalse};
 ghost use Rattle.u1_base.specs.Causes.{Rose};
+ghost use Rattle.link.specs.Memory.{one_more};
 
 use u1_base::Numbers;
 
@@ -17,9 +18,10 @@ impl Calls {
     /// Counts one call, and tells whether it fails.
     pub fn begin(&mut self) -> bool
         ensures fails { IsTrue result ↔ Contains self.old.failing self.old.made }
-        ensures made { self.new.made ≡ min (self.old.made + 1) (2 ^ 64 - 1) }
+        ensures made { self.new.made ≡ one_more self.old.made }
+        ensures faulty { OnTrue result (self.new.faults ≡ one_more self.old.faults) }
         ensures rose { OnTrue result (Rose self.old.faults self.new.faults) }
-        ensures same { OnFalse result (self.new.faults ≡ self.old.faults) }
+        ensures faultless { OnFalse result (self.new.faults ≡ self.old.faults) }
         ensures later { self.old.faults ≤ self.new.faults }
         ensures failing { self.new.failing ≡ self.old.failing }
     {
@@ -34,6 +36,7 @@ impl Calls {
     /// Counts a failure.
     pub fn fail(&mut self)
         ensures made { self.new.made ≡ self.old.made }
+        ensures faulty { self.new.faults ≡ one_more self.old.faults }
         ensures rose { Rose self.old.faults self.new.faults }
         ensures later { self.old.faults ≤ self.new.faults }
         ensures failing { self.new.failing ≡ self.old.failing }

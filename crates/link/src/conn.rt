@@ -7,7 +7,9 @@ use crate::{Sink, Source};
 ///
 /// Without that, a fault of the one side could not be told from a fault of the other.
 pub trait Conn: Source + Sink {
-    ghost read_leaves_sink: { (a b : Self) → Self.read_keeps a b → (Self.taken b ≡ Self.taken a) × (Self.write_faults b ≡ Self.write_faults a) × (Self.held b ≡ Self.held a) };
+    ghost read_leaves_sink: { (a b : Self)
+        → Self.read_keeps a b → Self.Sink.known b ≡ Self.Sink.known a };
 
-    ghost put_leaves_source: { (a b : Self) → Self.put_keeps a b → (Self.left b ≡ Self.left a) × (Self.read_faults b ≡ Self.read_faults a) };
+    ghost put_leaves_source: { (a b : Self)
+        → Self.put_keeps a b → Self.Source.known b ≡ Self.Source.known a };
 }

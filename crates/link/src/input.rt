@@ -1,11 +1,13 @@
 //! Reading an input to its end, or to a limit.
-ghost use Rattle.std.specs.Prelude.{◌≡◌, ◌≤◌, ◌+◌, ◌<◌, ◌^◌, IfOk, length};
-ghost use Rattle.link.specs.Streams.{Gives};
-ghost use Rattle.link.specs.Pieces.{AddsNext};
-ghost use Rattle.u1_base.specs.Causes.{Rose};
+ghost use Rattle.std.specs.Prelude.{◌≤◌, ◌<◌, IfOk, OnErr};
+ghost use Rattle.u1_base.specs.Causes.{HasCauseOf};
+ghost use Rattle.link.specs.Streams.{Reads};
+ghost use Rattle.link.specs.Pieces.{AddsNext, Loses};
 
 use crate::Source;
 use std::alloc::Global;
+use std::error::Error;
+use std::fmt;
 use u1_base::{Bytes, Memory};
 
 /// Why an input could not be read.
@@ -15,6 +17,22 @@ pub enum InputFault {
     Source,
     Memory,
 }
+
+impl fmt::Display for InputFault {
+    ghost use Rattle.std.specs.Prelude.{Some};
+    ghost use Rattle.link.specs.Faults.{input_fault_text};
+
+    ghost output = { λ fault. Some (input_fault_text fault) };
+
+    fn fmt<W: fmt::Write>(&self, f: &mut fmt::Formatter<W>) -> fmt::Result {
+        match self {
+            InputFault::Source => f.write_str("a read of the input failed"),
+            InputFault::Memory => f.write_str("out of memory"),
+        }
+    }
+}
+
+impl Error for InputFault {}
 
 impl From<Memory> for InputFault {
     ghost use Rattle.std.specs.Prelude.{◌≡◌};
@@ -30,16 +48,15 @@ impl From<Memory> for InputFault {
 // How much is read at once, in bytes.
 const PIECE: usize = 4096;
 
-/// Reads the source to its end, or its first `most` bytes.
+/// Reads the source to its end, or its first `most` bytes, and no byte more.
 pub fn read_at_most<S: Source>(
     alloc: Global,
     source: &mut S,
     most: usize,
 ) -> Result<Bytes, InputFault>
-    ensures read { IfOk result (λ bytes. Gives (S.left source.old) most bytes) }
-    ensures short { IfOk result (λ bytes. length bytes ≤ most) }
-    ensures failed { result ≡ Err InputFault.Source → Rose (S.read_faults source.old) (S.read_faults source.new) }
-    ensures later { S.read_faults source.old ≤ S.read_faults source.new }
+    ensures reads { Reads most (S.known source.old) (S.known source.new) result }
+    ensures cause { HasCauseOf InputFault.Source
+        (S.known source.old).faults (S.known source.new).faults result }
 {
     let mut bytes = Bytes::new(alloc);
     while bytes.len() < most {
@@ -51,7 +68,7 @@ pub fn read_at_most<S: Source>(
     Ok(bytes)
 }
 
-// Reads the next bytes, at most as many as there is room for, and adds them; none only at the source's end.
+// Reads the next bytes, at most as many as there is room for, and adds them; none only at the end.
 fn read_piece<S: Source>(
     source: &mut S,
     bytes: &mut Bytes,
@@ -59,9 +76,11 @@ fn read_piece<S: Source>(
 ) -> Result<usize, InputFault>
     requires some { 0 < room }
     requires few { room ≤ PIECE }
-    ensures added { IfOk result (λ n. (n ≤ room) × AddsNext (S.left source.old) (S.left source.new) bytes.old bytes.new n) }
-    ensures failed { result ≡ Err InputFault.Source → Rose (S.read_faults source.old) (S.read_faults source.new) }
-    ensures later { S.read_faults source.old ≤ S.read_faults source.new }
+    ensures added { IfOk result (λ n. (n ≤ room)
+        × AddsNext (S.known source.old).left (S.known source.new).left bytes.old bytes.new n) }
+    ensures lost { OnErr result (Loses room (S.known source.old).left (S.known source.new).left) }
+    ensures cause { HasCauseOf InputFault.Source
+        (S.known source.old).faults (S.known source.new).faults result }
 {
     let mut piece = [0; PIECE];
     match source.read(&mut piece[..room]) {

@@ -1,13 +1,14 @@
 //! What the product reads from and writes to: sources, sinks, and connections that are both.
 //!
-//! A source tells, or does not tell, which bytes it has left; a sink which bytes it has taken. Each counts its
-//! faults, and a call fails only where the count of its object rose.
+//! A source tells, or does not tell, which bytes it has left; a sink which bytes it has taken. Each
+//! counts its faults, and a call fails only where the count of its object rose.
 #![tactic(auto)]
 
 mod calls;
 mod conn;
 mod input;
 mod memory;
+mod retried;
 mod sink;
 mod source;
 mod std_io;

@@ -1,7 +1,10 @@
 //! Sources, sinks and connections in memory, whose calls fail where a test wants it.
-ghost use Rattle.std.specs.Prelude.{◌≡◌, ◌<◌, ◌≤◌, ◌+◌, ◌-◌, ◌^◌, [], ◌++◌, List, ℕ, Some, IfOk, OnErr, Contains, take, length, min, ⊤};
-ghost use Rattle.std.specs.Io.KnownBytes.{Keeps, ReadConsumes};
+ghost use Rattle.std.specs.Prelude.{◌≡◌, ◌⊎◌, ◌↔◌, ◌<◌, ◌≤◌, ◌/◌, [], ◌++◌, take, length};
+ghost use Rattle.std.specs.Prelude.{Some, IfOk, OnOk, OnErr, IsErr, Contains, ⊤};
+ghost use Rattle.std.specs.Io.KnownBytes.{Appends, Keeps, ReadConsumes};
 ghost use Rattle.u1_base.specs.Causes.{HasCause};
+ghost use Rattle.link.specs.Memory.{Counts, FailedPut};
+ghost use Rattle.link.specs.Streams.{AppendsFront};
 
 use crate::calls::Calls;
 use crate::{Conn, ReadFailed, Sink, Source, WriteFailed};
@@ -19,17 +22,18 @@ pub struct MemSource {
 
 impl Model for MemSource {
     ghost use Rattle.std.specs.Prelude.{◌≤◌, drop, length};
-    ghost use Rattle.link.specs.Streams.{Stream};
+    ghost use Rattle.link.specs.Memory.{Stream, stream};
 
     ghost Value = { Stream };
 
-    ghost view = { λ s. record { bytes = drop s.at s.bytes; calls = s.calls.made; failing = s.calls.failing; faults = s.calls.faults } };
+    ghost view = { λ s. stream (drop s.at s.bytes) s.calls.made s.calls.failing s.calls.faults };
 
     ghost invariant = { λ s. s.at ≤ length s.bytes };
 }
 
 impl MemSource {
-    /// A source of these bytes. Its reads are counted from 0, and those whose numbers stand in `failing` fail.
+    /// A source of these bytes. Its reads are counted from 0, and just those whose numbers stand in
+    /// `failing` fail.
     pub fn new(bytes: Bytes, failing: Numbers) -> MemSource
         ensures { result ≡ record { bytes = bytes; calls = 0; failing = failing; faults = 0 } }
     {
@@ -47,10 +51,9 @@ impl MemSource {
 
 impl Source for MemSource {
     ghost use Rattle.std.specs.Prelude.{◌≡◌, Some, ⊤};
+    ghost use Rattle.link.specs.Memory.{input_of};
 
-    ghost left = { λ s. Some s.bytes };
-
-    ghost read_faults = { λ s. s.faults };
+    ghost known = { input_of };
 
     ghost read_keeps = { λ _ _. ⊤ };
 
@@ -59,7 +62,8 @@ impl Source for MemSource {
         ensures bytes { ReadConsumes (Some self.old.bytes) (Some self.new.bytes) result into.new }
         ensures cause { HasCause self.old.faults self.new.faults result }
         ensures keeps { ⊤ }
-        ensures only_where_wanted { OnErr result (Contains self.old.failing self.old.calls) }
+        ensures fails { IsErr result ↔ Contains self.old.failing self.old.calls }
+        ensures counts { Counts self.old self.new result }
     {
         if self.calls.begin() {
             return Err(ReadFailed);
@@ -71,7 +75,7 @@ impl Source for MemSource {
     }
 }
 
-/// A sink into memory. It tells what it has taken.
+/// A sink into memory. It tells what it has taken, and holds nothing back.
 #[derive(Debug, Drop)]
 pub struct MemSink {
     bytes: Bytes,
@@ -79,16 +83,17 @@ pub struct MemSink {
 }
 
 impl Model for MemSink {
-    ghost use Rattle.link.specs.Streams.{Stream};
+    ghost use Rattle.link.specs.Memory.{Stream, stream};
 
     ghost Value = { Stream };
 
-    ghost view = { λ s. record { bytes = s.bytes; calls = s.calls.made; failing = s.calls.failing; faults = s.calls.faults } };
+    ghost view = { λ s. stream s.bytes s.calls.made s.calls.failing s.calls.faults };
 }
 
 impl MemSink {
-    /// An empty sink. Its calls are counted from 0, and those whose numbers stand in `failing` fail; a `put` that
-    /// fails takes the first half of its piece.
+    /// An empty sink. Its calls are counted from 0, and those whose numbers stand in `failing` fail;
+    /// such a `put` takes the first half of its piece, or nothing where memory runs out. Another
+    /// `put` fails only where memory runs out, and takes nothing then.
     pub fn new(alloc: Global, failing: Numbers) -> MemSink
         ensures { result ≡ record { bytes = []; calls = 0; failing = failing; faults = 0 } }
     {
@@ -110,17 +115,22 @@ impl MemSink {
 }
 
 impl Sink for MemSink {
-    ghost use Rattle.std.specs.Prelude.{false, Some, ⊤};
+    ghost use Rattle.std.specs.Prelude.{⊤};
+    ghost use Rattle.link.specs.Memory.{output_of};
 
-    ghost taken = { λ s. Some s.bytes };
-
-    ghost write_faults = { λ s. s.faults };
-
-    ghost held = { λ _. false };
+    ghost known = { output_of };
 
     ghost put_keeps = { λ _ _. ⊤ };
 
-    fn put(&mut self, piece: &[u8]) -> Result<(), WriteFailed> {
+    fn put(&mut self, piece: &[u8]) -> Result<(), WriteFailed>
+        ensures ok { OnOk result (Appends (Some self.old.bytes) (Some self.new.bytes) piece.now) }
+        ensures err { OnErr result (AppendsFront (Some self.old.bytes) (Some self.new.bytes) piece.now) }
+        ensures cause { HasCause self.old.faults self.new.faults result }
+        ensures keeps { ⊤ }
+        ensures failed { OnErr result (FailedPut self.old self.new piece.now) }
+        ensures fails { Contains self.old.failing self.old.calls → IsErr result }
+        ensures counts { Counts self.old self.new result }
+    {
         if self.calls.begin() {
             take_half(&mut self.bytes, piece);
             return Err(WriteFailed);
@@ -136,8 +146,8 @@ impl Sink for MemSink {
         ensures same { Keeps (Some self.old.bytes) (Some self.new.bytes) }
         ensures cause { HasCause self.old.faults self.new.faults result }
         ensures keeps { ⊤ }
-        ensures only_where_wanted { OnErr result (Contains self.old.failing self.old.calls) }
-        ensures counted { self.new.calls ≡ min (self.old.calls + 1) (2 ^ 64 - 1) }
+        ensures fails { IsErr result ↔ Contains self.old.failing self.old.calls }
+        ensures counts { Counts self.old self.new result }
     {
         if self.calls.begin() {
             return Err(WriteFailed);
@@ -151,6 +161,14 @@ impl Sink for MemSink {
 pub struct MemConn {
     source: MemSource,
     sink: MemSink,
+}
+
+impl Model for MemConn {
+    ghost use Rattle.link.specs.Memory.{Line};
+
+    ghost Value = { Line };
+
+    ghost view = { λ c. record { source = c.source; sink = c.sink } };
 }
 
 impl MemConn {
@@ -169,31 +187,42 @@ impl MemConn {
 }
 
 impl Source for MemConn {
-    ghost use Rattle.std.specs.Prelude.{◌≡◌, Some};
+    ghost use Rattle.std.specs.Prelude.{◌≡◌};
+    ghost use Rattle.link.specs.Memory.{input_of};
 
-    ghost left = { λ c. Some c.source.bytes };
-
-    ghost read_faults = { λ c. c.source.faults };
+    ghost known = { λ c. input_of c.source };
 
     ghost read_keeps = { λ a b. b.sink ≡ a.sink };
 
-    fn read(&mut self, into: &mut [u8]) -> Result<usize, ReadFailed> {
+    fn read(&mut self, into: &mut [u8]) -> Result<usize, ReadFailed>
+        ensures within { IfOk result (λ n. n ≤ length into.new) }
+        ensures bytes { ReadConsumes (Some self.old.source.bytes) (Some self.new.source.bytes) result into.new }
+        ensures cause { HasCause self.old.source.faults self.new.source.faults result }
+        ensures keeps { self.new.sink ≡ self.old.sink }
+        ensures fails { IsErr result ↔ Contains self.old.source.failing self.old.source.calls }
+        ensures counts { Counts self.old.source self.new.source result }
+    {
         self.source.read(into)
     }
 }
 
 impl Sink for MemConn {
-    ghost use Rattle.std.specs.Prelude.{◌≡◌, false, Some};
+    ghost use Rattle.std.specs.Prelude.{◌≡◌};
+    ghost use Rattle.link.specs.Memory.{output_of};
 
-    ghost taken = { λ c. Some c.sink.bytes };
-
-    ghost write_faults = { λ c. c.sink.faults };
-
-    ghost held = { λ _. false };
+    ghost known = { λ c. output_of c.sink };
 
     ghost put_keeps = { λ a b. b.source ≡ a.source };
 
-    fn put(&mut self, piece: &[u8]) -> Result<(), WriteFailed> {
+    fn put(&mut self, piece: &[u8]) -> Result<(), WriteFailed>
+        ensures ok { OnOk result (Appends (Some self.old.sink.bytes) (Some self.new.sink.bytes) piece.now) }
+        ensures err { OnErr result (AppendsFront (Some self.old.sink.bytes) (Some self.new.sink.bytes) piece.now) }
+        ensures cause { HasCause self.old.sink.faults self.new.sink.faults result }
+        ensures keeps { self.new.source ≡ self.old.source }
+        ensures failed { OnErr result (FailedPut self.old.sink self.new.sink piece.now) }
+        ensures fails { Contains self.old.sink.failing self.old.sink.calls → IsErr result }
+        ensures counts { Counts self.old.sink self.new.sink result }
+    {
         self.sink.put(piece)
     }
 
@@ -201,30 +230,29 @@ impl Sink for MemConn {
         ensures same { Keeps (Some self.old.sink.bytes) (Some self.new.sink.bytes) }
         ensures cause { HasCause self.old.sink.faults self.new.sink.faults result }
         ensures keeps { self.new.source ≡ self.old.source }
-        ensures counted { self.new.sink.calls ≡ min (self.old.sink.calls + 1) (2 ^ 64 - 1) }
+        ensures fails { IsErr result ↔ Contains self.old.sink.failing self.old.sink.calls }
+        ensures counts { Counts self.old.sink self.new.sink result }
     {
         self.sink.flush()
     }
 }
 
 impl Conn for MemConn {
-    ghost use Rattle.std.proofs.Common.{Some, ap, refl};
+    ghost use Rattle.std.proofs.Common.{ap, refl};
+    ghost use Rattle.link.specs.Memory.{input_of, output_of};
 
-    ghost read_leaves_sink = { λ a b same. (ap (λ s. Some s.bytes) same, ap (λ s. s.faults) same, refl) };
+    ghost read_leaves_sink = { λ a b same. ap output_of same };
 
-    ghost put_leaves_source = { λ a b same. (ap (λ s. Some s.bytes) same, ap (λ s. s.faults) same) };
+    ghost put_leaves_source = { λ a b same. ap input_of same };
 }
 
-// Takes the first half of the piece, or nothing where there is no memory, and says how many bytes these were.
-fn take_half(bytes: &mut Bytes, piece: &[u8]) -> usize
-    ensures { bytes.new ≡ bytes.old ++ take result piece.now }
+// Takes the first half of the piece, or nothing where memory runs out.
+fn take_half(bytes: &mut Bytes, piece: &[u8])
+    ensures { (bytes.new ≡ bytes.old ++ take (length piece.now / 2) piece.now)
+        ⊎ (bytes.new ≡ bytes.old) }
 {
     let half = piece.len() / 2;
-    if bytes.extend(&piece[..half]).is_ok() {
-        half
-    } else {
-        0
-    }
+    let _ = bytes.extend(&piece[..half]);
 }
 
 // Copies as much of the front as there is room for.

@@ -1,40 +1,61 @@
 //! The adapters to readers and writers of std.
-ghost use Rattle.std.specs.Prelude.{◌≡◌, ◌≤◌, ◌+◌, ◌-◌, ◌^◌, false, true, List, ℕ, OnOk, OnErr, length, min, take, ⊤};
-ghost use Rattle.std.specs.Io.KnownBytes.{Appends, Keeps};
+ghost use Rattle.std.specs.Prelude.{◌≡◌, ◌≤◌, ◌+◌, ◌-◌, ◌^◌, false, true, None, IsSome, List, ℕ, IfOk, OnOk, OnErr, length, min, take, ⊤};
+ghost use Rattle.std.specs.Io.KnownBytes.{Appends, Keeps, ReadConsumes};
 ghost use Rattle.u1_base.specs.Causes.{HasCause};
 
+use crate::retried::{read_on, write_on};
 use crate::{ReadFailed, Sink, Source, WriteFailed};
-use std::io::{Read, Write};
+use std::io::{self, ErrorKind, Read, Write};
 
 /// A source over any reader of std. It tells what the reader tells, and has no faults at first.
+///
+/// A read that a signal interrupts is tried again.
 #[derive(Drop)]
 pub struct StdSource<R: Read + Drop> {
     inner: R,
     faults: u64,
+    fault: Option<io::Error>,
 }
 
 impl<R: Read + Drop> StdSource<R> {
     pub fn new(inner: R) -> StdSource<R>
-        ensures { result ≡ record { inner = inner; faults = 0 } }
+        ensures { result ≡ record { inner = inner; faults = 0; fault = None } }
     {
-        StdSource { inner, faults: 0 }
+        StdSource {
+            inner,
+            faults: 0,
+            fault: None,
+        }
+    }
+
+    /// Why its last failed read failed.
+    pub fn fault(&self) -> Option<io::Error>
+        ensures { result ≡ self.now.fault }
+    {
+        self.fault
     }
 }
 
 impl<R: Read + Drop> Source for StdSource<R> {
     ghost use Rattle.std.specs.Prelude.{⊤};
 
-    ghost left = { λ s. R.remaining s.inner };
-
-    ghost read_faults = { λ s. s.faults };
+    ghost known = { λ s. record { left = R.remaining s.inner; faults = s.faults } };
 
     ghost read_keeps = { λ _ _. ⊤ };
 
-    fn read(&mut self, into: &mut [u8]) -> Result<usize, ReadFailed> {
-        match self.inner.read(into) {
+    fn read(&mut self, into: &mut [u8]) -> Result<usize, ReadFailed>
+        ensures within { IfOk result (λ n. n ≤ length into.new) }
+        ensures bytes { ReadConsumes (R.remaining self.old.inner) (R.remaining self.new.inner)
+            result into.new }
+        ensures cause { HasCause self.old.faults self.new.faults result }
+        ensures keeps { ⊤ }
+        ensures why { OnErr result (IsSome self.new.fault) }
+    {
+        match read_on(&mut self.inner, into) {
             Ok(count) => Ok(count),
-            Err(_) => {
+            Err(error) => {
                 self.faults = self.faults.saturating_add(1);
+                self.fault = Some(error);
                 Err(ReadFailed)
             }
         }
@@ -43,36 +64,42 @@ impl<R: Read + Drop> Source for StdSource<R> {
 
 /// A sink over any writer of std. It tells what the writer tells, and has no faults at first.
 ///
-/// A writer that buffers, as `BufWriter`, saves system calls; `flush` then hands on what it holds back. The writer may
-/// have been written to before, so from the first it may hold something back, until a flush of it succeeds. A `flush`
-/// flushes the writer even where it holds nothing back.
+/// A writer that buffers, as `BufWriter`, saves system calls; `flush` then hands on what it holds
+/// back. The writer may have been written to before, so from the first it may hold something back,
+/// until a flush of it succeeds. A `flush` flushes the writer even where it holds nothing back. A
+/// write that a signal interrupts is tried again.
 #[derive(Drop)]
 pub struct StdSink<W: Write + Drop> {
     inner: W,
     faults: u64,
+    fault: Option<io::Error>,
     holds_back: bool,
 }
 
 impl<W: Write + Drop> StdSink<W> {
     pub fn new(inner: W) -> StdSink<W>
-        ensures { result ≡ record { inner = inner; faults = 0; holds_back = true } }
+        ensures { result ≡ record { inner = inner; faults = 0; fault = None; holds_back = true } }
     {
         StdSink {
             inner,
             faults: 0,
+            fault: None,
             holds_back: true,
         }
+    }
+
+    /// Why its last failed call failed.
+    pub fn fault(&self) -> Option<io::Error>
+        ensures { result ≡ self.now.fault }
+    {
+        self.fault
     }
 }
 
 impl<W: Write + Drop> Sink for StdSink<W> {
     ghost use Rattle.std.specs.Prelude.{⊤};
 
-    ghost taken = { λ s. W.contents s.inner };
-
-    ghost write_faults = { λ s. s.faults };
-
-    ghost held = { λ s. s.holds_back };
+    ghost known = { λ s. record { taken = W.contents s.inner; held = s.holds_back; faults = s.faults } };
 
     ghost put_keeps = { λ _ _. ⊤ };
 
@@ -82,11 +109,12 @@ impl<W: Write + Drop> Sink for StdSink<W> {
         ensures cause { HasCause self.old.faults self.new.faults result }
         ensures keeps { ⊤ }
         ensures noted { self.new.holds_back ≡ true }
+        ensures why { OnErr result (IsSome self.new.fault) }
     {
         self.holds_back = true;
         let mut done = 0;
         while done < piece.len() {
-            let count = write_some(&mut self.inner, piece.split_at(done).1);
+            let count = write_some(&mut self.inner, piece.split_at(done).1, &mut self.fault);
             if count == 0 {
                 self.faults = self.faults.saturating_add(1);
                 return Err(WriteFailed);
@@ -102,9 +130,11 @@ impl<W: Write + Drop> Sink for StdSink<W> {
         ensures cause { HasCause self.old.faults self.new.faults result }
         ensures keeps { ⊤ }
         ensures note_stays { OnErr result (self.new.holds_back ≡ self.old.holds_back) }
+        ensures why { OnErr result (IsSome self.new.fault) }
     {
-        if self.inner.flush().is_err() {
+        if let Err(error) = self.inner.flush() {
             self.faults = self.faults.saturating_add(1);
+            self.fault = Some(error);
             return Err(WriteFailed);
         }
         self.holds_back = false;
@@ -112,13 +142,22 @@ impl<W: Write + Drop> Sink for StdSink<W> {
     }
 }
 
-// Writes a front of the piece, and says how many bytes it has: 0 where the writer takes no more.
-fn write_some<W: Write>(writer: &mut W, piece: &[u8]) -> usize
+// Writes a front of the piece, and says how many bytes it has: 0 where the writer takes no more,
+// and then notes why.
+fn write_some<W: Write>(writer: &mut W, piece: &[u8], fault: &mut Option<io::Error>) -> usize
     ensures within { result ≤ length piece.now }
     ensures appended { Appends (W.contents writer.old) (W.contents writer.new) (take result piece.now) }
+    ensures why { result ≡ 0 → IsSome fault.new }
 {
-    match writer.write(piece) {
+    match write_on(writer, piece) {
+        Ok(0) => {
+            *fault = Some(io::Error::from(ErrorKind::WriteZero));
+            0
+        }
         Ok(count) => count,
-        Err(_) => 0,
+        Err(error) => {
+            *fault = Some(error);
+            0
+        }
     }
 }

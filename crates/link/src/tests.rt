@@ -82,9 +82,39 @@ fn reads_to_the_end_or_the_limit(rt: HostRuntime) -> Result<(), Fail> {
         let bytes = read_at_most(alloc, &mut source, most)?;
         assert_eq!(rt; bytes.as_slice(), &b"hello"[..want], "at most {most}");
     }
-    let mut failing = source_of(alloc, b"hello", &[1])?;
+    Ok(())
+}
+
+#[test]
+fn what_was_read_is_gone_and_no_more(rt: HostRuntime) -> Result<(), Fail> {
+    let alloc = rt.alloc();
+    let mut source = source_of(alloc, b"hello", &[1])?;
+    let first = read_at_most(alloc, &mut source, 3)?;
+    assert_eq!(rt; first.as_slice(), b"hel".as_slice());
     assert!(rt;
-        read_at_most(alloc, &mut failing, 9).is_err_and(|fault| fault == InputFault::Source)
+        read_at_most(alloc, &mut source, 9).is_err_and(|fault| fault == InputFault::Source)
+    );
+    let rest = read_at_most(alloc, &mut source, 9)?;
+    assert_eq!(rt; rest.as_slice(), b"lo".as_slice());
+    Ok(())
+}
+
+#[test]
+fn faults_say_what_happened(rt: HostRuntime) -> Result<(), Fail> {
+    let alloc = rt.alloc();
+    for (fault, text) in [
+        (InputFault::Source, "a read of the input failed"),
+        (InputFault::Memory, "out of memory"),
+    ] {
+        assert_eq!(rt; format!(in alloc; "{fault}")?.as_str(), text);
+    }
+    assert_eq!(rt;
+        format!(in alloc; "{}", ReadFailed)?.as_str(),
+        "a read failed"
+    );
+    assert_eq!(rt;
+        format!(in alloc; "{}", WriteFailed)?.as_str(),
+        "a write failed"
     );
     Ok(())
 }
@@ -102,8 +132,10 @@ fn adapts_readers_and_writers(rt: HostRuntime) -> Result<(), Fail> {
     let mut source = StdSource::new(File::open(&rt, "streams")?);
     let bytes = read_at_most(alloc, &mut source, 100)?;
     assert_eq!(rt; bytes.as_slice(), b"to a file".as_slice());
+    assert!(rt; source.fault().is_none());
     let mut closed = StdSink::new(File::open(&rt, "streams")?);
     assert_eq!(rt; closed.put(b"x"), Err(WriteFailed));
+    assert!(rt; closed.fault().is_some());
     // What a buffer holds back fails only when it is flushed.
     let file = File::open(&rt, "streams")?;
     let mut held_back = StdSink::new(BufWriter::new(alloc, file)?);

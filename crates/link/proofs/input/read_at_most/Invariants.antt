@@ -6,8 +6,8 @@ use Rattle.link.proofs.input.read_at_most.Given as goal
 abbrev pub invariant-loop-bytes : goal.invariant-loop-bytes
 invariant-loop-bytes g l = record {
   within : length l.bytes ≤ l.most;
-  consumed : Consumes (g.S.Source.left l.initial.source) (g.S.Source.left l.source) l.bytes;
-  later : g.S.Source.read_faults l.initial.source ≤ g.S.Source.read_faults l.source;
+  consumed : Consumes (g.S.Source.known l.initial.source).left (g.S.Source.known l.source).left l.bytes;
+  later : (g.S.Source.known l.initial.source).faults ≤ (g.S.Source.known l.source).faults;
 }
 
 abbrev pub decreases-loop-bytes : goal.decreases-loop-bytes

@@ -1,6 +1,6 @@
 -- A read gives the front of what is left, and leaves the rest.
 use Rattle.std.proofs.Common.{◌≡◌, drop, sym, ap, ◌∙◌}
-use Rattle.link.specs.Streams.{Stream}
+use Rattle.link.specs.Memory.{Stream}
 use Rattle.link.proofs.Fronts.{given_and_left, nothing_left}
 use Rattle.link.proofs.memory.MemSourceSource.read.Goals as goal
 
