@@ -2,8 +2,8 @@
 use Rattle.std.proofs.Common.{◌≡◌, ℕ, zero, suc, ◌+◌, ◌<◌, ◌≤◌, List, [], ◌∷◌, ◌++◌, length, get_or, take, drop, refl, sym, ◌∙◌, ap, subst, arith}
 use Rattle.std.proofs.lemmas.List.{take-append-drop, take_more, drop_more}
 use Rattle.disk_model.specs.Disk.{Unsynced, IsCrashImage, settled}
-use Rattle.disk_model.specs.Moments.{Moment, moment, lost_at}
-use Rattle.disk_model.specs.Log.{undone, before, step, through, reached, moments, alone, now_of, past_of}
+use Rattle.disk_model.specs.Device.{Moment, moment, alone}
+use Rattle.disk_model.specs.Log.{undone, before, step, through, reached, moments, now_of, past_of}
 use Rattle.disk_model.specs.declared.calls.Call.{Call}
 use Rattle.disk_model.specs.declared.calls.Call.TheVariants.{Sync}
 
@@ -51,9 +51,13 @@ before-append (c ∷ cs) ds file = ap (undone c) (before-append cs ds file)
 pub before-split : (cs : List Call) (k : ℕ) (file : List ℕ) → before (take k cs) (before (drop k cs) file) ≡ before cs file
 before-split cs k file = sym (before-append (take k cs) (drop k cs) file) ∙ ap (λ (l : List Call). before l file) (take-append-drop k cs)
 
+-- what a crash at the k-th of these moments may leave, and behind them all this
+abbrev at_moment : List Moment → Unsynced → ℕ → Unsynced
+at_moment past now k = (get_or past k (now, ([], []))).0
+
 -- the k-th moment lies after the first k calls
 pub lost_at-moments : (u : Unsynced) (cs : List Call) (file : List ℕ) (k : ℕ) → k ≤ length cs
-    → lost_at (moments u cs file) (reached u cs file) k ≡ reached u (take k cs) (before (drop k cs) file)
+    → at_moment (moments u cs file) (reached u cs file) k ≡ reached u (take k cs) (before (drop k cs) file)
 lost_at-moments u [] file zero h = refl
 lost_at-moments u [] file (suc k) h = absurd (omega (arith, h))
 lost_at-moments u (c ∷ cs) file zero h = refl
@@ -95,7 +99,7 @@ through-since {S = S} f begin sync log n m d file h next e =
 
 -- the k-th moment of a disk in memory
 pub lost_at-past : (log : List Call) (file : List ℕ) (k : ℕ) → k ≤ length log
-    → lost_at (past_of log file) (now_of log file) k ≡ now_of (take k log) (before (drop k log) file)
+    → at_moment (past_of log file) (now_of log file) k ≡ now_of (take k log) (before (drop k log) file)
 lost_at-past log file k h =
     lost_at-moments (settled (before log file)) log file k h
     ∙ ap (λ (f : List ℕ). reached (settled f) (take k log) (before (drop k log) file)) (sym (before-split log k file))

@@ -1,6 +1,10 @@
 pub mod Disk
+pub mod Device
 pub mod Counts
 pub mod Moments
 pub mod Log
 pub mod Losses
+pub mod Front
+pub mod Faults
+pub mod FileDisk
 pub mod MemDisk

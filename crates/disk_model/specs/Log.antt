@@ -1,7 +1,7 @@
 -- What the log of a disk in memory says of its past: each call can be taken back.
 use Rattle.std.specs.Prelude.{ℕ, Bool, true, false, List, [], ◌∷◌, ◌++◌, take}
 use Rattle.disk_model.specs.Disk.{Unsynced, settled, wrote, was_cut, overwritten}
-use Rattle.disk_model.specs.Moments.{Beside, Moment, moment}
+use Rattle.disk_model.specs.Device.{Moment, moment, alone}
 use Rattle.disk_model.specs.declared.calls.Call.{Call}
 use Rattle.disk_model.specs.declared.calls.Call.TheVariants.{Look, Write, Cut, Sync}
 
@@ -32,10 +32,6 @@ through f s (c ∷ cs) file = through f (f c (before cs file) s) cs file
 -- what a crash may leave after the calls
 abbrev pub reached : Unsynced → List Call → List ℕ → Unsynced
 reached u cs file = through step u cs file
-
--- nothing lies beside a disk in memory
-abbrev pub alone : Beside
-alone = ([], [])
 
 -- the moment before each of the calls
 abbrev pub moments : Unsynced → List Call → List ℕ → List Moment

@@ -2,8 +2,8 @@
 ghost use Rattle.std.specs.Prelude.{◌≡◌, ℕ, ◌≤◌, true, List, [], ◌∷◌, ◌++◌, IfOk, OnOk, OnErr, length, take, drop};
 ghost use Rattle.std.specs.List.{list_all};
 ghost use Rattle.disk_model.specs.Disk.{IsCrashImage, overwritten, settled, was_cut, wrote};
-ghost use Rattle.disk_model.specs.Moments.{moment};
-ghost use Rattle.disk_model.specs.Log.{alone, before, is_open, now_of, past_of, undone};
+ghost use Rattle.disk_model.specs.Device.{alone, moment};
+ghost use Rattle.disk_model.specs.Log.{before, is_open, now_of, past_of, undone};
 ghost use Rattle.disk_model.specs.Losses.{left_of};
 ghost use Rattle.disk_model.specs.declared.losses.Choice.{Choice};
 

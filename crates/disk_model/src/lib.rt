@@ -8,14 +8,24 @@
 mod calls;
 mod device;
 mod file;
+mod file_fault;
+#[cfg(test)]
+mod file_tests;
 mod losses;
 mod memory;
+mod real_file;
+mod size_limit;
 mod synced;
 #[cfg(test)]
 mod tests;
 
 pub use device::{Disk, DiskFailed};
 pub use file::FileDisk;
+pub use file_fault::{FileCall, FileFault};
 pub use losses::Choice;
 pub use memory::MemDisk;
-pub use synced::{ReadFault, cut_synced, cut_write_synced, first_byte, read_synced, write_synced};
+pub use size_limit::greatest_file_size;
+pub use synced::{
+    Front, ReadFault, cut_synced, cut_write_synced, first_byte, front_synced, read_synced,
+    write_synced,
+};

@@ -1,4 +1,5 @@
 //! A disk in memory, for tests: it keeps a log of its calls and fails where it was told to.
+ghost use Rattle.std.specs.Prelude.{◌↔◌, Contains, IsTrue};
 ghost use Rattle.std.proofs.Props.{props};
 ghost use Rattle.disk_model.specs.Disk.{IsCrashImage};
 ghost use Rattle.disk_model.specs.Log.{now_of};
@@ -24,20 +25,17 @@ pub struct MemDisk {
 }
 
 impl MemDisk {
-    ghost use Rattle.std.specs.Prelude.{◌≡◌, ◌+◌, ◌<◌, ◌≤◌, ◌⊎◌, [], IfOk, length};
-    ghost use Rattle.disk_model.specs.Disk.{IsCrashImage, settled};
-    ghost use Rattle.u1_base.specs.Causes.{HasCause, Rose};
+    ghost use Rattle.std.specs.Prelude.{◌≡◌, ◌+◌, ◌<◌, ◌≤◌, ◌⊎◌, ◌↔◌, IfOk, IsErr, IsOk, OnErr, OnOk, IsTrue};
+    ghost use Rattle.disk_model.specs.Disk.{IsCrashImage};
+    ghost use Rattle.disk_model.specs.Device.{lost_at, untouched};
     ghost use Rattle.disk_model.specs.Counts.{called};
-    ghost use Rattle.disk_model.specs.Moments.{Looked, lost_at};
-    ghost use Rattle.disk_model.specs.MemDisk.{mem_beside, mem_left, mem_left_after, mem_now, mem_past, mem_seen};
+    ghost use Rattle.disk_model.specs.Moments.{Looked};
+    ghost use Rattle.disk_model.specs.MemDisk.{FailsAsTold, IsToFail, mem_calls, mem_failing, mem_known, mem_left, mem_left_after};
 
     /// A disk that holds these bytes. `failing` has the numbers, from 0, of the calls that fail.
     pub fn new(alloc: Global, bytes: Bytes, failing: Numbers) -> MemDisk
-        ensures seen { mem_seen result ≡ bytes }
-        ensures now { mem_now result ≡ settled bytes }
-        ensures past { mem_past result ≡ [] }
-        ensures made { result.made ≡ 0 }
-        ensures faults { result.faults ≡ 0 }
+        ensures known { mem_known result ≡ untouched bytes }
+        ensures failing { mem_failing result ≡ failing }
     {
         MemDisk {
             bytes: bytes.into_vec(),
@@ -50,14 +48,14 @@ impl MemDisk {
 
     /// How many calls were noted: all but those that found no memory.
     pub fn calls(&self) -> u64
-        ensures { result ≡ length (mem_past self.now) }
+        ensures { result ≡ mem_calls self.now }
     {
         self.log.len() as u64
     }
 
     /// What a read gives.
     pub fn bytes(&self) -> &[u8]
-        ensures { result.now ≡ mem_seen self.now }
+        ensures { result.now ≡ (mem_known self.now).seen }
     {
         self.bytes.as_slice()
     }
@@ -65,9 +63,9 @@ impl MemDisk {
     /// The image that a stop during that call leaves by this choice: of a write or a cut one of those after it,
     /// of another call one of those before it.
     pub fn crash_image(&self, alloc: Global, call: u64, choice: Choice) -> Result<Bytes, Memory>
-        requires { call < length (mem_past self.now) }
-        ensures may_be { IfOk result (λ image. IsCrashImage (lost_at (mem_past self.now) (mem_now self.now) call) image
-            ⊎ IsCrashImage (lost_at (mem_past self.now) (mem_now self.now) (call + 1)) image) }
+        requires { call < mem_calls self.now }
+        ensures may_be { IfOk result (λ image. IsCrashImage (lost_at (mem_known self.now) call) image
+            ⊎ IsCrashImage (lost_at (mem_known self.now) (call + 1)) image) }
         ensures by_choice { IfOk result (λ image. image ≡ mem_left self.now call choice) }
     {
         let place = call as usize;
@@ -79,8 +77,8 @@ impl MemDisk {
 
     // The image at the moment before the call of this number, or now.
     fn image(&self, alloc: Global, moment: usize, choice: Choice) -> Result<Bytes, Memory>
-        requires { moment ≤ length (mem_past self.now) }
-        ensures may_be { IfOk result (λ image. IsCrashImage (lost_at (mem_past self.now) (mem_now self.now) moment) image) }
+        requires { moment ≤ mem_calls self.now }
+        ensures may_be { IfOk result (λ image. IsCrashImage (lost_at (mem_known self.now) moment) image) }
         ensures by_choice { IfOk result (λ image. image ≡ mem_left_after self.now moment choice) }
     {
         image_at(alloc, &self.log, &self.bytes, moment, choice)
@@ -88,111 +86,120 @@ impl MemDisk {
 
     // Counts a call, and tells whether it is one that is to fail.
     fn begin(&mut self) -> bool
-        ensures { self.new ≡ record self.old { made = called 1 self.old.made } }
+        ensures same { self.new ≡ record self.old { made = called 1 self.old.made } }
+        ensures told { IsTrue result ↔ IsToFail self.old }
     {
+        let number = self.calls();
         self.made = self.made.saturating_add(1);
-        self.failing.as_slice().contains(&(self.log.len() as u64))
+        is_among(self.failing.as_slice(), number)
     }
 
-    fn count_fault(&mut self)
-        ensures made { self.new.made ≡ self.old.made }
-        ensures bytes { self.new.bytes ≡ self.old.bytes }
-        ensures log { self.new.log ≡ self.old.log }
-        ensures later { self.old.faults ≤ self.new.faults }
-        ensures rose { Rose self.old.faults self.new.faults }
+    // Answers a call that was to fail or not, and that was noted or found no memory.
+    fn answer(&mut self, fails: bool, noted: Result<(), Memory>) -> Result<(), DiskFailed>
+        ensures same { self.new ≡ record self.old { faults = self.new.faults } }
+        ensures told { IsTrue fails → IsErr result }
+        ensures ok { OnOk result (IsOk noted) }
+        ensures err { OnErr result (IsTrue fails ⊎ IsErr noted) }
+        ensures quiet { OnOk result (self.new.faults ≡ self.old.faults) }
+        ensures counted { OnErr result (self.new.faults ≡ called 1 self.old.faults) }
     {
+        if noted.is_ok() && !fails {
+            return Ok(());
+        }
         self.faults = self.faults.saturating_add(1);
+        Err(DiskFailed)
     }
 
     // A call that changes nothing.
     fn look(&mut self) -> Result<(), DiskFailed>
-        ensures seen { mem_seen self.new ≡ mem_seen self.old }
-        ensures crash { Looked mem_now mem_beside mem_past self.old self.new }
-        ensures counted { self.new.made ≡ called 1 self.old.made }
-        ensures cause { HasCause self.old.faults self.new.faults result }
+        ensures seen { (mem_known self.new).seen ≡ (mem_known self.old).seen }
+        ensures crash { Looked (mem_known self.old) (mem_known self.new) }
+        ensures counted { (mem_known self.new).made ≡ called 1 (mem_known self.old).made }
+        ensures as_told { FailsAsTold self.old self.new result }
     {
-        if self.begin() {
-            self.fail_early();
-            return Err(DiskFailed);
-        }
-        match note_look(&self.bytes, &mut self.log) {
-            Ok(()) => Ok(()),
-            Err(Memory) => {
-                self.count_fault();
-                Err(DiskFailed)
-            }
-        }
-    }
-
-    // A call that fails and changes nothing.
-    fn fail_early(&mut self)
-        ensures seen { mem_seen self.new ≡ mem_seen self.old }
-        ensures crash { Looked mem_now mem_beside mem_past self.old self.new }
-        ensures made { self.new.made ≡ self.old.made }
-        ensures later { self.old.faults ≤ self.new.faults }
-        ensures rose { Rose self.old.faults self.new.faults }
-    {
-        match note_look(&self.bytes, &mut self.log) {
-            Ok(()) => self.count_fault(),
-            Err(Memory) => self.count_fault(),
-        }
+        let fails = self.begin();
+        let noted = note_look(&self.bytes, &mut self.log);
+        self.answer(fails, noted)
     }
 }
 
+fn is_among(numbers: &[u64], number: u64) -> bool
+    ensures { IsTrue result ↔ Contains numbers.now number }
+{
+    numbers.contains(&number)
+}
+
 impl Disk for MemDisk {
-    ghost use Rattle.std.specs.Prelude.{true};
-    ghost use Rattle.disk_model.specs.MemDisk.{mem_beside, mem_now, mem_past, mem_seen};
+    ghost use Rattle.std.specs.Prelude.{◌≡◌, ◌≤◌, ◌+◌, true, IsTrue, IfOk, OnOk, OnErr, length, take, drop};
+    ghost use Rattle.u1_base.specs.Causes.{HasCause};
+    ghost use Rattle.disk_model.specs.Disk.{Cut, Torn, overwritten, settled, was_cut, wrote};
+    ghost use Rattle.disk_model.specs.Moments.{Looked, Took, TookOrNot};
+    ghost use Rattle.disk_model.specs.Counts.{called};
+    ghost use Rattle.disk_model.specs.MemDisk.{FailsAsTold, mem_known};
 
     ghost tells = { true };
 
-    ghost seen = { mem_seen };
+    ghost known = { mem_known };
 
-    ghost now = { mem_now };
-
-    ghost beside = { mem_beside };
-
-    ghost past = { mem_past };
-
-    ghost made = { λ d. d.made };
-
-    ghost faults = { λ d. d.faults };
-
-    fn length(&mut self) -> Result<u64, DiskFailed> {
+    fn length(&mut self) -> Result<u64, DiskFailed>
+        ensures value { IfOk result (λ n. n ≡ length (mem_known self.old).seen) }
+        ensures seen { (mem_known self.new).seen ≡ (mem_known self.old).seen }
+        ensures crash { Looked (mem_known self.old) (mem_known self.new) }
+        ensures counted { (mem_known self.new).made ≡ called 1 (mem_known self.old).made }
+        ensures cause { HasCause (mem_known self.old).faults (mem_known self.new).faults result }
+        ensures as_told { FailsAsTold self.old self.new result }
+    {
         self.look()?;
         Ok(self.bytes.len() as u64)
     }
 
-    fn read_at(&mut self, at: u64, into: &mut [u8]) -> Result<(), DiskFailed> {
+    fn read_at(&mut self, at: u64, into: &mut [u8]) -> Result<(), DiskFailed>
+        requires { at + length into.old ≤ length (mem_known self.old).seen }
+        ensures bytes { OnOk result (into.new ≡ take (length into.old) (drop at (mem_known self.old).seen)) }
+        ensures seen { (mem_known self.new).seen ≡ (mem_known self.old).seen }
+        ensures crash { Looked (mem_known self.old) (mem_known self.new) }
+        ensures counted { (mem_known self.new).made ≡ called 1 (mem_known self.old).made }
+        ensures cause { HasCause (mem_known self.old).faults (mem_known self.new).faults result }
+        ensures as_told { FailsAsTold self.old self.new result }
+    {
         self.look()?;
         let from = at as usize;
         into.copy_from_slice(&self.bytes[from..from + into.len()]);
         Ok(())
     }
 
-    fn write_at(&mut self, at: u64, bytes: &[u8]) -> Result<(), DiskFailed> {
+    fn write_at(&mut self, at: u64, bytes: &[u8]) -> Result<(), DiskFailed>
+        requires { at ≤ length (mem_known self.old).seen }
+        ensures written { OnOk result ((mem_known self.new).seen ≡ overwritten (mem_known self.old).seen at bytes.now) }
+        ensures torn { OnErr result (Torn at (length bytes.now) (mem_known self.old).seen (mem_known self.new).seen) }
+        ensures crash { OnOk result (Took (mem_known self.old) (mem_known self.new) (wrote at (length bytes.now) (mem_known self.old).now)) }
+        ensures crash_err { OnErr result (TookOrNot (mem_known self.old) (mem_known self.new) (wrote at (length bytes.now) (mem_known self.old).now)) }
+        ensures counted { (mem_known self.new).made ≡ called 1 (mem_known self.old).made }
+        ensures cause { HasCause (mem_known self.old).faults (mem_known self.new).faults result }
+        ensures as_told { FailsAsTold self.old self.new result }
+    {
         let fails = self.begin();
         let put = if fails { bytes.len() / 2 } else { bytes.len() };
-        let piece = &bytes[..put];
-        match note_write(
+        let noted = note_write(
             &mut self.bytes,
             &mut self.log,
             at as usize,
             bytes.len(),
-            piece,
-        ) {
-            Ok(()) if !fails => Ok(()),
-            Ok(()) => {
-                self.count_fault();
-                Err(DiskFailed)
-            }
-            Err(Memory) => {
-                self.count_fault();
-                Err(DiskFailed)
-            }
-        }
+            &bytes[..put],
+        );
+        self.answer(fails, noted)
     }
 
-    fn cut(&mut self, to: u64) -> Result<(), DiskFailed> {
+    fn cut(&mut self, to: u64) -> Result<(), DiskFailed>
+        requires { to ≤ length (mem_known self.old).seen }
+        ensures shortened { OnOk result ((mem_known self.new).seen ≡ take to (mem_known self.old).seen) }
+        ensures torn { OnErr result (Cut to (mem_known self.old).seen (mem_known self.new).seen) }
+        ensures crash { OnOk result (Took (mem_known self.old) (mem_known self.new) (was_cut to (mem_known self.old).now)) }
+        ensures crash_err { OnErr result (TookOrNot (mem_known self.old) (mem_known self.new) (was_cut to (mem_known self.old).now)) }
+        ensures counted { (mem_known self.new).made ≡ called 1 (mem_known self.old).made }
+        ensures cause { HasCause (mem_known self.old).faults (mem_known self.new).faults result }
+        ensures as_told { FailsAsTold self.old self.new result }
+    {
         let fails = self.begin();
         let to = to as usize;
         let left = if fails {
@@ -200,31 +207,25 @@ impl Disk for MemDisk {
         } else {
             0
         };
-        match note_cut(&mut self.bytes, &mut self.log, to, to + left) {
-            Ok(()) if !fails => Ok(()),
-            Ok(()) => {
-                self.count_fault();
-                Err(DiskFailed)
-            }
-            Err(Memory) => {
-                self.count_fault();
-                Err(DiskFailed)
-            }
-        }
+        let noted = note_cut(&mut self.bytes, &mut self.log, to, to + left);
+        self.answer(fails, noted)
     }
 
-    fn sync(&mut self) -> Result<(), DiskFailed> {
-        if self.begin() {
-            self.fail_early();
-            return Err(DiskFailed);
-        }
-        match note_sync(&self.bytes, &mut self.log) {
-            Ok(()) => Ok(()),
-            Err(Memory) => {
-                self.count_fault();
-                Err(DiskFailed)
-            }
-        }
+    fn sync(&mut self) -> Result<(), DiskFailed>
+        ensures seen { (mem_known self.new).seen ≡ (mem_known self.old).seen }
+        ensures durable { OnOk result (Took (mem_known self.old) (mem_known self.new) (settled (mem_known self.old).seen)) }
+        ensures crash_err { OnErr result (Looked (mem_known self.old) (mem_known self.new)) }
+        ensures counted { (mem_known self.new).made ≡ called 1 (mem_known self.old).made }
+        ensures cause { HasCause (mem_known self.old).faults (mem_known self.new).faults result }
+        ensures as_told { FailsAsTold self.old self.new result }
+    {
+        let fails = self.begin();
+        let noted = if fails {
+            note_look(&self.bytes, &mut self.log)
+        } else {
+            note_sync(&self.bytes, &mut self.log)
+        };
+        self.answer(fails, noted)
     }
 
     ghost seen_may_stay = { λ disk tells. disk.image };

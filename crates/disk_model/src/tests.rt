@@ -1,12 +1,11 @@
-//! What a disk in memory holds and may lose, and one run over a real file.
+//! What a disk in memory holds and may lose.
 use crate::{
-    Choice, Disk, DiskFailed, FileDisk, MemDisk, ReadFault, cut_synced, cut_write_synced,
-    read_synced, write_synced,
+    Choice, Disk, DiskFailed, MemDisk, ReadFault, cut_synced, cut_write_synced, read_synced,
+    write_synced,
 };
 use std::alloc::Global;
-use std::fs;
 use std::test::Fail;
-use u1_base::{Bytes, Memory, Numbers, Text};
+use u1_base::{Bytes, Memory, Numbers};
 
 fn bytes(alloc: Global, text: &[u8]) -> Result<Bytes, Memory> {
     let mut bytes = Bytes::new(alloc);
@@ -209,44 +208,5 @@ fn reads_in_pieces(rt: HostRuntime) -> Result<(), Fail> {
     assert_eq!(rt; read.as_slice().last(), Some(&8));
     assert_eq!(rt; read.as_slice().first(), Some(&7));
     assert_eq!(rt; read_synced(alloc, &mut disk).err(), Some(ReadFault::Disk));
-    Ok(())
-}
-
-const FOLDER: &str = "disk_model_test";
-
-const PATH: &str = "disk_model_test/file";
-
-#[test]
-fn keeps_a_file(rt: HostRuntime) -> Result<(), Fail> {
-    let alloc = rt.alloc();
-    let _ = fs::remove_dir_all(&rt, FOLDER);
-    fs::create_dir(&rt, FOLDER)?;
-    let mut disk = FileDisk::new(&rt, Text::copy(alloc, PATH)?);
-    assert!(rt; !fs::exists(&rt, PATH)?);
-    assert_eq!(rt; disk.length()?, 0);
-    write_synced(&mut disk, 0, b"abcdef")?;
-    write_synced(&mut disk, 4, b"WXYZ")?;
-    assert_eq!(rt; disk.length()?, 8);
-    cut_synced(&mut disk, 6)?;
-    assert_eq!(rt;
-        read_synced(alloc, &mut disk)?.as_slice(),
-        b"abcdWX".as_slice()
-    );
-    let mut into = [0; 3];
-    assert_eq!(rt; disk.read_at(4, &mut into), Err(DiskFailed));
-    let mut second = FileDisk::new(&rt, Text::copy(alloc, PATH)?);
-    second.tries = 2;
-    assert_eq!(rt; second.length(), Err(DiskFailed));
-    drop(disk);
-    assert_eq!(rt; second.length()?, 6);
-    cut_write_synced(&mut second, b"whole")?;
-    assert_eq!(rt;
-        read_synced(alloc, &mut second)?.as_slice(),
-        b"whole".as_slice()
-    );
-    let mut missing = FileDisk::new(&rt, Text::copy(alloc, "disk_model_test/none/file")?);
-    assert_eq!(rt; missing.sync(), Err(DiskFailed));
-    drop(second);
-    fs::remove_dir_all(&rt, FOLDER)?;
     Ok(())
 }

@@ -29,12 +29,12 @@ long_enough at e into piece low high size = simp (length-append, length-take, le
 
 pub returns-in_err-read_at-clause-any_moment : goal.returns-in_err-read_at-clause-any_moment
 returns-in_err-read_at-clause-any_moment g c t =
-    let d = g.D.Disk in let old = c.args.disk.now in
-    looked d.now d.beside d.past old c.loop-at.disk c.read_at.new.self (IsCrashImage (d.now old)) (c.loop-at.invariant.any_moment t) (c.in_err-read_at.ensures.crash t)
+    let known = g.D.Disk.known in let old = known c.args.disk.now in
+    looked old (known c.loop-at.disk) (known c.read_at.new.self) (IsCrashImage old.now) (c.loop-at.invariant.any_moment t) (c.in_err-read_at.ensures.crash t)
 
 pub loop-at-preserved : goal.loop-at-preserved
 loop-at-preserved g c =
-    let d = g.D.Disk in let old = c.args.disk.now in let mid = c.loop-at.disk in let new = c.read_at.new.self in
+    let known = g.D.Disk.known in let old = known c.args.disk.now in let mid = known c.loop-at.disk in let new = known c.read_at.new.self in
     let at = c.loop-at.at in let e = c.min-end.result in let into = c.loop-at.into in
     let low : at ≤ e = omega arith in
     let high : e ≤ length into = omega arith in
@@ -44,16 +44,16 @@ loop-at-preserved g c =
     record {
       in_range = long_enough at e into c.read_at.new.into low high c.read_at.auto.into;
       so_far = λ t.
-          let mid_is : d.seen mid ≡ d.seen old = c.loop-at.invariant.seen t in
-          let fits : length into ≤ length (d.seen mid) = omega (arith, c.requires t, ap length mid_is, c.loop-at.auto.into) in
-          piece_read at e into (d.seen mid) c.read_at.new.into low high fits (c.in_ok-read_at.ensures.bytes t) (c.loop-at.invariant.so_far t)
+          let mid_is : mid.seen ≡ old.seen = c.loop-at.invariant.seen t in
+          let fits : length into ≤ length mid.seen = omega (arith, c.requires t, ap length mid_is, c.loop-at.auto.into) in
+          piece_read at e into mid.seen c.read_at.new.into low high fits (c.in_ok-read_at.ensures.bytes t) (c.loop-at.invariant.so_far t)
           ∙ ap (take e) (sym (c.in_ok-read_at.ensures.seen t));
       seen = λ t. c.in_ok-read_at.ensures.seen t ∙ c.loop-at.invariant.seen t;
-      now = λ t. looked_now d.now d.beside d.past mid new (c.in_ok-read_at.ensures.crash t) ∙ c.loop-at.invariant.now t;
-      beside = λ t. looked_beside d.now d.beside d.past mid new (c.in_ok-read_at.ensures.crash t) ∙ c.loop-at.invariant.beside t;
-      any_moment = λ t. looked d.now d.beside d.past old mid new (IsCrashImage (d.now old)) (c.loop-at.invariant.any_moment t) (c.in_ok-read_at.ensures.crash t);
+      now = λ t. looked_now mid new (c.in_ok-read_at.ensures.crash t) ∙ c.loop-at.invariant.now t;
+      beside = λ t. looked_beside mid new (c.in_ok-read_at.ensures.crash t) ∙ c.loop-at.invariant.beside t;
+      any_moment = λ t. looked old mid new (IsCrashImage old.now) (c.loop-at.invariant.any_moment t) (c.in_ok-read_at.ensures.crash t);
       whole = subst (λ (n : ℕ). IsPieceEnd n e) (sym same_length) (next_end (length into) at e c.loop-at.invariant.whole inside next);
-      made = c.in_ok-read_at.ensures.counted ∙ ap (called 1) c.loop-at.invariant.made ∙ called_again 1 (pieces at) (d.made old)
-          ∙ ap (λ (n : ℕ). called n (d.made old)) (sym (one_more (length into) at e c.loop-at.invariant.whole inside next));
+      made = c.in_ok-read_at.ensures.counted ∙ ap (called 1) c.loop-at.invariant.made ∙ called_again 1 (pieces at) old.made
+          ∙ ap (λ (n : ℕ). called n old.made) (sym (one_more (length into) at e c.loop-at.invariant.whole inside next));
       later = omega (arith, c.in_ok-read_at.ensures.cause.later, c.loop-at.invariant.later);
     }
