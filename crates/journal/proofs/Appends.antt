@@ -4,9 +4,9 @@ use Rattle.std.proofs.lemmas.List.{ext_get_or, get_or-take, take_at, drop_at, ta
 use Rattle.std.proofs.lemmas.Bool.{cases_eq}
 use Rattle.std.proofs.lemmas.Bool.Decides.{nat_tests}
 use Rattle.disk_model.specs.Disk.{Torn, is_touched, overwritten}
-use Rattle.journal.specs.Image.{Head, ReadsAs, IsBody, body_field, entry, front}
+use Rattle.journal.specs.Image.{Head, ReadsAs, IsBody, body_field, entry, up_to_gate}
 use Rattle.journal.specs.Adding.{IsAdding}
-use Rattle.journal.proofs.Entries.{front-push, AreBodies-push}
+use Rattle.journal.proofs.Entries.{up_to_gate-push, AreBodies-push}
 
 outside : (at n k : ℕ) → (k < at) ⊎ (at + n ≤ k) → is_touched ((at, n) ∷ []) k ≡ false
 outside at n k (inl h) = grind (arith, nat_tests)
@@ -58,9 +58,9 @@ overwritten_behind f g t piece at size =
 
 -- the bytes behind a closed gate are nothing to the reader
 pub torn_behind : (format : ℕ) (head : Head) (bodies : List (List ℕ)) (file image : List ℕ) (gate n : ℕ) → ReadsAs format head bodies file
-    → length (front format head bodies) ≡ gate → Torn (gate + 1) n file image → ReadsAs format head bodies image
+    → length (up_to_gate format head bodies) ≡ gate → Torn (gate + 1) n file image → ReadsAs format head bodies image
 torn_behind format head bodies file image gate n r size t =
-    let f = front format head bodies in
+    let f = up_to_gate format head bodies in
     let regroup : file ≡ (f ++ r.gate ∷ []) ++ r.rest = r.split ∙ sym (append_assoc f (r.gate ∷ []) r.rest) in
     let long : length (f ++ r.gate ∷ []) ≡ gate + 1 = omega (arith, length-append f (r.gate ∷ []), size) in
     let fits : gate + 1 ≤ length file = omega (arith, ap length regroup, length-append (f ++ r.gate ∷ []) r.rest, long) in
@@ -77,9 +77,9 @@ torn_behind format head bodies file image gate n r size t =
 
 -- a body behind the gate that is open
 with_body : (format : ℕ) (head : Head) (bodies : List (List ℕ)) (body file image rest : List ℕ) → ReadsAs format head bodies file → IsBody body
-    → image ≡ front format head bodies ++ 1 ∷ ((body_field body ++ 0 ∷ []) ++ rest) → ReadsAs format head (bodies ++ body ∷ []) image
+    → image ≡ up_to_gate format head bodies ++ 1 ∷ ((body_field body ++ 0 ∷ []) ++ rest) → ReadsAs format head (bodies ++ body ∷ []) image
 with_body format head bodies body file image rest r is e =
-    let f = front format head bodies in
+    let f = up_to_gate format head bodies in
     record {
       gate = 0;
       rest = rest;
@@ -87,20 +87,20 @@ with_body format head bodies body file image rest r is e =
       fit = AreBodies-push bodies body r.fit is;
       shut = λ z. cc z;
       split = e ∙ ap (λ (l : List ℕ). f ++ 1 ∷ l) (append_assoc (body_field body) (0 ∷ []) rest) ∙ sym (append_assoc f (entry body) (0 ∷ rest))
-          ∙ ap (λ (l : List ℕ). l ++ 0 ∷ rest) (sym (front-push format head bodies body));
+          ∙ ap (λ (l : List ℕ). l ++ 0 ∷ rest) (sym (up_to_gate-push format head bodies body));
     }
 
 written_behind : (format : ℕ) (head : Head) (bodies : List (List ℕ)) (file piece : List ℕ) (gate : ℕ) (r : ReadsAs format head bodies file)
-    → length (front format head bodies) ≡ gate → overwritten file (gate + 1) piece ≡ front format head bodies ++ r.gate ∷ (piece ++ drop (length piece) r.rest)
+    → length (up_to_gate format head bodies) ≡ gate → overwritten file (gate + 1) piece ≡ up_to_gate format head bodies ++ r.gate ∷ (piece ++ drop (length piece) r.rest)
 written_behind format head bodies file piece gate r size =
-    ap (λ (l : List ℕ). overwritten l (gate + 1) piece) r.split ∙ overwritten_behind (front format head bodies) r.gate r.rest piece gate size
+    ap (λ (l : List ℕ). overwritten l (gate + 1) piece) r.split ∙ overwritten_behind (up_to_gate format head bodies) r.gate r.rest piece gate size
 
 -- the gate is open then, or it is not
 pub torn_gate : (format : ℕ) (head : Head) (bodies : List (List ℕ)) (body file image : List ℕ) (gate : ℕ) → ReadsAs format head bodies file → IsBody body
-    → length (front format head bodies) ≡ gate → Torn gate 1 (overwritten file (gate + 1) (body_field body ++ 0 ∷ [])) image
+    → length (up_to_gate format head bodies) ≡ gate → Torn gate 1 (overwritten file (gate + 1) (body_field body ++ 0 ∷ [])) image
     → ReadsAs format head bodies image ⊎ ReadsAs format head (bodies ++ body ∷ []) image
 torn_gate format head bodies body file image gate r is size t =
-    let f = front format head bodies in let piece = body_field body ++ 0 ∷ [] in let tail = piece ++ drop (length piece) r.rest in
+    let f = up_to_gate format head bodies in let piece = body_field body ++ 0 ∷ [] in let tail = piece ++ drop (length piece) r.rest in
     let image_is : image ≡ f ++ get_or image gate 0 ∷ tail =
     gate_one f r.gate tail image gate size (subst (λ (l : List ℕ). Torn gate 1 l image) (written_behind format head bodies file piece gate r size) t) in
     ⊎_elim
@@ -110,17 +110,17 @@ torn_gate format head bodies body file image gate r is size t =
 
 -- both writes whole
 pub added : (format : ℕ) (head : Head) (bodies : List (List ℕ)) (body file : List ℕ) (gate : ℕ) → ReadsAs format head bodies file → IsBody body
-    → length (front format head bodies) ≡ gate
+    → length (up_to_gate format head bodies) ≡ gate
     → ReadsAs format head (bodies ++ body ∷ []) (overwritten (overwritten file (gate + 1) (body_field body ++ 0 ∷ [])) gate (1 ∷ []))
 added format head bodies body file gate r is size =
-    let f = front format head bodies in let piece = body_field body ++ 0 ∷ [] in let rest = drop (length piece) r.rest in
+    let f = up_to_gate format head bodies in let piece = body_field body ++ 0 ∷ [] in let rest = drop (length piece) r.rest in
     with_body format head bodies body file _ rest r is
     (ap (λ (l : List ℕ). overwritten l gate (1 ∷ [])) (written_behind format head bodies file piece gate r size)
     ∙ overwritten_gate f r.gate 1 (piece ++ rest) gate size)
 
 -- what may be left on the way
 pub adding : (format : ℕ) (head : Head) (bodies : List (List ℕ)) (body file image : List ℕ) (gate : ℕ) → ReadsAs format head bodies file → IsBody body
-    → length (front format head bodies) ≡ gate → IsAdding gate (body_field body ++ 0 ∷ []) file image
+    → length (up_to_gate format head bodies) ≡ gate → IsAdding gate (body_field body ++ 0 ∷ []) file image
     → ReadsAs format head bodies image ⊎ ReadsAs format head (bodies ++ body ∷ []) image
 adding format head bodies body file image gate r is size a =
     ⊎_elim (λ t. inl (torn_behind format head bodies file image gate (length (body_field body ++ 0 ∷ [])) r size t))
@@ -128,14 +128,14 @@ adding format head bodies body file image gate r is size a =
 
 -- the same over what was written
 pub was_added : (format : ℕ) (head : Head) (bodies : List (List ℕ)) (body file new piece : List ℕ) (gate : ℕ) → ReadsAs format head bodies file → IsBody body
-    → length (front format head bodies) ≡ gate → piece ≡ body_field body ++ 0 ∷ [] → new ≡ overwritten (overwritten file (gate + 1) piece) gate (1 ∷ [])
+    → length (up_to_gate format head bodies) ≡ gate → piece ≡ body_field body ++ 0 ∷ [] → new ≡ overwritten (overwritten file (gate + 1) piece) gate (1 ∷ [])
     → ReadsAs format head (bodies ++ body ∷ []) new
 was_added format head bodies body file new piece gate r is size p e =
     subst (ReadsAs format head (bodies ++ body ∷ []))
     (sym (e ∙ ap (λ (l : List ℕ). overwritten (overwritten file (gate + 1) l) gate (1 ∷ [])) p)) (added format head bodies body file gate r is size)
 
 pub is_adding : (format : ℕ) (head : Head) (bodies : List (List ℕ)) (body file piece : List ℕ) (gate : ℕ) → ReadsAs format head bodies file → IsBody body
-    → length (front format head bodies) ≡ gate → piece ≡ body_field body ++ 0 ∷ [] → (image : List ℕ) → IsAdding gate piece file image
+    → length (up_to_gate format head bodies) ≡ gate → piece ≡ body_field body ++ 0 ∷ [] → (image : List ℕ) → IsAdding gate piece file image
     → ReadsAs format head bodies image ⊎ ReadsAs format head (bodies ++ body ∷ []) image
 is_adding format head bodies body file piece gate r is size p image a =
     adding format head bodies body file image gate r is size (subst (λ (l : List ℕ). IsAdding gate l file image) p a)

@@ -1,7 +1,7 @@
 -- Going through the entries, and from the header and the entries to the whole file.
 use Rattle.std.proofs.Common.{◌≡◌, ◌≢◌, ℕ, zero, suc, ◌+◌, ◌<◌, ◌≤◌, inl, inr, List, [], ◌∷◌, ◌++◌, length, get_or, drop, refl, sym, ◌∙◌, ap, subst, arith, length-append}
 use Rattle.std.proofs.lemmas.List.{append-nil, append_assoc, append_cancel_left, drop_more, drop_all}
-use Rattle.journal.specs.Image.{Head, IsHeader, ReadsAs, AreBodies, IsBody, body_field, entry, entries, front, header_bytes}
+use Rattle.journal.specs.Image.{Head, IsHeader, ReadsAs, AreBodies, IsBody, body_field, entry, entries, up_to_gate, header_bytes}
 use Rattle.journal.specs.Damage.{Begins, DamagedAt, IsField}
 use Rattle.journal.specs.Damage.Part.{Gate, Body}
 use Rattle.journal.specs.Fields.{IsAt, Reached, BreaksAt, NoBody}
@@ -24,8 +24,8 @@ body_at [] k body d fit h e = absurd (omega (arith, h))
 body_at (b ∷ bodies) zero body d fit h e = subst IsBody (sym e) fit.0
 body_at (b ∷ bodies) (suc k) body d fit h e = body_at bodies k body d fit.1 (omega (arith, h)) e
 
-pub front-push : (format : ℕ) (head : Head) (bodies : List (List ℕ)) (body : List ℕ) → front format head (bodies ++ body ∷ []) ≡ front format head bodies ++ entry body
-front-push format head bodies body =
+pub up_to_gate-push : (format : ℕ) (head : Head) (bodies : List (List ℕ)) (body : List ℕ) → up_to_gate format head (bodies ++ body ∷ []) ≡ up_to_gate format head bodies ++ entry body
+up_to_gate-push format head bodies body =
     ap (λ (l : List ℕ). header_bytes format head ++ l) (entries-push bodies body) ∙ sym (append_assoc (header_bytes format head) (entries bodies) (entry body))
 
 pub length-entry : (body : List ℕ) → length (entry body) ≡ 5 + length body
@@ -66,13 +66,14 @@ pub broken_behind : (format : ℕ) (head : Head) (file : List ℕ) (start place 
 broken_behind format head file start place is h (bodies, fit, inl (all, end)) =
     let there : IsAt (header_bytes format head ++ entries bodies) (start + place) file =
     advance (header_bytes format head) (entries bodies) file start (start + place) h ([], all ∙ sym (append-nil (entries bodies))) (omega (arith, end)) in
-    damaged Gate (front format head bodies) file (start + place) there (format, head, bodies, is, fit, refl)
+    damaged Gate (up_to_gate format head bodies) file (start + place) there
+    (record { format = format; head = head; bodies = bodies; header = is; fit = fit; is = refl })
     (λ field f b. absurd (nothing field f b (past there)))
   where
-    past : IsAt (front format head bodies) (start + place) file → length (drop (start + place) file) ≡ 0
+    past : IsAt (up_to_gate format head bodies) (start + place) file → length (drop (start + place) file) ≡ 0
     past there =
         let whole : file ≡ header_bytes format head ++ entries bodies = h.split ∙ ap (λ (l : List ℕ). header_bytes format head ++ l) all in
-        omega (arith, ap length there.split, ap length whole, length-append (front format head bodies) (drop (start + place) file))
+        omega (arith, ap length there.split, ap length whole, length-append (up_to_gate format head bodies) (drop (start + place) file))
 
     nothing : (field : List ℕ) → IsField Gate field → Begins field (drop (start + place) file) → length (drop (start + place) file) ≡ 0 → ⊥
     nothing field f b none = absurd (omega (arith, ap length b.1, length-append field b.0, ap length f.1, none))
@@ -80,9 +81,10 @@ broken_behind format head file start place is h (bodies, fit, inr (tail, split, 
     let with_gate : IsAt (header_bytes format head ++ (entries bodies ++ 1 ∷ [])) (start + place) file =
     advance (header_bytes format head) (entries bodies ++ 1 ∷ []) file start (start + place) h
     (tail, split ∙ sym (append_assoc (entries bodies) (1 ∷ []) tail)) (omega (arith, end, length-append (entries bodies) (1 ∷ []))) in
-    let there : IsAt (front format head bodies ++ 1 ∷ []) (start + place) file =
+    let there : IsAt (up_to_gate format head bodies ++ 1 ∷ []) (start + place) file =
     subst (λ (l : List ℕ). IsAt l (start + place) file) (sym (append_assoc (header_bytes format head) (entries bodies) (1 ∷ []))) with_gate in
-    damaged Body (front format head bodies ++ 1 ∷ []) file (start + place) there (format, head, bodies, is, fit, refl)
+    damaged Body (up_to_gate format head bodies ++ 1 ∷ []) file (start + place) there
+    (record { format = format; head = head; bodies = bodies; header = is; fit = fit; is = refl })
     (λ field f b. none f.0 f.1
     (b.0, sym (tail_is with_gate) ∙ b.1 ∙ ap (λ (l : List ℕ). l ++ b.0) f.2))
   where

@@ -1,17 +1,17 @@
 -- A file begins with at most one field of each kind, and the reader finds it.
 use Rattle.std.proofs.Common.{◌≡◌, ℕ, zero, suc, ⊎_elim, ◌+◌, ◌^◌, ◌<◌, ◌≤◌, Bool, true, false, ◌&&◌, List, [], ◌∷◌, ◌++◌, length, get_or, take, drop, refl, sym, ◌∙◌, ap, subst, arith, length-append}
-use Rattle.std.specs.Prelude.{not, position, Some}
+use Rattle.std.specs.Prelude.{None}
 use Rattle.std.specs.Int.{w16, w32, w64, from_be_bytes}
 use Rattle.std.specs.List.{list_all}
 use Rattle.std.specs.Str.{IsUtf8, IsAscii}
 use Rattle.std.proofs.lemmas.Nat.{from_be_bytes-to_be_bytes_2, from_be_bytes-to_be_bytes_4, from_be_bytes-to_be_bytes_8}
 use Rattle.std.proofs.lemmas.List.{take_at, drop_at, take-append-drop, append_assoc, length-take-le, get_or_past}
 use Rattle.std.proofs.lemmas.Bool.{cases_lt}
-use Rattle.std.proofs.lemmas.List.Quantifiers.{position-Some}
 use Rattle.std.proofs.lemmas.Bool.Decides.{nat_tests}
 use Rattle.std.proofs.lemmas.Str.{IsUtf8-from_ascii}
 use Rattle.u1_base.specs.Fields.{u16_bytes, u32_bytes, u64_bytes, text_field}
-use Rattle.u1_base.specs.Ids.{IsId, is_allowed, longest}
+use Rattle.u1_base.specs.Ids.{IsId, id_in, is_allowed}
+use Rattle.u1_base.proofs.IdFacts.{id_facts, in_id}
 use Rattle.u1_base.specs.declared.ids.Form.{Form}
 use Rattle.u1_base.specs.declared.ids.Form.TheVariants as form_of
 use Rattle.journal.specs.Image.{first_field, body_field}
@@ -124,10 +124,10 @@ text_same a b bytes la lb ba bb =
 
 -- ids are short and ASCII
 pub id_short : (form : Form) (text : List ℕ) → IsId form text → length text < 65536
-id_short form_of.Document text i = omega (arith, i.short)
-id_short form_of.Replica text i = omega (arith, i.short)
-id_short form_of.Transaction text i = omega (arith, i.short)
-id_short form_of.Name text i = omega (arith, i.short)
+id_short form_of.Document text i = omega (arith, (id_facts form_of.Document text i).1)
+id_short form_of.Replica text i = omega (arith, (id_facts form_of.Replica text i).1)
+id_short form_of.Transaction text i = omega (arith, (id_facts form_of.Transaction text i).1)
+id_short form_of.Name text i = omega (arith, (id_facts form_of.Name text i).1)
 
 allowed_ascii : (form : Form) (b : ℕ) → is_allowed form b ≡ true → b < 128
 allowed_ascii form_of.Document b e = grind (arith, nat_tests)
@@ -150,7 +150,7 @@ all_ascii form xs e k =
     (λ past. let zero_there : get_or xs k 0 ≡ 0 = get_or_past xs k 0 past in omega (arith, zero_there)) (cases_lt k (length xs))
 
 pub id_utf8 : (form : Form) (text : List ℕ) → IsId form text → IsUtf8 text
-id_utf8 form text i = IsUtf8-from_ascii text (all_ascii form text i.allowed)
+id_utf8 form text i = IsUtf8-from_ascii text (all_ascii form text (id_facts form text i).2)
 
 pub first_front : (format : ℕ) (bytes : List ℕ) → Begins (first_field format) bytes → take 8 bytes ≡ first_field format
 first_front format bytes b = ap (λ (n : ℕ). take n bytes) (sym (length-first_field format)) ∙ begins_front (first_field format) bytes b
@@ -162,17 +162,6 @@ limit_front limit bytes b = ap (λ (n : ℕ). take n bytes) (sym (length-u64 lim
 pub other_id : (form : Form) (text id bytes : List ℕ) → length text < 65536 → Begins (text_field text) bytes → IsId form id → Begins (text_field id) bytes → IsId form text
 other_id form text id bytes short b is bi = subst (IsId form) (text_same id text bytes (id_short form id is) short bi b) is
 
-pub empty_no_id : (form : Form) (text : List ℕ) → text ≡ [] → IsId form text → ⊥
-empty_no_id form text e is = absurd (omega (arith, is.some, ap length e))
-
-pub long_no_id : (form : Form) (text : List ℕ) (n : ℕ) → (n ≡ length text) × (longest form < n) → IsId form text → ⊥
-long_no_id form text n h is = absurd (omega (arith, is.short, h.0, h.1))
-
-not_true : (b : Bool) → not b ≡ true → b ≡ true → ⊥
-not_true true e f = absurd (cc e)
-not_true false e f = absurd (cc f)
-
-pub bad_no_id : (form : Form) (text : List ℕ) (at : ℕ) → position (λ b. not (is_allowed form b)) text ≡ Some at → IsId form text → ⊥
-bad_no_id form text at e is =
-    let p = position-Some (λ (b : ℕ). not (is_allowed form b)) text at 0 e in
-    not_true (is_allowed form (get_or text at 0)) p.1 (all_at (is_allowed form) text at p.0 is.allowed)
+-- a text that reads as no id is none
+pub none_no_id : (form : Form) (text : List ℕ) → id_in form text ≡ None → IsId form text → ⊥
+none_no_id form text none is = absurd (cc (none, in_id form text is))

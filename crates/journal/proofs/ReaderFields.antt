@@ -1,17 +1,16 @@
 -- The plain reader of each field finds the field that stands there, and nothing else.
 use Rattle.std.proofs.Common.{◌≡◌, ℕ, ◌^◌, ◌<◌, ◌≤◌, inl, inr, Bool, true, false, ◌&&◌, cond, leb, ltb, Option, Some, None, MatchOption, List, length, get_or, take, drop, refl, sym, ◌∙◌, ap, subst, arith}
 use Rattle.std.specs.Int.{w16, w32, w64, from_be_bytes}
-use Rattle.std.specs.List.{list_all}
 use Rattle.std.proofs.lemmas.Nat.{from_be_bytes-to_be_bytes_2, from_be_bytes-to_be_bytes_4, from_be_bytes-to_be_bytes_8}
 use Rattle.std.proofs.lemmas.Slice.Eq.{bytes_eq-Decides}
 use Rattle.std.proofs.lemmas.Bool.Decides.{nat_tests}
 use Rattle.u1_base.specs.Fields.{u16_bytes, u32_bytes, u64_bytes, text_field}
-use Rattle.u1_base.specs.Ids.{IsId, is_allowed, longest}
+use Rattle.u1_base.specs.Ids.{IsId, is_id}
 use Rattle.u1_base.specs.declared.ids.Form.{Form}
 use Rattle.journal.specs.Image.{IsFormat, IsLimit, IsBody, first_field, body_field}
 use Rattle.journal.specs.Damage.{Begins}
 use Rattle.journal.specs.Fields.{NoFirst, NoId, NoLimit, NoBody}
-use Rattle.journal.specs.Reader.{begins, is_id, read_first, read_text, read_limit, read_body}
+use Rattle.journal.specs.Reader.{begins, read_first, read_text, read_limit, read_body}
 use Rattle.journal.proofs.Fields.{begins_front, front_begins, first_front, limit_front, text_front, body_front, text_same, id_short, u64-same}
 
 -- what was found is this one, where there is one and no other
@@ -72,12 +71,6 @@ pub first_same : (a b : ℕ) (file : List ℕ) → Begins (first_field a) file �
 first_same a b file ba bb =
     sym (last_of_first a) ∙ ap (λ (l : List ℕ). get_or l 7 0) (sym (first_front a file ba) ∙ first_front b file bb) ∙ last_of_first b
 
-is_id_true : (form : Form) (text : List ℕ) → is_id form text ≡ true → IsId form text
-is_id_true form text e =
-    let outer = and_true (leb 1 (length text) && leb (length text) (longest form)) (list_all (is_allowed form) text) e in
-    let inner = and_true (leb 1 (length text)) (leb (length text) (longest form)) outer.0 in
-    record { some = grind (arith, nat_tests, inner.0); short = grind (arith, nat_tests, inner.1); allowed = outer.1 }
-
 le_test : (a b : ℕ) → a ≤ b → leb a b ≡ true
 le_test a b h = grind (arith, nat_tests)
 
@@ -89,11 +82,6 @@ le_from a b e = grind (arith, nat_tests)
 
 lt_from : (a b : ℕ) → ltb a b ≡ true → a < b
 lt_from a b e = grind (arith, nat_tests)
-
-true_is_id : (form : Form) (text : List ℕ) → IsId form text → is_id form text ≡ true
-true_is_id form text is =
-    true_and (leb 1 (length text) && leb (length text) (longest form)) (list_all (is_allowed form) text)
-    (true_and (leb 1 (length text)) (leb (length text) (longest form)) (le_test 1 (length text) is.some) (le_test (length text) (longest form) is.short)) is.allowed
 
 text_decoded : (text file : List ℕ) → length text < 65536 → Begins (text_field text) file → take (from_be_bytes w16 (take 2 file)) (drop 2 file) ≡ text
 unfolding u16_bytes
@@ -117,11 +105,11 @@ pub read_text_is : (form : Form) (file : List ℕ) → MatchOption (read_text fo
 read_text_is form file =
     let text = take (from_be_bytes w16 (take 2 file)) (drop 2 file) in
     guarded (begins (text_field text) file) (is_id form text) text (NoId form file) (λ text. IsId form text × Begins (text_field text) file)
-    (λ p q. (is_id_true form text q, begins_true (text_field text) file p))
+    (λ p q. (q, begins_true (text_field text) file p))
     (λ missing id is b.
     let same : text ≡ id = text_decoded id file (id_short form id is) b in
     both (begins (text_field text) file) (is_id form text)
-    (begins_is (text_field text) file (subst (λ (l : List ℕ). Begins (text_field l) file) (sym same) b)) (true_is_id form text (subst (IsId form) (sym same) is)) missing)
+    (begins_is (text_field text) file (subst (λ (l : List ℕ). Begins (text_field l) file) (sym same) b)) (subst (IsId form) (sym same) is) missing)
 
 pub id_same : (form : Form) (a b file : List ℕ) → IsId form a × Begins (text_field a) file → IsId form b → Begins (text_field b) file → a ≡ b
 id_same form a b file p is begun = text_same a b file (id_short form a p.0) (id_short form b is) p.1 begun

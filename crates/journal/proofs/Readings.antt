@@ -5,21 +5,17 @@ use Rattle.std.proofs.lemmas.Bool.Decides.{Decides-eqb}
 use Rattle.u1_base.specs.Fields.{text_field, u64_bytes}
 use Rattle.u1_base.specs.Ids.{IsId}
 use Rattle.u1_base.specs.declared.ids.Form.TheVariants as form
-use Rattle.journal.specs.Image.{Head, IsFormat, IsLimit, IsHeader, ReadsAs, AreBodies, IsBody, first_field, body_field, entry, entries, front, header_bytes}
+use Rattle.journal.specs.Image.{Head, IsFormat, IsLimit, IsHeader, ReadsAs, AreBodies, IsBody, first_field, body_field, entry, entries, up_to_gate, header_bytes}
 use Rattle.journal.specs.Damage.{Part, Begins, DamagedAt, IsField, IsBefore}
 use Rattle.journal.specs.Damage.Part.{First, Name, Uid, Limit, Gate, Body}
 use Rattle.journal.specs.Fields.{IsAt, NoFirst, NoId, NoLimit, NoBody, BreaksAt}
 use Rattle.journal.specs.Reader.{Reading, or_damaged, with_body, read_first, read_text, read_limit, read_body, read_entries, read_image, after_first, after_name, after_uid, after_limit}
 use Rattle.journal.specs.Reader.Reading.{Damaged, Stands}
+use Rattle.journal.specs.Opening.{Finds}
 use Rattle.journal.proofs.Fields.{length-first_field, length-u64, length-body_field}
 use Rattle.journal.proofs.Places.{advance, ahead, behind, first_at, limit_at, header_at, no_first, no_name, no_uid, no_limit}
 use Rattle.journal.proofs.Entries.{broken_behind, reads_behind, length-entry}
 use Rattle.journal.proofs.ReaderFields.{some_is, none_is, read_first_is, read_text_is, read_limit_is, read_body_is, first_same, id_same, limit_same, body_same}
-
--- what was found of a file
-abbrev pub Finds : List ℕ → Reading → Type 0
-Finds file (Damaged place) = DamagedAt place file
-Finds file (Stands format head bodies) = ReadsAs format head bodies file
 
 or_cases : {A : Type 0} (o : Option A) (place : ℕ) (k : A → Reading) (Q : Reading → Type 0) (No : Type 0) (P : A → Type 0) → MatchOption o No P
     → (No → Q (Damaged place)) → ((x : A) → P x → Q (k x)) → Q (or_damaged o place k)
@@ -285,8 +281,8 @@ header_long format head =
     )
 
 -- a file with this front
-past_front : (file : List ℕ) (format : ℕ) (head : Head) (bodies : List (List ℕ)) (rest : List ℕ) → IsHeader format head → AreBodies bodies → file ≡ front format head bodies ++ rest
-    → (k : ℕ) × (length rest < k) × (read_image file ≡ with_bodies bodies (read_entries k format head (length (front format head bodies)) rest))
+past_front : (file : List ℕ) (format : ℕ) (head : Head) (bodies : List (List ℕ)) (rest : List ℕ) → IsHeader format head → AreBodies bodies → file ≡ up_to_gate format head bodies ++ rest
+    → (k : ℕ) × (length rest < k) × (read_image file ≡ with_bodies bodies (read_entries k format head (length (up_to_gate format head bodies)) rest))
 past_front file format head bodies rest is fit e =
     let h = header_bytes format head in let n = length h in
     let regroup : file ≡ h ++ (entries bodies ++ rest) = e ∙ append_assoc h (entries bodies) rest in
@@ -326,7 +322,7 @@ ends_broken (suc fuel) format head place tail some none =
 pub reads_found : (file : List ℕ) (format : ℕ) (head : Head) (bodies : List (List ℕ)) → ReadsAs format head bodies file → read_image file ≡ Stands format head bodies
 reads_found file format head bodies r =
     let run = past_front file format head bodies (r.gate ∷ r.rest) r.header r.fit r.split in
-    run.2 ∙ ap (with_bodies bodies) (ends_shut run.0 format head (length (front format head bodies)) r.gate r.rest (omega (arith, run.1)) r.shut) ∙ with_bodies-Stands bodies format head
+    run.2 ∙ ap (with_bodies bodies) (ends_shut run.0 format head (length (up_to_gate format head bodies)) r.gate r.rest (omega (arith, run.1)) r.shut) ∙ with_bodies-Stands bodies format head
 
 nothing_left : (rest : List ℕ) → ((g : ℕ) (t : List ℕ) → rest ≡ g ∷ t → ⊥) → rest ≡ []
 nothing_left [] missing = refl
@@ -335,12 +331,14 @@ nothing_left (g ∷ t) missing = absurd (missing g t refl)
 found_at : (part : Part) (place : ℕ) (file bytes : List ℕ) → IsBefore part bytes → length bytes ≡ place → Begins bytes file
     → ((field : List ℕ) → IsField part field → ¬ (Begins (bytes ++ field) file)) → read_image file ≡ Damaged place
 unfolding read_image
-found_at First place file bytes whole there b broken =
+found_at First place file bytes w there b broken =
+    let whole = w.is in
     ap (λ (o : Option ℕ). or_damaged o 0 (after_first file))
     (none_is (read_first file) (NoFirst file) (λ g. IsFormat g × Begins (first_field g) file) (read_first_is file)
     (λ g p. broken (first_field g) (g, p.0, refl) (subst (λ (l : List ℕ). Begins (l ++ first_field g) file) (sym whole) p.1)))
     ∙ ap Damaged (sym (ap length whole) ∙ there)
-found_at Name place file bytes (format, known, e) there b broken =
+found_at Name place file bytes w there b broken =
+    let format = w.format in let known = w.header.known in let e = w.is in
     let first : Begins (first_field format) file = subst (λ (l : List ℕ). Begins l file) e b in
     to_first file format known first
     ∙ ap (λ (o : Option (List ℕ)). or_damaged o 8 (after_name file format))
@@ -348,7 +346,8 @@ found_at Name place file bytes (format, known, e) there b broken =
     (λ t p. broken (text_field t) (t, p.0, refl)
     (subst (λ (l : List ℕ). Begins (l ++ text_field t) file) (sym e) (ahead (first_field format) (text_field t) file 8 (first_at format file first) p.1))))
     ∙ ap Damaged (sym (length-first_field format) ∙ sym (ap length e) ∙ there)
-found_at Uid place file bytes (format, name, known, is, e) there b broken =
+found_at Uid place file bytes w there b broken =
+    let format = w.format in let name = w.head.name in let known = w.header.known in let is = w.header.name in let e = w.is in
     let so_far : Begins (first_field format ++ text_field name) file = subst (λ (l : List ℕ). Begins l file) e b in
     let p = 8 + length (text_field name) in
     past_name file format name known is so_far
@@ -357,7 +356,9 @@ found_at Uid place file bytes (format, name, known, is, e) there b broken =
     (λ t q. broken (text_field t) (t, q.0, refl)
     (subst (λ (l : List ℕ). Begins (l ++ text_field t) file) (sym e) (ahead (first_field format ++ text_field name) (text_field t) file p (name_there file format name so_far) q.1))))
     ∙ ap Damaged (sym (name_there file format name so_far).there ∙ sym (ap length e) ∙ there)
-found_at Limit place file bytes (format, name, uid, known, is, iu, e) there b broken =
+found_at Limit place file bytes w there b broken =
+    let format = w.format in let name = w.head.name in let uid = w.head.uid in
+    let known = w.header.known in let is = w.header.name in let iu = w.header.uid in let e = w.is in
     let so_far : Begins (first_field format ++ text_field name ++ text_field uid) file = subst (λ (l : List ℕ). Begins l file) e b in
     let p = 8 + length (text_field name) + length (text_field uid) in
     past_uid file format name uid known is iu so_far
@@ -366,14 +367,16 @@ found_at Limit place file bytes (format, name, uid, known, is, iu, e) there b br
     (λ n q. broken (u64_bytes n) (n, q.0, refl)
     (subst (λ (l : List ℕ). Begins (l ++ u64_bytes n) file) (sym e) (ahead (first_field format ++ text_field name ++ text_field uid) (u64_bytes n) file p (uid_there file format name uid so_far) q.1))))
     ∙ ap Damaged (sym (uid_there file format name uid so_far).there ∙ sym (ap length e) ∙ there)
-found_at Gate place file bytes (format, head, bodies, is, fit, e) there b broken =
+found_at Gate place file bytes w there b broken =
+    let format = w.format in let head = w.head in let bodies = w.bodies in let is = w.header in let fit = w.fit in let e = w.is in
     let all : b.0 ≡ [] = nothing_left b.0 (λ g t eq. broken (g ∷ []) (g, refl)
     (t, b.1 ∙ ap (λ (l : List ℕ). bytes ++ l) eq ∙ sym (append_assoc bytes (g ∷ []) t))) in
     let run = past_front file format head bodies [] is fit (b.1 ∙ ap (λ (l : List ℕ). bytes ++ l) all ∙ ap (λ (l : List ℕ). l ++ []) e) in
-    run.2 ∙ ap (with_bodies bodies) (ends_cut run.0 format head (length (front format head bodies)) (omega (arith, run.1))) ∙ with_bodies-Damaged bodies (length (front format head bodies))
+    run.2 ∙ ap (with_bodies bodies) (ends_cut run.0 format head (length (up_to_gate format head bodies)) (omega (arith, run.1))) ∙ with_bodies-Damaged bodies (length (up_to_gate format head bodies))
     ∙ ap Damaged (sym (ap length e) ∙ there)
-found_at Body place file bytes (format, head, bodies, is, fit, e) there b broken =
-    let f = front format head bodies in
+found_at Body place file bytes w there b broken =
+    let format = w.format in let head = w.head in let bodies = w.bodies in let is = w.header in let fit = w.fit in let e = w.is in
+    let f = up_to_gate format head bodies in
     let run = past_front file format head bodies (1 ∷ b.0) is fit (b.1 ∙ ap (λ (l : List ℕ). l ++ b.0) e ∙ append_assoc f (1 ∷ []) b.0) in
     let none : NoBody b.0 = λ body isbody h. broken (body_field body) (body, isbody, refl)
     (h.0, b.1 ∙ ap (λ (l : List ℕ). bytes ++ l) h.1 ∙ sym (append_assoc bytes (body_field body) h.0)) in

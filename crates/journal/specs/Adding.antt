@@ -1,4 +1,4 @@
--- What the two writes of an append may leave on the way.
+-- Private words of append: what its two writes may leave on the way.
 use Rattle.std.specs.Prelude.{◌⊎◌, ℕ, ◌+◌, List, length}
 use Rattle.disk_model.specs.Disk.{Torn, overwritten}
 

@@ -3,7 +3,7 @@ use Rattle.std.specs.Prelude.{◌≡◌, ℕ, List, [], ◌∷◌, ◌++◌, len
 use Rattle.u1_base.specs.Fields.{text_field, u64_bytes}
 use Rattle.u1_base.specs.Ids.{IsId}
 use Rattle.u1_base.specs.declared.ids.Form.TheVariants as form
-use Rattle.journal.specs.Image.{Head, IsFormat, IsLimit, IsHeader, IsBody, AreBodies, first_field, body_field, front}
+use Rattle.journal.specs.Image.{Head, IsFormat, IsLimit, IsHeader, IsBody, AreBodies, first_field, body_field, up_to_gate}
 
 -- the file begins with these bytes
 abbrev pub Begins : List ℕ → List ℕ → Type 0
@@ -27,19 +27,23 @@ IsField Limit field = (limit : ℕ) × IsLimit limit × (field ≡ u64_bytes lim
 IsField Gate field = (gate : ℕ) × (field ≡ gate ∷ [])
 IsField Body field = (body : List ℕ) × IsBody body × (field ≡ body_field body)
 
--- which bytes stand before a field of the kind: all fields before it, each of them whole
-abbrev pub IsBefore : Part → List ℕ → Type 0
-IsBefore First bytes = bytes ≡ []
-IsBefore Name bytes = (format : ℕ) × IsFormat format × (bytes ≡ first_field format)
-IsBefore Uid bytes =
-    (format : ℕ) × (name : List ℕ) × IsFormat format × IsId form.Name name × (bytes ≡ first_field format ++ text_field name)
-IsBefore Limit bytes =
-    (format : ℕ) × (name : List ℕ) × (uid : List ℕ) × IsFormat format × IsId form.Name name × IsId form.Replica uid
-    × (bytes ≡ first_field format ++ text_field name ++ text_field uid)
-IsBefore Gate bytes =
-    (format : ℕ) × (head : Head) × (bodies : List (List ℕ)) × IsHeader format head × AreBodies bodies × (bytes ≡ front format head bodies)
-IsBefore Body bytes =
-    (format : ℕ) × (head : Head) × (bodies : List (List ℕ)) × IsHeader format head × AreBodies bodies × (bytes ≡ front format head bodies ++ 1 ∷ [])
+-- what stands before the field of the kind in an image: all fields before it; a gate and a body come behind the entries
+abbrev pub before_part : Part → ℕ → Head → List (List ℕ) → List ℕ
+before_part First format head bodies = []
+before_part Name format head bodies = first_field format
+before_part Uid format head bodies = first_field format ++ text_field head.name
+before_part Limit format head bodies = first_field format ++ text_field head.name ++ text_field head.uid
+before_part Gate format head bodies = up_to_gate format head bodies
+before_part Body format head bodies = up_to_gate format head bodies ++ 1 ∷ []
+
+-- these bytes stand before a field of the kind in some image
+pub record IsBefore (part : Part) (bytes : List ℕ) : Type 0 where
+  pub format : ℕ
+  pub head : Head
+  pub bodies : List (List ℕ)
+  pub header : IsHeader format head
+  pub fit : AreBodies bodies
+  pub is : bytes ≡ before_part part format head bodies
 
 -- the place of damage: the file is whole up to there, and no field of the kind that is due stands there
 pub record DamagedAt (place : ℕ) (file : List ℕ) : Type 0 where

@@ -1,4 +1,4 @@
--- What the readers of single fields say.
+-- Private words of the readers of single fields, from which opening is put together.
 use Rattle.std.specs.Prelude.{◌≡◌, ◌≢◌, ◌⊎◌, ℕ, ◌+◌, ◌<◌, ◌≤◌, List, ◌∷◌, ◌++◌, length, drop}
 use Rattle.std.specs.Str.{IsUtf8}
 use Rattle.u1_base.specs.Fields.{text_field, u64_bytes}
@@ -6,11 +6,10 @@ use Rattle.u1_base.specs.Ids.{IsId}
 use Rattle.u1_base.specs.declared.ids.Form.{Form}
 use Rattle.journal.specs.Image.{IsFormat, IsLimit, IsHeader, AreBodies, first_field, IsBody, body_field, entries, header_bytes}
 use Rattle.journal.specs.Damage.{Begins, DamagedAt}
-use Rattle.journal.specs.Opening.{head_of}
-use Rattle.journal.specs.declared.found.Found.{Found}
-use Rattle.journal.specs.declared.found.Found.TheVariants as found
-use Rattle.journal.specs.declared.found.Start.{Start}
-use Rattle.journal.specs.declared.found.Entries.{Entries}
+use Rattle.journal.specs.declared.parsed.Parsed.{Parsed}
+use Rattle.journal.specs.declared.parsed.Parsed.TheVariants as parsed
+use Rattle.journal.specs.declared.parsed.Start.{Start}
+use Rattle.journal.specs.declared.parsed.Entries.{Entries}
 
 -- the bytes begin with no field of the kind
 abbrev pub NoFirst : List ℕ → Type 0
@@ -30,10 +29,10 @@ NoText bytes = (text : List ℕ) → length text < 65536 → IsUtf8 text → ¬ 
 abbrev pub NoId : Form → List ℕ → Type 0
 NoId form bytes = (id : List ℕ) → IsId form id → ¬ (Begins (text_field id) bytes)
 
-abbrev pub ReadsIdField : Form → List ℕ → Found (List ℕ) → Type 0
-ReadsIdField form bytes (found.Whole id) = IsId form id × Begins (text_field id) bytes
-ReadsIdField form bytes (found.Broken place) = NoId form bytes
-ReadsIdField form bytes found.Memory = Unit {0}
+abbrev pub ReadsIdField : Form → List ℕ → Parsed (List ℕ) → Type 0
+ReadsIdField form bytes (parsed.Whole id) = IsId form id × Begins (text_field id) bytes
+ReadsIdField form bytes (parsed.Broken place) = NoId form bytes
+ReadsIdField form bytes parsed.Memory = Unit {0}
 
 -- the bytes stand behind these, from the place on
 pub record IsAt (front : List ℕ) (place : ℕ) (bytes : List ℕ) : Type 0 where
@@ -41,11 +40,11 @@ pub record IsAt (front : List ℕ) (place : ℕ) (bytes : List ℕ) : Type 0 whe
   pub split : bytes ≡ front ++ drop place bytes
 
 -- the header, and where the entries begin
-abbrev pub ReadsHeader : List ℕ → Found Start → Type 0
-ReadsHeader bytes (found.Whole start) =
-    IsHeader start.format (head_of start.header) × IsAt (header_bytes start.format (head_of start.header)) start.length bytes
-ReadsHeader bytes (found.Broken place) = DamagedAt place bytes
-ReadsHeader bytes found.Memory = Unit {0}
+abbrev pub ReadsHeader : List ℕ → Parsed Start → Type 0
+ReadsHeader bytes (parsed.Whole start) =
+    IsHeader start.format start.header × IsAt (header_bytes start.format start.header) start.length bytes
+ReadsHeader bytes (parsed.Broken place) = DamagedAt place bytes
+ReadsHeader bytes parsed.Memory = Unit {0}
 
 -- the bytes are entries, and then a gate is missing or has no body behind it
 abbrev pub BreaksAt : ℕ → List ℕ → Type 0
@@ -55,12 +54,12 @@ BreaksAt place bytes =
     ⊎ ((tail : List ℕ) × (bytes ≡ entries bodies ++ 1 ∷ tail) × (place ≡ length (entries bodies) + 1)
     × NoBody tail))
 
-abbrev pub ReadsEntries : List ℕ → Found Entries → Type 0
-ReadsEntries bytes (found.Whole read) =
+abbrev pub ReadsEntries : List ℕ → Parsed Entries → Type 0
+ReadsEntries bytes (parsed.Whole read) =
     AreBodies read.bodies × (read.length ≡ length (entries read.bodies))
     × ((gate : ℕ) × (rest : List ℕ) × (gate ≢ 1) × (bytes ≡ entries read.bodies ++ gate ∷ rest))
-ReadsEntries bytes (found.Broken place) = BreaksAt place bytes
-ReadsEntries bytes found.Memory = Unit {0}
+ReadsEntries bytes (parsed.Broken place) = BreaksAt place bytes
+ReadsEntries bytes parsed.Memory = Unit {0}
 
 -- the entries of these bodies stand before the place
 pub record Reached (bodies : List (List ℕ)) (place : ℕ) (bytes : List ℕ) : Type 0 where

@@ -2,6 +2,7 @@
 use Rattle.std.specs.Prelude.{◌≡◌, ◌≢◌, ◌⊎◌, ℕ, ◌^◌, ◌<◌, ◌≤◌, List, [], ◌∷◌, ◌++◌, codes, length}
 use Rattle.u1_base.specs.Fields.{text_field, u32_bytes, u64_bytes}
 use Rattle.u1_base.specs.Ids.{IsId}
+use Rattle.u1_base.specs.declared.limits.TheConstants.{GREATEST_IMAGE_LIMIT, LEAST_IMAGE_LIMIT}
 use Rattle.u1_base.specs.declared.ids.Form.TheVariants.{Name, Replica}
 
 -- the database's name, the replica's uid, and the most bytes that the image may have
@@ -16,7 +17,7 @@ IsFormat format = (format ≡ 1) ⊎ (format ≡ 2)
 
 -- from 1 KiB to 1 TiB
 abbrev pub IsLimit : ℕ → Type 0
-IsLimit limit = (1024 ≤ limit) × (limit ≤ 2 ^ 40)
+IsLimit limit = (LEAST_IMAGE_LIMIT ≤ limit) × (limit ≤ GREATEST_IMAGE_LIMIT)
 
 -- what a header has to be
 pub record IsHeader (format : ℕ) (head : Head) : Type 0 where
@@ -53,12 +54,12 @@ entries [] = []
 entries (body ∷ bodies) = entry body ++ entries bodies
 
 -- an image up to its closed gate
-abbrev pub front : ℕ → Head → List (List ℕ) → List ℕ
-front format head bodies = header_bytes format head ++ entries bodies
+abbrev pub up_to_gate : ℕ → Head → List (List ℕ) → List ℕ
+up_to_gate format head bodies = header_bytes format head ++ entries bodies
 
 -- an image as it is written
 abbrev pub image : ℕ → Head → List (List ℕ) → List ℕ
-image format head bodies = front format head bodies ++ 0 ∷ []
+image format head bodies = up_to_gate format head bodies ++ 0 ∷ []
 
 -- a file reads as this: header and entries, then a gate that is not open, and then anything
 pub record ReadsAs (format : ℕ) (head : Head) (bodies : List (List ℕ)) (file : List ℕ) : Type 0 where
@@ -67,4 +68,9 @@ pub record ReadsAs (format : ℕ) (head : Head) (bodies : List (List ℕ)) (file
   pub header : IsHeader format head
   pub fit : AreBodies bodies
   pub shut : gate ≢ 1
-  pub split : file ≡ front format head bodies ++ gate ∷ rest
+  pub split : file ≡ up_to_gate format head bodies ++ gate ∷ rest
+
+-- a file reads as the image, or as the image with one body more
+abbrev pub ReadsWithOrWithout : List ℕ → ℕ → Head → List (List ℕ) → List ℕ → Type 0
+ReadsWithOrWithout body format head bodies file =
+    ReadsAs format head bodies file ⊎ ReadsAs format head (bodies ++ body ∷ []) file

@@ -3,6 +3,7 @@ pub mod Damage
 pub mod Journal
 pub mod Reader
 pub mod Opening
+pub mod Faults
 pub mod Fields
 pub mod Adding
 pub mod Restarting

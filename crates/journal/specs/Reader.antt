@@ -1,10 +1,10 @@
 -- A plain reader of images: what opening finds, as a function.
 use Rattle.std.specs.Prelude.{ℕ, zero, suc, ◌+◌, ◌^◌, Bool, ◌&&◌, ◌==◌, nat_le, nat_lt, if◌then◌else◌, Option, Some, None, List, [], ◌∷◌, length, take, drop}
-use Rattle.std.specs.List.{list_all}
 use Rattle.std.specs.Int.{w16, w32, w64, from_be_bytes}
 use Rattle.std.specs.Str.{bytes_eq}
 use Rattle.u1_base.specs.Fields.{text_field, u64_bytes}
-use Rattle.u1_base.specs.Ids.{is_allowed, longest}
+use Rattle.u1_base.specs.Ids.{is_id}
+use Rattle.u1_base.specs.declared.limits.TheConstants.{GREATEST_IMAGE_LIMIT, LEAST_IMAGE_LIMIT}
 use Rattle.u1_base.specs.declared.ids.Form.{Form}
 use Rattle.u1_base.specs.declared.ids.Form.TheVariants.{Name, Replica}
 use Rattle.journal.specs.Image.{Head, body_field, first_field}
@@ -16,9 +16,6 @@ pub data Reading : Type 0 where
 
 abbrev pub begins : List ℕ → List ℕ → Bool
 begins field file = bytes_eq (take (length field) file) field
-
-abbrev pub is_id : Form → List ℕ → Bool
-is_id form text = nat_le 1 (length text) && nat_le (length text) (longest form) && list_all (is_allowed form) text
 
 abbrev pub read_first : List ℕ → Option ℕ
 read_first file = if begins (first_field 1) file then Some 1 else (if begins (first_field 2) file then Some 2 else None)
@@ -32,7 +29,7 @@ read_text form file =
 abbrev pub read_limit : List ℕ → Option ℕ
 read_limit file =
     let limit = from_be_bytes w64 (take 8 file) in
-    if begins (u64_bytes limit) file && nat_le 1024 limit && nat_le limit (2 ^ 40) then Some limit else None
+    if begins (u64_bytes limit) file && nat_le LEAST_IMAGE_LIMIT limit && nat_le limit GREATEST_IMAGE_LIMIT then Some limit else None
 
 abbrev pub read_body : List ℕ → Option (List ℕ)
 read_body file =

@@ -1,4 +1,4 @@
--- What may be left while an image is begun anew.
+-- Private words of restart_image: what may be left while an image is begun anew.
 use Rattle.std.specs.Prelude.{◌≡◌, ◌≢◌, ◌⊎◌, ℕ, ◌<◌, List, length, slice_index}
 
 -- no image begins so: another first byte, or fewer than eight

@@ -1,7 +1,8 @@
 //! The journal of an image that lies on a disk, and how one more body is added.
 ghost use Rattle.std.specs.Prelude.{◌≡◌, ◌+◌, ◌^◌, ◌<◌, IsTrue, OnOk, [], ◌∷◌, length};
 ghost use Rattle.u1_base.specs.Causes.{HasCause};
-ghost use Rattle.disk_model.specs.Disk.{overwritten, settled};
+ghost use Rattle.disk_model.specs.Disk.{overwritten};
+ghost use Rattle.disk_model.specs.Device.{IsSettled, file_of};
 ghost use Rattle.disk_model.specs.Moments.{LeavesOnly};
 ghost use Rattle.disk_model.specs.Counts.{MakesCalls};
 ghost use Rattle.journal.specs.Adding.{IsAdding};
@@ -9,6 +10,8 @@ ghost use Rattle.journal.specs.Adding.{IsAdding};
 use crate::spelling::behind_the_gate;
 use disk_model::{Disk, DiskFailed, write_synced};
 use std::alloc::Global;
+use std::error::Error;
+use std::fmt;
 use std::marker::Model;
 
 /// Why a body was not added.
@@ -19,6 +22,28 @@ pub enum AppendFault {
     Disk,
     Memory,
 }
+
+impl fmt::Display for AppendFault {
+    ghost use Rattle.std.specs.Prelude.{Some};
+    ghost use Rattle.journal.specs.Faults.{append_fault_text};
+
+    ghost output = { λ fault. Some (append_fault_text fault) };
+
+    fn fmt<W: fmt::Write>(&self, f: &mut fmt::Formatter<W>) -> fmt::Result {
+        match self {
+            AppendFault::Full { need, limit } => {
+                write!(
+                    f,
+                    "the image would need {need} bytes, and its limit is {limit}"
+                )
+            }
+            AppendFault::Disk => f.write_str("the disk failed"),
+            AppendFault::Memory => f.write_str("out of memory"),
+        }
+    }
+}
+
+impl Error for AppendFault {}
 
 /// The journal of an image: its length, up to and with the closed gate, and its limit, both in bytes.
 #[derive(Debug, Drop)]
@@ -39,12 +64,11 @@ impl Model for Journal {
 }
 
 impl Journal {
-    ghost use Rattle.std.specs.Prelude.{◌≡◌, ◌≢◌, ℕ, ◌+◌, ◌-◌, ◌^◌, ◌<◌, ◌≤◌, ◌⊎◌, IsTrue, Err, OnOk, OnErr, IsErrOf, List, [], ◌∷◌, ◌++◌, length};
-    ghost use Rattle.u1_base.specs.Causes.{Rose};
-    ghost use Rattle.disk_model.specs.Moments.{LeavesOnly};
+    ghost use Rattle.std.specs.Prelude.{◌≡◌, ◌≢◌, ℕ, ◌+◌, ◌^◌, ◌<◌, ◌≤◌, IsTrue, Err, OnOk, OnErr, length};
+    ghost use Rattle.u1_base.specs.Causes.{HasCauseOf};
+    ghost use Rattle.disk_model.specs.Device.{file_of};
     ghost use Rattle.disk_model.specs.Counts.{MakesCalls};
-    ghost use Rattle.journal.specs.Image.{Head, ReadsAs};
-    ghost use Rattle.journal.specs.Journal.{Holds, need};
+    ghost use Rattle.journal.specs.Journal.{HoldsOneMore, IsFull, IsHeld, LeavesWithOrWithout, need};
 
     pub(crate) fn of(length: u64, limit: u64) -> Journal
         requires some { 1 ≤ length }
@@ -74,21 +98,18 @@ impl Journal {
     ) -> Result<(), AppendFault>
         requires some { 1 ≤ length body.now }
         requires short { length body.now < 2 ^ 32 }
-        requires holds { IsTrue D.tells → (format : ℕ) × (head : Head) × (bodies : List (List ℕ)) × Holds D.seen D.now disk.old self.old format head bodies }
-        ensures ok { IsTrue D.tells → OnOk result ((format : ℕ) (head : Head) (bodies : List (List ℕ)) → Holds D.seen D.now disk.old self.old format head bodies
-            → Holds D.seen D.now disk.new self.new format head (bodies ++ body.now ∷ [])) }
+        requires holds { IsTrue D.tells → IsHeld self.old (file_of (D.known disk.old)) }
+        ensures ok { IsTrue D.tells → OnOk result (HoldsOneMore body.now self.old self.new (file_of (D.known disk.old)) (file_of (D.known disk.new))) }
         ensures length { OnOk result (self.new.length ≡ self.old.length + 5 + length body.now) }
         ensures limit { self.new.limit ≡ self.old.limit }
         ensures same { OnErr result (self.new ≡ self.old) }
-        ensures any_moment { IsTrue D.tells → (format : ℕ) (head : Head) (bodies : List (List ℕ)) → Holds D.seen D.now disk.old self.old format head bodies
-            → LeavesOnly D.now D.beside D.past disk.old disk.new (λ image. ReadsAs format head bodies image ⊎ ReadsAs format head (bodies ++ body.now ∷ []) image) }
-        ensures beside { IsTrue D.tells → D.beside disk.new ≡ D.beside disk.old }
-        ensures full { self.old.limit < need self.old (length body.now) → result ≡ Err (AppendFault.Full (need self.old (length body.now)) self.old.limit) }
-        ensures only_full { (n : ℕ) (m : ℕ) → result ≡ Err (AppendFault.Full n m) → (n ≡ need self.old (length body.now)) × (m ≡ self.old.limit) × (m < n) }
+        ensures any_moment { IsTrue D.tells → LeavesWithOrWithout body.now self.old (D.known disk.old) (D.known disk.new) }
+        ensures beside { IsTrue D.tells → (D.known disk.new).beside ≡ (D.known disk.old).beside }
+        ensures full { IsFull self.old (length body.now) → result ≡ Err (AppendFault.Full (need self.old (length body.now)) self.old.limit) }
+        ensures only_full { (n m : ℕ) → result ≡ Err (AppendFault.Full n m) → IsFull self.old (length body.now) }
         ensures untouched { OnErr result (result ≢ Err AppendFault.Disk → disk.new ≡ disk.old) }
-        ensures calls { MakesCalls 4 (D.made disk.old) (D.made disk.new) result }
-        ensures later { D.faults disk.old ≤ D.faults disk.new }
-        ensures failed { IsErrOf result AppendFault.Disk → Rose (D.faults disk.old) (D.faults disk.new) }
+        ensures calls { MakesCalls 4 (D.known disk.old) (D.known disk.new) result }
+        ensures cause { HasCauseOf AppendFault.Disk (D.known disk.old).faults (D.known disk.new).faults result }
     {
         let need = self
             .length
@@ -113,15 +134,15 @@ impl Journal {
 
 // Writes these bytes behind the gate at the place, and opens the gate when they lie on the disk.
 fn add_behind<D: Disk>(disk: &mut D, gate: u64, behind: &[u8]) -> Result<(), DiskFailed>
-    requires place { IsTrue D.tells → gate < length (D.seen disk.old) }
+    requires place { IsTrue D.tells → gate < length (D.known disk.old).seen }
     requires room { gate + 1 < 2 ^ 64 }
-    ensures written { IsTrue D.tells → OnOk result (D.seen disk.new ≡ overwritten (overwritten (D.seen disk.old) (gate + 1) behind.now) gate (1 ∷ [])) }
-    ensures durable { IsTrue D.tells → OnOk result (D.now disk.new ≡ settled (D.seen disk.new)) }
-    ensures beside { IsTrue D.tells → D.beside disk.new ≡ D.beside disk.old }
-    ensures any_moment { IsTrue D.tells → D.now disk.old ≡ settled (D.seen disk.old)
-        → LeavesOnly D.now D.beside D.past disk.old disk.new (IsAdding gate behind.now (D.seen disk.old)) }
-    ensures calls { MakesCalls 4 (D.made disk.old) (D.made disk.new) result }
-    ensures cause { HasCause (D.faults disk.old) (D.faults disk.new) result }
+    ensures written { IsTrue D.tells → OnOk result ((D.known disk.new).seen ≡ overwritten (overwritten (D.known disk.old).seen (gate + 1) behind.now) gate (1 ∷ [])) }
+    ensures durable { IsTrue D.tells → OnOk result (IsSettled (file_of (D.known disk.new))) }
+    ensures beside { IsTrue D.tells → (D.known disk.new).beside ≡ (D.known disk.old).beside }
+    ensures any_moment { IsTrue D.tells → IsSettled (file_of (D.known disk.old))
+        → LeavesOnly (D.known disk.old) (D.known disk.new) (IsAdding gate behind.now (D.known disk.old).seen) }
+    ensures calls { MakesCalls 4 (D.known disk.old) (D.known disk.new) result }
+    ensures cause { HasCause (D.known disk.old).faults (D.known disk.new).faults result }
 {
     write_synced(disk, gate + 1, behind)?;
     write_synced(disk, gate, &[1])

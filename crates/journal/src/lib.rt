@@ -6,9 +6,9 @@
 #![tactic(auto)]
 
 mod appending;
-mod found;
 mod header;
 mod opening;
+mod parsed;
 mod reading;
 mod restarting;
 mod spelling;

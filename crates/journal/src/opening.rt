@@ -1,17 +1,20 @@
 //! Opening an image: the disk is synced, and then read.
 ghost use Rattle.std.specs.Prelude.{◌≡◌, ℕ, ◌+◌, ◌≤◌, Err, IsTrue, IfOk, IsErrOf, List, length};
-ghost use Rattle.u1_base.specs.Causes.{Rose};
-ghost use Rattle.disk_model.specs.Disk.{IsCrashImage, settled};
+ghost use Rattle.u1_base.specs.Causes.{HasCauseOf};
+ghost use Rattle.disk_model.specs.Disk.{IsCrashImage};
+ghost use Rattle.disk_model.specs.Device.{IsSettled, file_of};
 ghost use Rattle.disk_model.specs.Moments.{LeavesOnly};
 ghost use Rattle.disk_model.specs.Counts.{called, pieces};
 ghost use Rattle.journal.specs.Journal.{Holds};
-ghost use Rattle.journal.specs.Opening.{Opens, head_of};
+ghost use Rattle.journal.specs.Opening.{Opens};
 
-use crate::found::{Entries, Found, Start};
+use crate::parsed::{Entries, Parsed, Start};
 use crate::reading::{behind, entries_of, header_of};
 use crate::{Bodies, Header, Journal};
 use disk_model::{Disk, ReadFault, read_synced};
 use std::alloc::Global;
+use std::error::Error;
+use std::fmt;
 
 /// What was opened.
 #[derive(Debug, Drop)]
@@ -32,20 +35,36 @@ pub enum OpenFault {
     Memory,
 }
 
+impl fmt::Display for OpenFault {
+    ghost use Rattle.std.specs.Prelude.{Some};
+    ghost use Rattle.journal.specs.Faults.{open_fault_text};
+
+    ghost output = { λ fault. Some (open_fault_text fault) };
+
+    fn fmt<W: fmt::Write>(&self, f: &mut fmt::Formatter<W>) -> fmt::Result {
+        match self {
+            OpenFault::Damaged(place) => write!(f, "the image is damaged at byte {place}"),
+            OpenFault::Disk => f.write_str("the disk failed"),
+            OpenFault::Memory => f.write_str("out of memory"),
+        }
+    }
+}
+
+impl Error for OpenFault {}
+
 /// Syncs the disk, reads its image, and gives the bodies up to the first closed gate.
 ///
 /// A crash on the way leaves no more than might have been left before. Where damage is found the disk is settled
 /// all the same.
 pub fn open_image<D: Disk>(alloc: Global, disk: &mut D) -> Result<Opened, OpenFault>
-    ensures reads { (stored : List ℕ) × (IsTrue D.tells → stored ≡ D.seen disk.old) × Opens stored result }
-    ensures ok { IsTrue D.tells → IfOk result (λ opened. Holds D.seen D.now disk.new opened.journal opened.format (head_of opened.header) opened.bodies) }
-    ensures damaged { IsTrue D.tells → (place : ℕ) → result ≡ Err (OpenFault.Damaged place) → D.now disk.new ≡ settled (D.seen disk.new) }
-    ensures seen { IsTrue D.tells → D.seen disk.new ≡ D.seen disk.old }
-    ensures beside { IsTrue D.tells → D.beside disk.new ≡ D.beside disk.old }
-    ensures any_moment { IsTrue D.tells → LeavesOnly D.now D.beside D.past disk.old disk.new (IsCrashImage (D.now disk.old)) }
-    ensures most_calls { IsTrue D.tells → D.made disk.new ≤ called (2 + pieces (length (D.seen disk.old))) (D.made disk.old) }
-    ensures later { D.faults disk.old ≤ D.faults disk.new }
-    ensures failed { IsErrOf result OpenFault.Disk → Rose (D.faults disk.old) (D.faults disk.new) }
+    ensures reads { (stored : List ℕ) × (IsTrue D.tells → stored ≡ (D.known disk.old).seen) × Opens stored result }
+    ensures ok { IsTrue D.tells → IfOk result (λ opened. Holds opened.journal opened.format opened.header opened.bodies (file_of (D.known disk.new))) }
+    ensures damaged { IsTrue D.tells → (place : ℕ) → result ≡ Err (OpenFault.Damaged place) → IsSettled (file_of (D.known disk.new)) }
+    ensures seen { IsTrue D.tells → (D.known disk.new).seen ≡ (D.known disk.old).seen }
+    ensures beside { IsTrue D.tells → (D.known disk.new).beside ≡ (D.known disk.old).beside }
+    ensures any_moment { IsTrue D.tells → LeavesOnly (D.known disk.old) (D.known disk.new) (IsCrashImage (D.known disk.old).now) }
+    ensures most_calls { IsTrue D.tells → (D.known disk.new).made ≤ called (2 + pieces (length (D.known disk.old).seen)) (D.known disk.old).made }
+    ensures cause { HasCauseOf OpenFault.Disk (D.known disk.old).faults (D.known disk.new).faults result }
 {
     let stored = match read_synced(alloc, disk) {
         Ok(stored) => stored,
@@ -60,9 +79,9 @@ fn open_bytes(alloc: Global, stored: &[u8]) -> Result<Opened, OpenFault>
     ensures no_call { ¬ (IsErrOf result OpenFault.Disk) }
 {
     let start = match header_of(alloc, stored) {
-        Found::Whole(start) => start,
-        Found::Broken(place) => return Err(OpenFault::Damaged(place as u64)),
-        Found::Memory => return Err(OpenFault::Memory),
+        Parsed::Whole(start) => start,
+        Parsed::Broken(place) => return Err(OpenFault::Damaged(place as u64)),
+        Parsed::Memory => return Err(OpenFault::Memory),
     };
     let Start {
         format,
@@ -71,7 +90,7 @@ fn open_bytes(alloc: Global, stored: &[u8]) -> Result<Opened, OpenFault>
     } = start;
     let after_header = behind(stored, length);
     match entries_of(alloc, after_header) {
-        Found::Whole(entries) => {
+        Parsed::Whole(entries) => {
             let Entries {
                 bodies,
                 length: more,
@@ -84,7 +103,7 @@ fn open_bytes(alloc: Global, stored: &[u8]) -> Result<Opened, OpenFault>
                 format,
             })
         }
-        Found::Broken(place) => Err(OpenFault::Damaged((length + place) as u64)),
-        Found::Memory => Err(OpenFault::Memory),
+        Parsed::Broken(place) => Err(OpenFault::Damaged((length + place) as u64)),
+        Parsed::Memory => Err(OpenFault::Memory),
     }
 }

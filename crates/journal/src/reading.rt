@@ -5,7 +5,7 @@ ghost use Rattle.journal.specs.Image.{IsBody, IsFormat, IsLimit, body_field, fir
 ghost use Rattle.journal.specs.Damage.{Begins};
 ghost use Rattle.journal.specs.Fields.{NoBody, NoFirst, NoLimit, NoText, ReadsEntries, ReadsHeader, ReadsIdField};
 
-use crate::found::{Entries, Found, Start};
+use crate::parsed::{Entries, Parsed, Start};
 use crate::{Bodies, Header};
 use std::alloc::Global;
 use u1_base::limits::{GREATEST_IMAGE_LIMIT, LEAST_IMAGE_LIMIT};
@@ -58,18 +58,18 @@ fn text_of(bytes: &[u8]) -> Option<&str>
 }
 
 /// The id of a field.
-fn id_of<F: FormOf>(alloc: Global, bytes: &[u8]) -> Found<Id<F>>
+fn id_of<F: FormOf>(alloc: Global, bytes: &[u8]) -> Parsed<Id<F>>
     ensures { ReadsIdField F.form bytes.now result }
 {
     let Some(text) = text_of(bytes) else {
-        return Found::Broken(0);
+        return Parsed::Broken(0);
     };
     match Id::read(alloc, text) {
-        Ok(id) => Found::Whole(id),
-        Err(IdFault::Memory) => Found::Memory,
-        Err(IdFault::Empty) => Found::Broken(0),
-        Err(IdFault::TooLong(_)) => Found::Broken(0),
-        Err(IdFault::BadByte(_)) => Found::Broken(0),
+        Ok(id) => Parsed::Whole(id),
+        Err(IdFault::Memory) => Parsed::Memory,
+        Err(IdFault::Empty) => Parsed::Broken(0),
+        Err(IdFault::TooLong(_)) => Parsed::Broken(0),
+        Err(IdFault::BadByte(_)) => Parsed::Broken(0),
     }
 }
 
@@ -109,32 +109,32 @@ fn body_of(bytes: &[u8]) -> Option<&[u8]>
 }
 
 /// The header that the bytes begin with.
-pub(crate) fn header_of(alloc: Global, bytes: &[u8]) -> Found<Start>
+pub(crate) fn header_of(alloc: Global, bytes: &[u8]) -> Parsed<Start>
     ensures { ReadsHeader bytes.now result }
 {
     let Some(format) = format_of(bytes) else {
-        return Found::Broken(0);
+        return Parsed::Broken(0);
     };
     let after_first = behind(bytes, 8);
     let name = match id_of::<Database>(alloc, after_first) {
-        Found::Whole(name) => name,
-        Found::Broken(_) => return Found::Broken(8),
-        Found::Memory => return Found::Memory,
+        Parsed::Whole(name) => name,
+        Parsed::Broken(_) => return Parsed::Broken(8),
+        Parsed::Memory => return Parsed::Memory,
     };
     let uid_at = 10 + name.as_str().len();
     let after_name = behind(bytes, uid_at);
     let uid = match id_of::<Replica>(alloc, after_name) {
-        Found::Whole(uid) => uid,
-        Found::Broken(_) => return Found::Broken(uid_at),
-        Found::Memory => return Found::Memory,
+        Parsed::Whole(uid) => uid,
+        Parsed::Broken(_) => return Parsed::Broken(uid_at),
+        Parsed::Memory => return Parsed::Memory,
     };
     let limit_at = uid_at + 2 + uid.as_str().len();
     let after_uid = behind(bytes, limit_at);
     let Some(limit) = limit_of(after_uid) else {
-        return Found::Broken(limit_at);
+        return Parsed::Broken(limit_at);
     };
     let header = Header { name, uid, limit };
-    Found::Whole(Start {
+    Parsed::Whole(Start {
         format,
         header,
         length: limit_at + 8,
@@ -142,25 +142,25 @@ pub(crate) fn header_of(alloc: Global, bytes: &[u8]) -> Found<Start>
 }
 
 /// The entries that the bytes begin with, up to the first closed gate.
-pub(crate) fn entries_of(alloc: Global, bytes: &[u8]) -> Found<Entries>
+pub(crate) fn entries_of(alloc: Global, bytes: &[u8]) -> Parsed<Entries>
     ensures { ReadsEntries bytes.now result }
 {
     let mut bodies = Bodies::new(alloc);
     let mut at = 0;
     while at < bytes.len() {
         if bytes[at] != OPEN_GATE {
-            return Found::Whole(Entries { bodies, length: at });
+            return Parsed::Whole(Entries { bodies, length: at });
         }
         let after_gate = behind(bytes, at + 1);
         let Some(body) = body_of(after_gate) else {
-            return Found::Broken(at + 1);
+            return Parsed::Broken(at + 1);
         };
         match add_copy(alloc, &mut bodies, body) {
             Ok(()) => at += 5 + body.len(),
-            Err(Memory) => return Found::Memory,
+            Err(Memory) => return Parsed::Memory,
         }
     }
-    Found::Broken(at)
+    Parsed::Broken(at)
 }
 
 fn add_copy(alloc: Global, bodies: &mut Bodies, body: &[u8]) -> Result<(), Memory>

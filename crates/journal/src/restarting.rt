@@ -1,13 +1,12 @@
 //! Beginning an image anew, so that a crash leaves the old bytes, bytes that do not read, or the empty image.
-ghost use Rattle.std.specs.Prelude.{◌≡◌, ◌≢◌, ◌≤◌, ◌<◌, Err, IsTrue, IfOk, OnOk, IsErrOf, [], length, slice_index};
-ghost use Rattle.u1_base.specs.Causes.{HasCause, Rose};
-ghost use Rattle.disk_model.specs.Disk.{settled};
+ghost use Rattle.std.specs.Prelude.{◌≡◌, ◌≢◌, ◌≤◌, ◌<◌, Err, IsTrue, IfOk, OnOk, [], length, slice_index};
+ghost use Rattle.u1_base.specs.Causes.{HasCause, HasCauseOf};
+ghost use Rattle.disk_model.specs.Device.{IsSettled, file_of};
 ghost use Rattle.disk_model.specs.Moments.{LeavesOnly};
 ghost use Rattle.disk_model.specs.Counts.{called};
 ghost use Rattle.journal.specs.Image.{image};
 ghost use Rattle.journal.specs.Journal.{Holds, IsOnTheWay, IsExtent};
 ghost use Rattle.journal.specs.Restarting.{IsAnew, IsKeptOrSpoilt};
-ghost use Rattle.journal.specs.Opening.{head_of};
 
 use crate::reading::behind;
 use crate::spelling::image_in_bytes;
@@ -27,16 +26,15 @@ pub fn restart_image<D: Disk>(
     disk: &mut D,
     header: &Header,
 ) -> Result<Journal, ImageFault>
-    requires { IsTrue D.tells → D.now disk.old ≡ settled (D.seen disk.old) }
-    ensures written { IsTrue D.tells → OnOk result (D.seen disk.new ≡ image 2 (head_of header.now) []) }
-    ensures ok { IsTrue D.tells → IfOk result (λ journal. Holds D.seen D.now disk.new journal 2 (head_of header.now) []) }
-    ensures extent { IfOk result (λ journal. IsExtent 2 (head_of header.now) [] journal) }
-    ensures beside { IsTrue D.tells → D.beside disk.new ≡ D.beside disk.old }
-    ensures any_moment { IsTrue D.tells → LeavesOnly D.now D.beside D.past disk.old disk.new (IsOnTheWay (D.seen disk.old) (head_of header.now)) }
+    requires { IsTrue D.tells → IsSettled (file_of (D.known disk.old)) }
+    ensures written { IsTrue D.tells → OnOk result ((D.known disk.new).seen ≡ image 2 header.now []) }
+    ensures ok { IsTrue D.tells → IfOk result (λ journal. Holds journal 2 header.now [] (file_of (D.known disk.new))) }
+    ensures extent { IfOk result (λ journal. IsExtent 2 header.now [] journal) }
+    ensures beside { IsTrue D.tells → (D.known disk.new).beside ≡ (D.known disk.old).beside }
+    ensures any_moment { IsTrue D.tells → LeavesOnly (D.known disk.old) (D.known disk.new) (IsOnTheWay (D.known disk.old).seen header.now) }
     ensures untouched { result ≡ Err ImageFault.Memory → disk.new ≡ disk.old }
-    ensures most_calls { D.made disk.new ≤ called 10 (D.made disk.old) }
-    ensures later { D.faults disk.old ≤ D.faults disk.new }
-    ensures failed { IsErrOf result ImageFault.Disk → Rose (D.faults disk.old) (D.faults disk.new) }
+    ensures most_calls { (D.known disk.new).made ≤ called 10 (D.known disk.old).made }
+    ensures cause { HasCauseOf ImageFault.Disk (D.known disk.old).faults (D.known disk.new).faults result }
 {
     let Ok(image) = image_in_bytes(alloc, header, &[]) else {
         return Err(ImageFault::Memory);
@@ -48,15 +46,15 @@ pub fn restart_image<D: Disk>(
 }
 
 fn begin_anew<D: Disk>(disk: &mut D, image: &[u8]) -> Result<(), DiskFailed>
-    requires settled { IsTrue D.tells → D.now disk.old ≡ settled (D.seen disk.old) }
+    requires settled { IsTrue D.tells → IsSettled (file_of (D.known disk.old)) }
     requires some { 1 ≤ length image.now }
     requires first { slice_index image.now 0 ≡ 85 }
-    ensures written { IsTrue D.tells → OnOk result (D.seen disk.new ≡ image.now) }
-    ensures durable { IsTrue D.tells → OnOk result (D.now disk.new ≡ settled (D.seen disk.new)) }
-    ensures beside { IsTrue D.tells → D.beside disk.new ≡ D.beside disk.old }
-    ensures any_moment { IsTrue D.tells → LeavesOnly D.now D.beside D.past disk.old disk.new (IsAnew (D.seen disk.old) image.now) }
-    ensures most_calls { D.made disk.new ≤ called 10 (D.made disk.old) }
-    ensures cause { HasCause (D.faults disk.old) (D.faults disk.new) result }
+    ensures written { IsTrue D.tells → OnOk result ((D.known disk.new).seen ≡ image.now) }
+    ensures durable { IsTrue D.tells → OnOk result (IsSettled (file_of (D.known disk.new))) }
+    ensures beside { IsTrue D.tells → (D.known disk.new).beside ≡ (D.known disk.old).beside }
+    ensures any_moment { IsTrue D.tells → LeavesOnly (D.known disk.old) (D.known disk.new) (IsAnew (D.known disk.old).seen image.now) }
+    ensures most_calls { (D.known disk.new).made ≤ called 10 (D.known disk.old).made }
+    ensures cause { HasCause (D.known disk.old).faults (D.known disk.new).faults result }
 {
     let rest = behind(image, 1);
     spoil(disk)?;
@@ -67,14 +65,14 @@ fn begin_anew<D: Disk>(disk: &mut D, image: &[u8]) -> Result<(), DiskFailed>
 
 // Leaves a first byte with which no image begins.
 fn spoil<D: Disk>(disk: &mut D) -> Result<(), DiskFailed>
-    requires { IsTrue D.tells → D.now disk.old ≡ settled (D.seen disk.old) }
-    ensures some { IsTrue D.tells → OnOk result (1 ≤ length (D.seen disk.new)) }
-    ensures spoilt { IsTrue D.tells → OnOk result (slice_index (D.seen disk.new) 0 ≢ 85) }
-    ensures durable { IsTrue D.tells → OnOk result (D.now disk.new ≡ settled (D.seen disk.new)) }
-    ensures beside { IsTrue D.tells → D.beside disk.new ≡ D.beside disk.old }
-    ensures any_moment { IsTrue D.tells → LeavesOnly D.now D.beside D.past disk.old disk.new (IsKeptOrSpoilt (D.seen disk.old)) }
-    ensures most_calls { D.made disk.new ≤ called 4 (D.made disk.old) }
-    ensures cause { HasCause (D.faults disk.old) (D.faults disk.new) result }
+    requires { IsTrue D.tells → IsSettled (file_of (D.known disk.old)) }
+    ensures some { IsTrue D.tells → OnOk result (1 ≤ length (D.known disk.new).seen) }
+    ensures spoilt { IsTrue D.tells → OnOk result (slice_index (D.known disk.new).seen 0 ≢ 85) }
+    ensures durable { IsTrue D.tells → OnOk result (IsSettled (file_of (D.known disk.new))) }
+    ensures beside { IsTrue D.tells → (D.known disk.new).beside ≡ (D.known disk.old).beside }
+    ensures any_moment { IsTrue D.tells → LeavesOnly (D.known disk.old) (D.known disk.new) (IsKeptOrSpoilt (D.known disk.old).seen) }
+    ensures most_calls { (D.known disk.new).made ≤ called 4 (D.known disk.old).made }
+    ensures cause { HasCause (D.known disk.old).faults (D.known disk.new).faults result }
 {
     match first_byte(disk)? {
         None => write_synced(disk, 0, &[0]),

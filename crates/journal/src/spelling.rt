@@ -1,7 +1,6 @@
 //! How headers and entries are spelled.
 ghost use Rattle.std.specs.Prelude.{◌≡◌, ◌<◌, ◌^◌, [], ◌∷◌, ◌++◌, IfOk, OnOk, length};
 ghost use Rattle.journal.specs.Image.{AreBodies, IsHeader, body_field, entry, header_bytes, image};
-ghost use Rattle.journal.specs.Opening.{head_of};
 
 use crate::{Bodies, Header};
 use std::alloc::Global;
@@ -10,8 +9,8 @@ use u1_base::{Bytes, Memory};
 /// A header in format 2.
 #[tactic(auto, unfolding(crate::specs::Image::header_bytes, crate::specs::Image::first_field))]
 pub(crate) fn header_in_bytes(alloc: Global, header: &Header) -> Result<Bytes, Memory>
-    ensures bytes { IfOk result (λ bytes. bytes ≡ header_bytes 2 (head_of header.now)) }
-    ensures header { OnOk result (IsHeader 2 (head_of header.now)) }
+    ensures bytes { IfOk result (λ bytes. bytes ≡ header_bytes 2 header.now) }
+    ensures header { OnOk result (IsHeader 2 header.now) }
 {
     let mut out = Bytes::new(alloc);
     out.extend(b"U1DBVOL\x02")?;
@@ -28,8 +27,8 @@ pub(crate) fn image_in_bytes(
     bodies: &[Bytes],
 ) -> Result<Bytes, Memory>
     requires { AreBodies bodies.now }
-    ensures bytes { IfOk result (λ bytes. bytes ≡ image 2 (head_of header.now) bodies.now) }
-    ensures header { OnOk result (IsHeader 2 (head_of header.now)) }
+    ensures bytes { IfOk result (λ bytes. bytes ≡ image 2 header.now bodies.now) }
+    ensures header { OnOk result (IsHeader 2 header.now) }
 {
     let mut out = header_in_bytes(alloc, header)?;
     for body in bodies {

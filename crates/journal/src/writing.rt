@@ -1,17 +1,19 @@
 //! Writing an image whole.
-ghost use Rattle.std.specs.Prelude.{◌≡◌, ◌≤◌, Err, IsTrue, IfOk, OnOk, IsErrOf, length};
-ghost use Rattle.u1_base.specs.Causes.{Rose};
+ghost use Rattle.std.specs.Prelude.{◌≡◌, Err, IsTrue, IfOk, OnOk};
+ghost use Rattle.u1_base.specs.Causes.{HasCauseOf};
 ghost use Rattle.disk_model.specs.Disk.{IsAny};
+ghost use Rattle.disk_model.specs.Device.{file_of};
 ghost use Rattle.disk_model.specs.Moments.{LeavesOnly};
 ghost use Rattle.disk_model.specs.Counts.{MakesCalls};
 ghost use Rattle.journal.specs.Image.{AreBodies, image};
 ghost use Rattle.journal.specs.Journal.{Holds, IsExtent};
-ghost use Rattle.journal.specs.Opening.{head_of};
 
 use crate::spelling::image_in_bytes;
 use crate::{Bodies, Header, Journal};
 use disk_model::{Disk, DiskFailed, cut_write_synced};
 use std::alloc::Global;
+use std::error::Error;
+use std::fmt;
 
 /// Why an image was not written.
 #[derive(Clone, Copy, Debug, PartialEq, Eq)]
@@ -19,6 +21,22 @@ pub enum ImageFault {
     Disk,
     Memory,
 }
+
+impl fmt::Display for ImageFault {
+    ghost use Rattle.std.specs.Prelude.{Some};
+    ghost use Rattle.journal.specs.Faults.{image_fault_text};
+
+    ghost output = { λ fault. Some (image_fault_text fault) };
+
+    fn fmt<W: fmt::Write>(&self, f: &mut fmt::Formatter<W>) -> fmt::Result {
+        match self {
+            ImageFault::Disk => f.write_str("the disk failed"),
+            ImageFault::Memory => f.write_str("out of memory"),
+        }
+    }
+}
+
+impl Error for ImageFault {}
 
 /// Puts an image of format 2 in the place of all that the disk holds: one cut, one write, one sync.
 ///
@@ -30,15 +48,14 @@ pub fn write_image<D: Disk>(
     bodies: &Bodies,
 ) -> Result<Journal, ImageFault>
     requires { AreBodies bodies.now }
-    ensures written { IsTrue D.tells → OnOk result (D.seen disk.new ≡ image 2 (head_of header.now) bodies.now) }
-    ensures ok { IsTrue D.tells → IfOk result (λ journal. Holds D.seen D.now disk.new journal 2 (head_of header.now) bodies.now) }
-    ensures extent { IfOk result (λ journal. IsExtent 2 (head_of header.now) bodies.now journal) }
-    ensures beside { IsTrue D.tells → D.beside disk.new ≡ D.beside disk.old }
-    ensures any_moment { IsTrue D.tells → LeavesOnly D.now D.beside D.past disk.old disk.new IsAny }
+    ensures written { IsTrue D.tells → OnOk result ((D.known disk.new).seen ≡ image 2 header.now bodies.now) }
+    ensures ok { IsTrue D.tells → IfOk result (λ journal. Holds journal 2 header.now bodies.now (file_of (D.known disk.new))) }
+    ensures extent { IfOk result (λ journal. IsExtent 2 header.now bodies.now journal) }
+    ensures beside { IsTrue D.tells → (D.known disk.new).beside ≡ (D.known disk.old).beside }
+    ensures any_moment { IsTrue D.tells → LeavesOnly (D.known disk.old) (D.known disk.new) IsAny }
     ensures untouched { result ≡ Err ImageFault.Memory → disk.new ≡ disk.old }
-    ensures calls { MakesCalls 3 (D.made disk.old) (D.made disk.new) result }
-    ensures later { D.faults disk.old ≤ D.faults disk.new }
-    ensures failed { IsErrOf result ImageFault.Disk → Rose (D.faults disk.old) (D.faults disk.new) }
+    ensures calls { MakesCalls 3 (D.known disk.old) (D.known disk.new) result }
+    ensures cause { HasCauseOf ImageFault.Disk (D.known disk.old).faults (D.known disk.new).faults result }
 {
     let Ok(image) = image_in_bytes(alloc, header, bodies.as_slice()) else {
         return Err(ImageFault::Memory);

@@ -3,7 +3,7 @@ use Rattle.std.proofs.Common.{refl}
 use Rattle.journal.proofs.opening.open_image.Goals as goal
 
 pub returns-in-Err-Disk-clause-reads : goal.returns-in-Err-Disk-clause-reads
-returns-in-Err-Disk-clause-reads g c = (g.D.Disk.seen c.args.disk.now, (λ t. refl), tt)
+returns-in-Err-Disk-clause-reads g c = ((g.D.Disk.known c.args.disk.now).seen, (λ t. refl), tt)
 
 pub returns-in-Err-Memory-clause-reads : goal.returns-in-Err-Memory-clause-reads
-returns-in-Err-Memory-clause-reads g c = (g.D.Disk.seen c.args.disk.now, (λ t. refl), tt)
+returns-in-Err-Memory-clause-reads g c = ((g.D.Disk.known c.args.disk.now).seen, (λ t. refl), tt)

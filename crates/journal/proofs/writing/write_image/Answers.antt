@@ -5,4 +5,4 @@ use Rattle.journal.proofs.writing.write_image.Goals as goal
 
 pub returns-in_default-clause-any_moment : goal.returns-in_default-clause-any_moment
 returns-in_default-clause-any_moment g c t =
-    let d = g.D.Disk in started d.now d.beside d.past c.args.disk.now IsAny (λ image i. tt)
+    started (g.D.Disk.known c.args.disk.now) IsAny (λ image i. tt)

@@ -1,9 +1,9 @@
 //! What the readers of an image find.
 use crate::{Bodies, Header};
 
-/// A field, or a row of fields, that was read; or the place where none could be; or want of memory.
+/// A field, or a row of fields, that was read; or the place where none could be; or out of memory.
 #[derive(Debug, Drop)]
-pub enum Found<T> {
+pub enum Parsed<T> {
     Whole(T),
     Broken(usize),
     Memory,
