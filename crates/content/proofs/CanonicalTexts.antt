@@ -21,7 +21,7 @@ use Rattle.content.specs.declared.fault.ContentFault.TheVariants.{NotObject, Too
 use Rattle.content.proofs.Ordered.{IsBelow, IsOrdered, AreOrdered, HasOrderedMembers, IsOrdered-read}
 use Rattle.content.proofs.ReadBack.{depth-data_of, read-canonical}
 use Rattle.content.proofs.Shorter.{compact-shorter}
-use Rattle.content.proofs.Texts.{HasTexts, ItemsHaveTexts, MembersHaveTexts}
+use Rattle.content.proofs.Utf8Texts.{HasTexts, ItemsHaveTexts, MembersHaveTexts}
 
 -- ---- it is UTF-8
 
@@ -108,7 +108,7 @@ first_fault other deep float large =
 first_fault-None : (a b c d : Bool) → a ≡ false → b ≡ false → c ≡ false → d ≡ false → first_fault a b c d ≡ None
 first_fault-None a b c d p q r s = rw (p, q, r, s) refl
 
-none_of : (a b c d : Bool) → first_fault a b c d ≡ None → (a ≡ false) × (b ≡ false) × (c ≡ false) × (d ≡ false)
+pub none_of : (a b c d : Bool) → first_fault a b c d ≡ None → (a ≡ false) × (b ≡ false) × (c ≡ false) × (d ≡ false)
 none_of true b c d e = absurd (cc)
 none_of false true c d e = absurd (cc)
 none_of false false true d e = absurd (cc)
@@ -189,31 +189,11 @@ canonical-injective t u h k e =
 pub Reads-canonical : (t : Tree) → IsContent t → Reads (canonical t) t
 Reads-canonical t h = (no_fault-canonical t h, value_of-canonical t h)
 
--- a text reads as one tree at most
-pub Reads-unique : (bytes : List ℕ) (t u : Tree) → Reads bytes t → Reads bytes u → t ≡ u
-Reads-unique bytes t u h k = data_of-injective t u (some_inj (data_of t) (data_of u) (sym h.1 ∙ k.1))
-
--- ---- its length
-
-pub canonical_nonempty : (t : Tree) → IsContent t → 0 < length (canonical t)
-canonical_nonempty t h = object_nonempty t h.root
-  where
-    object_nonempty : (t : Tree) → IsTrue (is_object t) → 0 < length (canonical t)
-    object_nonempty null h = absurd (cc)
-    object_nonempty (boolean b) h = absurd (cc)
-    object_nonempty (whole z) h = absurd (cc)
-    object_nonempty (text s) h = absurd (cc)
-    object_nonempty (list ts) h = absurd (cc)
-    object_nonempty (object fs) h = omega arith
-
-pub length-canonical : (t : Tree) → IsContent t → length (canonical t) ≤ 4194304
-length-canonical t h = h.short
-
 -- ---- a tree that was read without a fault is a content
 
 in_range : (z : ℤ) → IsOrdered (json.number (of_integer z)) → is_large (of_integer z) ≡ false → FitsSigned w64 z
 in_range (pos n) h e = let small : n < 2 ^ 63 = leb-false (2 ^ 63) n e in omega (arith, ints)
-in_range (negsuc n) h e = h
+in_range (negsuc n) h e = h.0
 
 precedes : (name : List ℕ) (fs : Fields) → IsBelow name (fields_data fs) → Precedes name fs
 precedes name no_fields h = tt

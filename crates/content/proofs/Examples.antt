@@ -8,7 +8,9 @@ use Rattle.serde_json.specs.Read.{read}
 use Rattle.content.specs.Tree.{Tree, null, boolean, whole, list, object, no_items, item, no_fields, field}
 use Rattle.content.specs.Canonical.{data_of, canonical}
 use Rattle.content.specs.Faults.{fault_of, fault_of_reading, value_of}
+use Rattle.content.specs.Reading.{content_in}
 use Rattle.content.specs.declared.fault.ContentFault.TheVariants.{NotJson, NotObject, NotWhole, OutOfRange}
+use Rattle.content.proofs.Reading.{content_in-Reads, refused}
 
 -- {"a":[1,true],"b":null}
 abbrev tree : Tree
@@ -29,6 +31,13 @@ reads : value_of (codes " {\"b\":0, \"a\":[1,true],\"b\" : null }") ≡ Some (da
 unfolding serde_json_on_literals
 reads = value_of-ascii (codes " {\"b\":0, \"a\":[1,true],\"b\" : null }") refl ∙ refl
 
+-- so it reads as the tree
+read_as : content_in (codes " {\"b\":0, \"a\":[1,true],\"b\" : null }") ≡ Some tree
+unfolding serde_json_on_literals
+read_as =
+    let text = codes " {\"b\":0, \"a\":[1,true],\"b\" : null }" in
+    (content_in-Reads text tree).1 (ap fault_of_reading reads, reads)
+
 no_json : fault_of (codes "{\"a\":1,}") ≡ Some NotJson
 unfolding serde_json_on_literals
 no_json = ap fault_of_reading (value_of-ascii (codes "{\"a\":1,}") refl)
@@ -36,6 +45,9 @@ no_json = ap fault_of_reading (value_of-ascii (codes "{\"a\":1,}") refl)
 no_object : fault_of (codes "[]") ≡ Some NotObject
 unfolding serde_json_on_literals
 no_object = ap fault_of_reading (value_of-ascii (codes "[]") refl)
+
+no_content : content_in (codes "[]") ≡ None
+no_content = refused (codes "[]") NotObject no_object
 
 too_large : fault_of (codes "{\"a\":9223372036854775808}") ≡ Some OutOfRange
 unfolding serde_json_on_literals

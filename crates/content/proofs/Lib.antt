@@ -2,7 +2,6 @@ mod Converted
 mod Refused
 pub mod SameTrees
 mod Ordered
-mod Texts
 mod ReadBack
 mod NumberLength
 mod Sizes
@@ -10,5 +9,7 @@ mod Placed
 mod Quoted
 mod Lexed
 mod Shorter
+mod Utf8Texts
 pub mod CanonicalTexts
+pub mod Reading
 mod Examples

@@ -1,5 +1,5 @@
 -- A value that was read has the names of each object in order, each once, and its negative numbers fit 64 bits.
-use Rattle.std.proofs.Common.{◌≡◌, ℕ, ◌^◌, ◌≤◌, Bool, true, false, cond, ◌&&◌, nat_lt, nat_le, ◌==◌, slice_index, drop, List, Option, Some, None, option_map, option_and_then, Ordering, Less, Equal, Greater, nat_cmp, FitsSigned, pos, neg_ℤ, refl, ap, ◌∙◌, subst, arith}
+use Rattle.std.proofs.Common.{◌≡◌, ℕ, zero, suc, ◌^◌, ◌≤◌, Bool, true, false, cond, ◌&&◌, nat_lt, nat_le, ◌==◌, slice_index, drop, List, Option, Some, None, option_map, option_and_then, Ordering, Less, Equal, Greater, nat_cmp, FitsSigned, pos, neg_ℤ, refl, ap, ◌∙◌, subst, arith}
 use Rattle.std.proofs.lemmas.Bool.{and_parts, leb-true}
 use Rattle.std.proofs.lemmas.Cmp.{nat_list_cmp_total}
 use Rattle.std.proofs.lemmas.Int.{ints}
@@ -12,11 +12,13 @@ use Rattle.fast_float.specs.Text.{Parts, scan, digits_of, minus, nearest, with_s
 use Rattle.json.specs.Lex.{tokens}
 use Rattle.json.specs.Json as json
 use Rattle.serde_json.specs.Data.{Num, unsigned, negative, float, Data, null, boolean, number, string, array, object, Items, no_items, item, Members, no_members, member, put}
+use Rattle.serde_json.specs.Find.{of_integer}
 use Rattle.serde_json.specs.Read.{number_of, number_from, float_of, is_integer, of_json, of_items, of_members, max_depth, read}
 
-abbrev IsInRange : Num → Type 0
+-- a negative number fits 64 bits, and is below zero
+abbrev pub IsInRange : Num → Type 0
 IsInRange (unsigned n) = ⊤
-IsInRange (negative z) = FitsSigned w64 z
+IsInRange (negative z) = FitsSigned w64 z × (of_integer z ≡ negative z)
 IsInRange (float x) = ⊤
 
 -- the name stands below every name of the members
@@ -43,15 +45,15 @@ abbrev mutual
 
 -- ---- what holds of a result, where there is one
 
-abbrev Each : {A : Type 0} → (A → Type 0) → Option A → Type 0
+abbrev pub Each : {A : Type 0} → (A → Type 0) → Option A → Type 0
 Each P None = ⊤
 Each P (Some a) = P a
 
-Each-map : {A B : Type 0} (P : A → Type 0) (Q : B → Type 0) (f : A → B) → ((a : A) → P a → Q (f a)) → (o : Option A) → Each P o → Each Q (option_map f o)
+pub Each-map : {A B : Type 0} (P : A → Type 0) (Q : B → Type 0) (f : A → B) → ((a : A) → P a → Q (f a)) → (o : Option A) → Each P o → Each Q (option_map f o)
 Each-map P Q f k None h = tt
 Each-map P Q f k (Some a) h = k a h
 
-Each-and_then : {A B : Type 0} (P : A → Type 0) (Q : B → Type 0) (f : A → Option B) → ((a : A) → P a → Each Q (f a)) → (o : Option A) → Each P o → Each Q (option_and_then f o)
+pub Each-and_then : {A B : Type 0} (P : A → Type 0) (Q : B → Type 0) (f : A → Option B) → ((a : A) → P a → Each Q (f a)) → (o : Option A) → Each P o → Each Q (option_and_then f o)
 Each-and_then P Q f k None h = tt
 Each-and_then P Q f k (Some a) h = k a h
 
@@ -64,6 +66,10 @@ Each-cond P false x y p q = q
 fits_negative : (n : ℕ) → n ≤ 2 ^ 63 → FitsSigned w64 (neg_ℤ (pos n))
 fits_negative n small = omega (arith, ints)
 
+below_zero : (n : ℕ) → nat_lt 0 n ≡ true → of_integer (neg_ℤ (pos n)) ≡ negative (neg_ℤ (pos n))
+below_zero zero some = absurd (cc)
+below_zero (suc n) some = refl
+
 in_range_float : (sign : Bool) (p : Parts) → Each IsInRange (float_of sign p)
 in_range_float sign p =
     let x = nearest binary64 sign p in Each-cond IsInRange (float_is_finite x) (Some (float x)) None (λ e. tt {0}) (tt {0})
@@ -74,7 +80,10 @@ in_range_from false p =
 in_range_from true p =
     let n = digits_of p in
     Each-cond IsInRange (is_integer p && nat_lt 0 n && nat_le n (2 ^ 63)) (Some (negative (with_sign true n))) (float_of true p)
-    (λ e. fits_negative n (leb-true n (2 ^ 63) (and_parts (is_integer p && nat_lt 0 n) (nat_le n (2 ^ 63)) e).1)) (in_range_float true p)
+    (λ e.
+    let tests = and_parts (is_integer p && nat_lt 0 n) (nat_le n (2 ^ 63)) e in
+    (fits_negative n (leb-true n (2 ^ 63) tests.1), below_zero n (and_parts (is_integer p) (nat_lt 0 n) tests.0).1))
+    (in_range_float true p)
 
 in_range : (s : List ℕ) → Each IsInRange (number_of s)
 unfolding number_of

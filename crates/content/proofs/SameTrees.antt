@@ -1,6 +1,6 @@
 -- The test of two trees is true exactly where they are equal.
 use Rattle.std.proofs.Common.{◌≡◌, ◌≢◌, suc, Bool, true, false, not, cond, ◌&&◌, List, [], ◌∷◌, length, bytes_eq, refl, sym, ap, ap₂, ◌∙◌}
-use Rattle.std.proofs.lemmas.Bool.{and_parts}
+use Rattle.std.proofs.lemmas.Bool.{and_from, and_parts}
 use Rattle.std.proofs.lemmas.Bool.Decides.{Decides-int_eq}
 use Rattle.std.proofs.lemmas.Slice.Eq.{bytes_eq-Decides}
 use Rattle.content.specs.Tree.{Tree, null, boolean, whole, text, list, object, Items, no_items, item, Fields, no_fields, field}
@@ -8,9 +8,6 @@ use Rattle.content.specs.TreeOf.{items_view, fields_view}
 use Rattle.content.specs.Values.{is_same, is_same_items, is_same_fields}
 use Rattle.content.specs.declared.value.Json.{Json}
 use Rattle.content.specs.declared.value.Field.{Field}
-
-both_true : (a b : Bool) → a ≡ true → b ≡ true → (a && b) ≡ true
-both_true a b p q = rw (p, q) refl
 
 bools_same : (a : Bool) → cond a a (not a) ≡ true
 bools_same true = refl
@@ -33,12 +30,12 @@ mutual
 
   same_items_itself : (ts : Items) → is_same_items ts ts ≡ true
   same_items_itself no_items = refl
-  same_items_itself (item t ts) = both_true _ _ (same_itself t) (same_items_itself ts)
+  same_items_itself (item t ts) = and_from _ _ (same_itself t) (same_items_itself ts)
 
   same_fields_itself : (fs : Fields) → is_same_fields fs fs ≡ true
   same_fields_itself no_fields = refl
   same_fields_itself (field k t fs) =
-      both_true _ _ (both_true _ _ ((bytes_eq-Decides k k).1 refl) (same_itself t)) (same_fields_itself fs)
+      and_from _ _ (and_from _ _ ((bytes_eq-Decides k k).1 refl) (same_itself t)) (same_fields_itself fs)
 
 mutual
   equal-is_same : (t u : Tree) → is_same t u ≡ true → t ≡ u

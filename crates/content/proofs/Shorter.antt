@@ -33,7 +33,7 @@ mutual
       subst HasNoBad (sym (append_assoc (json_tokens j) (members_tokens ms) ts)) (no_bad j (members_tokens ms ++ ts) (no_bad_members ms ts h))
 
 -- the value that stands alone in the text
-alone : (o : Option (json.Json × List Token)) (d : Data) → option_and_then of_json (option_and_then (λ p. json.if_last p.0 p.1) o) ≡ Some d
+pub alone : (o : Option (json.Json × List Token)) (d : Data) → option_and_then of_json (option_and_then (λ p. json.if_last p.0 p.1) o) ≡ Some d
     → (j : json.Json) × (o ≡ Some (j, [])) × (of_json j ≡ Some d)
 alone None d e = absurd (cc)
 alone (Some (j, [])) d e = (j, refl, e)

@@ -1,5 +1,6 @@
 -- Which byte texts read as a content, and why another one does not.
-use Rattle.std.specs.Prelude.{◌≡◌, ℕ, ◌^◌, ◌||◌, Bool, false, not, nat_lt, nat_le, is_some, if◌then◌else◌, List, length, Option, Some, None}
+use Rattle.std.specs.Prelude.{◌≡◌, ℕ, ◌^◌, ◌||◌, Bool, false, not, nat_lt, nat_le, is_some, if◌then◌else◌, List, ◌++◌, codes, length, Option, Some, None}
+use Rattle.std.specs.Fmt.{decimal}
 use Rattle.std.specs.Str.{is_utf8}
 use Rattle.serde_json.specs.Data.{Num, unsigned, negative, float, Data, null, boolean, number, string, array, object, Items, no_items, item, Members, no_members, member, depth}
 use Rattle.serde_json.specs.Find.{is_float, as_object}
@@ -8,7 +9,7 @@ use Rattle.content.specs.Canonical.{data_of}
 use Rattle.content.specs.Contents.{most_bytes, most_depth}
 use Rattle.content.specs.Tree.{Tree}
 use Rattle.content.specs.declared.fault.ContentFault.{ContentFault}
-use Rattle.content.specs.declared.fault.ContentFault.TheVariants.{TooBig, NotJson, NotObject, TooDeep, NotWhole, OutOfRange}
+use Rattle.content.specs.declared.fault.ContentFault.TheVariants.{TooBig, NotJson, NotObject, TooDeep, NotWhole, OutOfRange, Memory}
 
 -- the value that `serde_json` reads, where it reads one
 abbrev pub value_of : List ℕ → Option Data
@@ -59,3 +60,13 @@ fault_of bytes =
 -- the byte text reads as the tree
 abbrev pub Reads : List ℕ → Tree → Type 0
 Reads bytes t = (fault_of bytes ≡ None) × (value_of bytes ≡ Some (data_of t))
+
+-- what a fault prints
+abbrev pub fault_text : ContentFault → List ℕ
+fault_text (TooBig n) = codes "the content has " ++ decimal n ++ codes " bytes, which is too many"
+fault_text NotJson = codes "the content is not JSON"
+fault_text NotObject = codes "the content is not an object"
+fault_text TooDeep = codes "the content is nested too deeply"
+fault_text NotWhole = codes "a number of the content is not whole or does not fit 64 bits"
+fault_text OutOfRange = codes "a number of the content is above 9223372036854775807"
+fault_text Memory = codes "out of memory"

@@ -3,5 +3,7 @@ pub mod TreeCode
 pub mod Canonical
 pub mod Contents
 pub mod Faults
+pub mod Reading
 pub mod TreeOf
 pub mod Values
+pub mod Kinds

@@ -1,19 +1,9 @@
--- Words of private clauses: when two trees are the same, and the two kinds of number that no content has.
+-- When two trees are the same, as a test.
 use Rattle.std.specs.Prelude.{◌&&◌, Bool, true, false, not, cond}
 use Rattle.std.specs.Ordering.{int_eq}
 use Rattle.std.specs.Str.{bytes_eq}
-use Rattle.serde_json.specs.Data.{Num}
-use Rattle.serde_json.specs.Find.{is_float}
 use Rattle.content.specs.Tree.{Tree, null, boolean, whole, text, list, object, Items, no_items, item, Fields, no_fields, field}
-use Rattle.content.specs.Faults.{is_large}
-use Rattle.content.specs.declared.check.Kind.{Kind}
-use Rattle.content.specs.declared.check.Kind.TheVariants.{Float, Large}
 
-abbrev pub is_kind : Kind → Num → Bool
-is_kind Float n = is_float n
-is_kind Large n = is_large n
-
--- equality of trees as a test
 abbrev mutual
   pub is_same : Tree → Tree → Bool
   is_same null null = true

@@ -2,7 +2,8 @@
 ghost use Rattle.std.specs.Prelude.{◌≡◌, ◌≢◌, ◌≤◌, ◌↔◌, IsTrue, IsUtf8, IfOk, IfErr, Some, None, length};
 ghost use Rattle.content.specs.Canonical.{canonical, data_of};
 ghost use Rattle.content.specs.Contents.{IsContent, most_bytes};
-ghost use Rattle.content.specs.Faults.{fault_of, value_of};
+ghost use Rattle.content.specs.Faults.{fault_of, fault_of_value, value_of};
+ghost use Rattle.content.specs.Reading.{content_in};
 ghost use Rattle.serde_json.specs.View.{view};
 
 use crate::check::fault_in;
@@ -52,19 +53,17 @@ impl Content {
     /// Reads a content from the whole of the bytes (JSON by RFC 8259, as `serde_json` reads it).
     ///
     /// Of a name that is repeated in one object the last value counts.
+    #[tactic(auto, using(crate::proofs::Reading::refused))]
     pub fn read(alloc: Global, bytes: &[u8]) -> Result<Content, ContentFault>
+        ensures reads { IfOk result (λ c. content_in bytes.now ≡ Some c) }
         ensures value { IfOk result (λ c. value_of bytes.now ≡ Some (data_of c)) }
         ensures no_fault { IfOk result (λ _. fault_of bytes.now ≡ None) }
         ensures shorter { IfOk result (λ c. length (canonical c) ≤ length bytes.now) }
         ensures fault { IfErr result (λ e. e ≢ ContentFault.Memory → fault_of bytes.now ≡ Some e) }
+        ensures refused { IfErr result
+            (λ e. e ≢ ContentFault.Memory → content_in bytes.now ≡ None) }
     {
-        if bytes.len() as u64 > MOST_CONTENT_BYTES {
-            return Err(ContentFault::TooBig(bytes.len() as u64));
-        }
-        let value = value_in(alloc, bytes)?;
-        if let Some(fault) = fault_in(&value) {
-            return Err(fault);
-        }
+        let value = whole_value(alloc, bytes)?;
         let root = convert(alloc, value)?;
         Ok(Content { root, alloc })
     }
@@ -83,8 +82,7 @@ impl Content {
         ensures text { IfOk result (λ bytes. bytes ≡ canonical self.now) }
         ensures utf8 { IfOk result (λ bytes. IsUtf8 bytes) }
         ensures short { IfOk result (λ bytes. length bytes ≤ most_bytes) }
-        ensures no_fault { IfOk result (λ bytes. fault_of bytes ≡ None) }
-        ensures reads_back { IfOk result (λ bytes. value_of bytes ≡ Some (data_of self.now)) }
+        ensures reads_back { IfOk result (λ bytes. content_in bytes ≡ Some self.now) }
     {
         let mut out = Writer::new(Vec::with_capacity(self.alloc, SHORT_TEXT_BYTES)?);
         write_json(&self.root, &mut out)?;
@@ -106,6 +104,24 @@ impl Content {
             root: copy_of(self.alloc, &self.root)?,
             alloc: self.alloc,
         })
+    }
+}
+
+// Reads the value of a text that has no fault.
+fn whole_value(alloc: Global, bytes: &[u8]) -> Result<Value, ContentFault>
+    ensures value { IfOk result (λ v. value_of bytes.now ≡ Some (view v)) }
+    ensures sound { IfOk result (λ v. fault_of_value (view v) ≡ None) }
+    ensures short { IfOk result (λ _. length bytes.now ≤ most_bytes) }
+    ensures no_fault { IfOk result (λ _. fault_of bytes.now ≡ None) }
+    ensures fault { IfErr result (λ e. e ≢ ContentFault.Memory → fault_of bytes.now ≡ Some e) }
+{
+    if bytes.len() as u64 > MOST_CONTENT_BYTES {
+        return Err(ContentFault::TooBig(bytes.len() as u64));
+    }
+    let value = value_in(alloc, bytes)?;
+    match fault_in(&value) {
+        Some(fault) => Err(fault),
+        None => Ok(value),
     }
 }
 

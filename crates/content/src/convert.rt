@@ -1,5 +1,5 @@
 //! From a value of `serde_json` to our own. Texts are moved and not copied.
-ghost use Rattle.std.specs.Prelude.{◌≡◌, IfOk, false, string_bytes};
+ghost use Rattle.std.specs.Prelude.{◌≡◌, IfOk, false, string_bytes, vec_len};
 ghost use Rattle.serde_json.specs.Find.{is_float, of_integer};
 ghost use Rattle.serde_json.specs.View.{view, items_view as items_of_values, members_view, number_view};
 ghost use Rattle.content.specs.Canonical.{data_of, items_data, fields_data};
@@ -27,17 +27,32 @@ pub(crate) fn convert(alloc: Global, value: Value) -> Result<Json, Memory>
     }
 }
 
+// The last item is taken first.
 #[cycle(convert)]
 fn convert_items(alloc: Global, items: Vec<Value>) -> Result<Vec<Json>, Memory>
     requires no_float { any_in_items is_float (items_of_values items.items) ≡ false }
     requires no_large { any_in_items is_large (items_of_values items.items) ≡ false }
     ensures { IfOk result (λ v. items_data (items_view v.items) ≡ items_of_values items.items) }
 {
-    let mut found = Vec::with_capacity(alloc, items.len())?;
-    for item in items {
+    let mut left = items;
+    let mut found = Vec::with_capacity(alloc, left.len())?;
+    while let Some(item) = left.pop() {
         found.push(convert(alloc, item)?)?;
+        give_back_spare(&mut left);
     }
+    found.reverse();
     Ok(found)
+}
+
+// Gives back the room of a list once half of it is empty, so that a long list and what is made of
+// it are never both whole.
+fn give_back_spare(left: &mut Vec<Value>)
+    ensures items { left.new.items ≡ left.old.items }
+    ensures len { vec_len left.new ≡ vec_len left.old }
+{
+    if left.len() <= left.capacity() / 2 {
+        left.shrink_to_fit();
+    }
 }
 
 #[cycle(convert)]

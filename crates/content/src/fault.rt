@@ -1,4 +1,6 @@
 //! Why a text is no content.
+use std::error::Error;
+use std::fmt;
 use u1_base::Memory;
 
 /// Why a byte text is no content, in the order in which the faults are tested.
@@ -33,3 +35,31 @@ impl From<Memory> for ContentFault {
         ContentFault::Memory
     }
 }
+
+impl fmt::Display for ContentFault {
+    ghost use Rattle.std.specs.Prelude.{Some};
+    ghost use Rattle.content.specs.Faults.{fault_text};
+
+    ghost output = { λ fault. Some (fault_text fault) };
+
+    fn fmt<W: fmt::Write>(&self, f: &mut fmt::Formatter<W>) -> fmt::Result {
+        match self {
+            ContentFault::TooBig(length) => write!(
+                f,
+                "the content has {length} bytes, which is too many"
+            ),
+            ContentFault::NotJson => f.write_str("the content is not JSON"),
+            ContentFault::NotObject => f.write_str("the content is not an object"),
+            ContentFault::TooDeep => f.write_str("the content is nested too deeply"),
+            ContentFault::NotWhole => f.write_str(
+                "a number of the content is not whole or does not fit 64 bits",
+            ),
+            ContentFault::OutOfRange => f.write_str(
+                "a number of the content is above 9223372036854775807",
+            ),
+            ContentFault::Memory => f.write_str("out of memory"),
+        }
+    }
+}
+
+impl Error for ContentFault {}

@@ -10,6 +10,7 @@ mod contents;
 mod convert;
 mod copy;
 mod fault;
+mod laws;
 mod same;
 #[cfg(test)]
 mod tests;
@@ -18,4 +19,5 @@ mod write;
 
 pub use contents::Content;
 pub use fault::ContentFault;
+pub use laws::law_contents;
 pub use value::{Field, Json};

@@ -3,6 +3,7 @@
 //! The canonical texts are those of Python's `json.dumps` with sorted keys and no spaces.
 use crate::{Content, ContentFault, Json};
 use std::alloc::{AllocError, Global};
+use std::fmt::Write;
 use std::test::Fail;
 
 // The fault of a text, if it has one.
@@ -72,6 +73,47 @@ fn tells_the_fault(rt: HostRuntime) {
         Content::read(alloc, &[0xff]).err(),
         Some(ContentFault::NotJson)
     );
+}
+
+#[test]
+fn prints_the_fault(rt: HostRuntime) -> Result<(), Fail> {
+    let alloc = rt.alloc();
+    for (fault, want) in [
+        (
+            ContentFault::TooBig(4_194_305),
+            "the content has 4194305 bytes, which is too many",
+        ),
+        (ContentFault::NotJson, "the content is not JSON"),
+        (ContentFault::NotObject, "the content is not an object"),
+        (ContentFault::TooDeep, "the content is nested too deeply"),
+        (
+            ContentFault::NotWhole,
+            "a number of the content is not whole or does not fit 64 bits",
+        ),
+        (
+            ContentFault::OutOfRange,
+            "a number of the content is above 9223372036854775807",
+        ),
+        (ContentFault::Memory, "out of memory"),
+    ] {
+        assert_eq!(rt; format!(in alloc; "{fault}")?.as_str(), want);
+    }
+    Ok(())
+}
+
+// A long list is turned over from its end, and given back in steps.
+#[test]
+fn keeps_the_order_of_a_long_list(rt: HostRuntime) -> Result<(), Fail> {
+    let alloc = rt.alloc();
+    let mut text = String::from_str(alloc, "{\"a\":[0")?;
+    for number in 1..1000 {
+        write!(text, ",{number}")?;
+    }
+    text.push_str("]}")?;
+    let content = Content::read(alloc, text.as_bytes())?;
+    assert_eq!(rt; content.text()?.as_slice(), text.as_bytes());
+    assert_eq!(rt; content.copy()?.text()?.as_slice(), text.as_bytes());
+    Ok(())
 }
 
 #[test]
