@@ -1,3 +1,4 @@
+pub mod Truths
 pub mod CountsLaws
 pub mod ClockLaws
 pub mod Walks

@@ -1,5 +1,5 @@
 -- The text of a clock: its parts are the texts of its entries, and a part that is an entry is the text of that entry.
-use Rattle.std.proofs.Common.{◌≡◌, ℕ, suc, ◌+◌, ◌<◌, ◌≤◌, ◌^◌, Bool, true, false, cond, not, ◌&&◌, T, List, [], ◌∷◌, ◌++◌, length, get_or, take, drop, map, refl, sym, ◌∙◌, ap, ap₂, arith, leb, ltb, eqb, inl, inr, le-leb, lt-ltb, ltb-true, leb-true, eqb-true, ne_eqb, true≢false, append_assoc}
+use Rattle.std.proofs.Common.{◌≡◌, ℕ, suc, ◌+◌, ◌<◌, ◌≤◌, ◌^◌, Bool, true, false, cond, not, ◌&&◌, T, List, [], ◌∷◌, ◌++◌, length, get_or, take, drop, map, refl, sym, ◌∙◌, ap, ap₂, arith, leb, eqb, inl, inr, le-leb, leb-true, eqb-true, ne_eqb, true≢false, append_assoc}
 use Rattle.std.specs.Prelude.{slice_index, count_by}
 use Rattle.std.specs.List.{list_all, join_with_byte, onto_first, before_first, after_first, position_or_len, prefix_len}
 use Rattle.std.specs.Char.{is_ascii_digit}
@@ -11,10 +11,12 @@ use Rattle.std.proofs.lemmas.List.Folds.{list_all-append}
 use Rattle.std.proofs.lemmas.List.Sums.{split_at_first, prefix_len_stops}
 use Rattle.std.proofs.lemmas.List.Splits.{length-slice_split, join_with_byte-slice_split}
 use Rattle.std.proofs.lemmas.Bool.{and_parts, and_from, cases_lt, not-false, not-true}
-use Rattle.u1_base.specs.Ids.{is_allowed}
+use Rattle.u1_base.specs.Ids.{is_allowed, is_id}
 use Rattle.u1_base.specs.declared.ids.Form.TheVariants as form_of
-use Rattle.vector_rev.specs.Counts.{Uid, Entries, both, true_T}
-use Rattle.vector_rev.specs.Clock.{is_uid, is_entry, is_limited}
+use Rattle.u1_base.specs.declared.limits.TheConstants.{GREATEST_COUNT}
+use Rattle.vector_rev.specs.Counts.{Uid, Entries}
+use Rattle.vector_rev.proofs.Truths.{both, true_T}
+use Rattle.vector_rev.specs.Clock.{is_entry, is_limited}
 use Rattle.vector_rev.specs.ClockText.{entry_text, entries_text, parts_of, is_numeral, is_counter, is_entry_text, entry_of}
 use Rattle.vector_rev.specs.Parts.{separated}
 use Rattle.vector_rev.proofs.Reading.{own_numerals, some_digits}
@@ -33,7 +35,7 @@ digit_no_bar b h = elim (eqb b 124) as (λ t. eqb b 124 ≡ t → t ≡ false) [
   | false ↦ λ _. refl
 ] refl
 
-uid_allowed : (u : Uid) → is_uid u ≡ true → list_all (is_allowed form_of.Replica) u ≡ true
+uid_allowed : (u : Uid) → is_id form_of.Replica u ≡ true → list_all (is_allowed form_of.Replica) u ≡ true
 uid_allowed u h = (and_parts (leb 1 (length u) && leb (length u) 64) _ h).1
 
 -- ---- where a part is cut
@@ -64,23 +66,23 @@ is_counter-decimal n low high =
     (and_from (list_all is_ascii_digit (decimal n) && leb 1 (length (decimal n))) _
     (and_from (list_all is_ascii_digit (decimal n)) _ (digits_decimal own_numerals n fits) (le-leb 1 (length (decimal n)) (decimal_nonempty n fits)))
     (ap not (ne_eqb (slice_index (decimal n) 0) 48 (above (get_or (decimal n) 0 0) (first_decimal n low fits)))))
-    (ap (λ k. ltb k (2 ^ 63)) (digits_value-decimal own_numerals n fits) ∙ lt-ltb n (2 ^ 63) high)
+    (ap (λ k. leb k GREATEST_COUNT) (digits_value-decimal own_numerals n fits) ∙ le-leb n GREATEST_COUNT (omega (arith, high)))
   where
     above : (b : ℕ) → 48 < b → b ≡ 48 → ⊥
     above b h e = omega arith
 
-entry_parts : (e : Uid × ℕ) → is_entry e ≡ true → (is_uid e.0 ≡ true) × (1 ≤ e.1) × (e.1 < 2 ^ 63)
+entry_parts : (e : Uid × ℕ) → is_entry e ≡ true → (is_id form_of.Replica e.0 ≡ true) × (1 ≤ e.1) × (e.1 < 2 ^ 63)
 entry_parts e h =
-    let outer = and_parts (is_uid e.0 && leb 1 e.1) (ltb e.1 (2 ^ 63)) h in
-    let inner = and_parts (is_uid e.0) (leb 1 e.1) outer.0 in
-    (inner.0, leb-true 1 e.1 inner.1, ltb-true e.1 (2 ^ 63) outer.1)
+    let outer = and_parts (is_id form_of.Replica e.0 && leb 1 e.1) (leb e.1 GREATEST_COUNT) h in
+    let inner = and_parts (is_id form_of.Replica e.0) (leb 1 e.1) outer.0 in
+    (inner.0, leb-true 1 e.1 inner.1, omega (arith, leb-true e.1 GREATEST_COUNT outer.1))
 
 -- the text of an entry is one, of that entry
 pub is_entry_text-entry_text : (e : Uid × ℕ) → is_entry e ≡ true → is_entry_text (entry_text e) ≡ true
 is_entry_text-entry_text e h =
     let p = entry_parts e h in
-    and_from (is_uid (before_first (λ b. eqb b 58) (entry_text e))) _
-    (ap is_uid (uid_of_text e.0 (decimal e.1) (uid_allowed e.0 p.0)) ∙ p.0)
+    and_from (is_id form_of.Replica (before_first (λ b. eqb b 58) (entry_text e))) _
+    (ap (is_id form_of.Replica) (uid_of_text e.0 (decimal e.1) (uid_allowed e.0 p.0)) ∙ p.0)
     (ap is_counter (digits_of_text e.0 (decimal e.1) (uid_allowed e.0 p.0)) ∙ is_counter-decimal e.1 p.1 p.2)
 
 pub entry_of-entry_text : (e : Uid × ℕ) → is_entry e ≡ true → entry_of (entry_text e) ≡ e
@@ -96,11 +98,11 @@ no_zero b e n = true≢false (sym (ap (λ c. not (eqb c 48)) (sym e) ∙ n))
 pub entry_text-entry_of : (part : List ℕ) → is_entry_text part ≡ true → part ≡ entry_text (entry_of part)
 entry_text-entry_of part h =
     let digits = after_first (λ b. eqb b 58) part in
-    let counter : is_counter digits ≡ true = (and_parts (is_uid (before_first (λ b. eqb b 58) part)) _ h).1 in
-    let numeral = and_parts (is_numeral digits) (ltb (digits_value 10 digits) (2 ^ 63)) counter in
+    let counter : is_counter digits ≡ true = (and_parts (is_id form_of.Replica (before_first (λ b. eqb b 58) part)) _ h).1 in
+    let numeral = and_parts (is_numeral digits) (leb (digits_value 10 digits) GREATEST_COUNT) counter in
     let some = some_digits digits numeral.0 in
     let lead : not (eqb (slice_index digits 0) 48) ≡ true = (and_parts (list_all is_ascii_digit digits && leb 1 (length digits)) _ numeral.0).1 in
-    let small : digits_value 10 digits < 2 ^ 63 = ltb-true (digits_value 10 digits) (2 ^ 63) numeral.1 in
+    let small : digits_value 10 digits < 2 ^ 63 = omega (arith, leb-true (digits_value 10 digits) GREATEST_COUNT numeral.1) in
     let same : decimal (digits_value 10 digits) ≡ digits = decimal-digits_value own_numerals digits some.0 (omega (arith, some.1)) (λ zero. absurd (no_zero (get_or digits 0 0) zero lead)) (omega (arith, small)) in
     let there : position_or_len (λ b. eqb b 58) part < length part = colon_there part some.1 in
     split_at_first (λ b. eqb b 58) part 0 there
@@ -134,11 +136,11 @@ number_low ds numeral small =
 pub is_entry-entry_of : (part : List ℕ) → is_entry_text part ≡ true → is_entry (entry_of part) ≡ true
 is_entry-entry_of part h =
     let digits = after_first (λ b. eqb b 58) part in
-    let parts = and_parts (is_uid (before_first (λ b. eqb b 58) part)) _ h in
-    let numeral = and_parts (is_numeral digits) (ltb (digits_value 10 digits) (2 ^ 63)) parts.1 in
-    let small : digits_value 10 digits < 2 ^ 63 = ltb-true (digits_value 10 digits) (2 ^ 63) numeral.1 in
-    and_from (is_uid (before_first (λ b. eqb b 58) part) && leb 1 (digits_value 10 digits)) _
-    (and_from (is_uid (before_first (λ b. eqb b 58) part)) _ parts.0 (le-leb 1 (digits_value 10 digits) (number_low digits numeral.0 small)))
+    let parts = and_parts (is_id form_of.Replica (before_first (λ b. eqb b 58) part)) _ h in
+    let numeral = and_parts (is_numeral digits) (leb (digits_value 10 digits) GREATEST_COUNT) parts.1 in
+    let small : digits_value 10 digits < 2 ^ 63 = omega (arith, leb-true (digits_value 10 digits) GREATEST_COUNT numeral.1) in
+    and_from (is_id form_of.Replica (before_first (λ b. eqb b 58) part) && leb 1 (digits_value 10 digits)) _
+    (and_from (is_id form_of.Replica (before_first (λ b. eqb b 58) part)) _ parts.0 (le-leb 1 (digits_value 10 digits) (number_low digits numeral.0 small)))
     numeral.1
 
 -- ---- all parts of a text

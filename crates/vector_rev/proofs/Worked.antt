@@ -1,12 +1,12 @@
 -- The definitions at worked clocks.
-use Rattle.std.proofs.Common.{◌≡◌, ◌≢◌, ℕ, true, false, List, [], ◌∷◌, refl, arith}
+use Rattle.std.proofs.Common.{◌≡◌, ◌≢◌, ℕ, true, false, List, [], ◌∷◌, Some, None, refl, arith}
 use Rattle.std.specs.Prelude.{codes}
 use Rattle.std.specs.Fmt.{digits}
 use Rattle.vector_rev.specs.Counts.{raised, join}
-use Rattle.vector_rev.specs.Clock.{Clock, count_of, counts}
+use Rattle.vector_rev.specs.Clock.{Clock, count_of}
 use Rattle.vector_rev.specs.Compare.{order_of}
 use Rattle.vector_rev.specs.Made.{occurring}
-use Rattle.vector_rev.specs.ClockText.{clock_text, is_entry_text, IsTextFault}
+use Rattle.vector_rev.specs.ClockText.{clock_text, clock_in, is_entry_text, IsTextFault}
 use Rattle.vector_rev.specs.declared.compare.Order.TheVariants as answer
 use Rattle.vector_rev.specs.declared.read.ClockFault.TheVariants as fault
 
@@ -23,6 +23,13 @@ a2 = record { entries = (codes "a", 2) ∷ []; well = tt }
 
 b1 : Clock
 b1 = record { entries = (codes "b", 1) ∷ []; well = tt }
+
+reads_a1b2 : clock_in (codes "a:1|b:2") ≡ Some a1b2
+unfolding a1b2
+reads_a1b2 = refl
+
+reads_none : clock_in (codes "b:2|a:1") ≡ None
+reads_none = refl
 
 text_a1b2 : clock_text a1b2 ≡ codes "a:1|b:2"
 unfolding a1b2 digits
@@ -53,11 +60,11 @@ unfolding a2
 equal = refl
 
 -- a:2 joined with b:1 is a:2|b:1, and raised for b a:2|b:2
-joined : (join (counts a2) (counts b1)).entries ≡ (codes "a", 2) ∷ (codes "b", 1) ∷ []
+joined : join a2.entries b1.entries ≡ (codes "a", 2) ∷ (codes "b", 1) ∷ []
 unfolding a2 b1
 joined = refl
 
-raised_joined : (raised (join (counts a2) (counts b1)) (codes "b")).entries ≡ (codes "a", 2) ∷ (codes "b", 2) ∷ []
+raised_joined : raised (join a2.entries b1.entries) (codes "b") ≡ (codes "a", 2) ∷ (codes "b", 2) ∷ []
 unfolding a2 b1
 raised_joined = refl
 

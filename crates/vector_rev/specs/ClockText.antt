@@ -1,12 +1,15 @@
--- How a clock is written, and why another text is none.
-use Rattle.std.specs.Prelude.{◌≡◌, ◌≢◌, ℕ, ◌+◌, ◌^◌, ◌<◌, ◌≤◌, ◌==◌, Bool, false, not, ◌&&◌, IsTrue, nat_le, nat_lt, List, [], ◌∷◌, ◌++◌, length, map, take, position, slice_index, Some, Result, Ok, Err}
+-- How a clock is written, which clock a text spells, and why another text spells none.
+use Rattle.std.specs.Prelude.{◌≡◌, ◌≢◌, ℕ, ◌+◌, ◌<◌, ◌≤◌, ◌==◌, Bool, false, not, ◌&&◌, IsTrue, nat_le, List, [], ◌∷◌, ◌++◌, codes, length, map, take, position, slice_index, Option, Some, None, Result, Ok, Err, if◌then◌else◌}
 use Rattle.std.specs.List.{list_all, join_with_byte, slice_split, before_first, after_first}
 use Rattle.std.specs.Char.{is_ascii_digit}
 use Rattle.std.specs.Str.Parse.{digits_value}
 use Rattle.std.specs.Fmt.{decimal}
 use Rattle.std.specs.FinMap.Entries.{is_sorted}
-use Rattle.vector_rev.specs.Counts.{Uid, uid_cmp, Entries}
-use Rattle.vector_rev.specs.Clock.{Clock, is_uid, is_entry}
+use Rattle.u1_base.specs.Ids.{id_cmp, is_id}
+use Rattle.u1_base.specs.declared.ids.Form.TheVariants.{Replica}
+use Rattle.u1_base.specs.declared.limits.TheConstants.{GREATEST_COUNT, MOST_CLOCK_ENTRIES}
+use Rattle.vector_rev.specs.Counts.{Uid, Entries}
+use Rattle.vector_rev.specs.Clock.{Clock, is_entry, clock_of}
 use Rattle.vector_rev.specs.declared.read.ClockFault.{ClockFault}
 use Rattle.vector_rev.specs.declared.read.ClockFault.TheVariants.{Empty, TooMany, BadEntry, NotSorted, Memory}
 
@@ -31,11 +34,12 @@ is_numeral digits = list_all is_ascii_digit digits && nat_le 1 (length digits) &
 
 -- a numeral below 2^63; the number is not 0, since the numeral has no leading zero
 abbrev pub is_counter : List ℕ → Bool
-is_counter digits = is_numeral digits && nat_lt (digits_value 10 digits) (2 ^ 63)
+is_counter digits = is_numeral digits && nat_le (digits_value 10 digits) GREATEST_COUNT
 
 -- a uid before the first `:`, and a counter after it
 abbrev pub is_entry_text : List ℕ → Bool
-is_entry_text part = is_uid (before_first (λ b. b == 58) part) && is_counter (after_first (λ b. b == 58) part)
+is_entry_text part =
+    is_id Replica (before_first (λ b. b == 58) part) && is_counter (after_first (λ b. b == 58) part)
 
 -- the entry that a part spells
 abbrev pub entry_of : List ℕ → Uid × ℕ
@@ -44,32 +48,47 @@ entry_of part = (before_first (λ b. b == 58) part, digits_value 10 (after_first
 -- the first entry whose uid is not above the one before it: the entries before it rise, and with it they do not
 pub record IsFirstUnsorted (es : Entries) (place : ℕ) : Type 0 where
   pub there : place < length es
-  pub before : IsTrue (is_sorted uid_cmp (take place es))
-  pub unsorted : is_sorted uid_cmp (take (place + 1) es) ≡ false
+  pub before : IsTrue (is_sorted id_cmp (take place es))
+  pub unsorted : is_sorted id_cmp (take (place + 1) es) ≡ false
 
 -- why a text is no clock. The faults are tested in this order
 abbrev pub IsTextFault : List ℕ → ClockFault → Type 0
 IsTextFault text Empty = text ≡ []
-IsTextFault text TooMany = 64 < length (parts_of text)
+IsTextFault text TooMany = MOST_CLOCK_ENTRIES < length (parts_of text)
 IsTextFault text (BadEntry i) =
-    (text ≢ []) × (length (parts_of text) ≤ 64) × (position (λ part. not (is_entry_text part)) (parts_of text) ≡ Some i)
+    (text ≢ []) × (length (parts_of text) ≤ MOST_CLOCK_ENTRIES)
+    × (position (λ part. not (is_entry_text part)) (parts_of text) ≡ Some i)
 IsTextFault text (NotSorted i) =
-    (text ≢ []) × (length (parts_of text) ≤ 64) × IsTrue (list_all is_entry_text (parts_of text)) × IsFirstUnsorted (map entry_of (parts_of text)) i
+    (text ≢ []) × (length (parts_of text) ≤ MOST_CLOCK_ENTRIES) × IsTrue (list_all is_entry_text (parts_of text))
+    × IsFirstUnsorted (map entry_of (parts_of text)) i
 IsTextFault text Memory = Unit {0}
 
--- a reader answers the clock exactly for its text, and else the fault
+-- the clock that a text spells, if it spells one: each part is an entry, and together they are a clock's
+abbrev pub clock_in : List ℕ → Option Clock
+clock_in text = if list_all is_entry_text (parts_of text) then clock_of (map entry_of (parts_of text)) else None
+
+-- what a fault prints
+abbrev pub clock_fault_text : ClockFault → List ℕ
+clock_fault_text Empty = codes "the clock has no entry"
+clock_fault_text TooMany = codes "the clock has more than 64 entries"
+clock_fault_text (BadEntry i) = codes "entry " ++ decimal i ++ codes " of the clock is not a replica uid with a counter"
+clock_fault_text (NotSorted i) = codes "entry " ++ decimal i ++ codes " of the clock is not above the one before it"
+clock_fault_text Memory = codes "out of memory"
+
+-- a reader answers the clock that the text spells; at a fault there is none, unless memory ran out, and the fault says
+-- why
 abbrev pub ReadsClock : List ℕ → Result Clock ClockFault → Type 0
-ReadsClock text (Ok x) = text ≡ clock_text x
-ReadsClock text (Err fault) = IsTextFault text fault
+ReadsClock text (Ok x) = clock_in text ≡ Some x
+ReadsClock text (Err fault) = IsTextFault text fault × (fault ≢ Memory → clock_in text ≡ None)
 
 -- why a list of uids with counters is no clock, in the same order; no memory is taken
 abbrev pub IsEntriesFault : Entries → ClockFault → Type 0
 IsEntriesFault es Empty = es ≡ []
-IsEntriesFault es TooMany = 64 < length es
+IsEntriesFault es TooMany = MOST_CLOCK_ENTRIES < length es
 IsEntriesFault es (BadEntry i) =
-    (es ≢ []) × (length es ≤ 64) × (position (λ e. not (is_entry e)) es ≡ Some i)
+    (es ≢ []) × (length es ≤ MOST_CLOCK_ENTRIES) × (position (λ e. not (is_entry e)) es ≡ Some i)
 IsEntriesFault es (NotSorted i) =
-    (es ≢ []) × (length es ≤ 64) × IsTrue (list_all is_entry es) × IsFirstUnsorted es i
+    (es ≢ []) × (length es ≤ MOST_CLOCK_ENTRIES) × IsTrue (list_all is_entry es) × IsFirstUnsorted es i
 IsEntriesFault es Memory = ⊥
 
 -- a list of uids with counters is taken as a clock exactly where it is one
@@ -77,7 +96,7 @@ abbrev pub TakesEntries : Entries → Result Clock ClockFault → Type 0
 TakesEntries es (Ok x) = x.entries ≡ es
 TakesEntries es (Err fault) = IsEntriesFault es fault
 
--- entries that keep the limits, as far as their order goes
+-- private to the reader: entries that keep the limits, as far as their order goes
 abbrev pub OrdersEntries : Entries → Result Clock ClockFault → Type 0
 OrdersEntries es (Ok x) = x.entries ≡ es
 OrdersEntries es (Err (NotSorted i)) = IsFirstUnsorted es i

@@ -1,10 +1,11 @@
 -- What holds of all clocks.
-use Rattle.std.specs.Prelude.{◌≡◌, ◌≤◌}
+use Rattle.std.specs.Prelude.{◌≡◌, ℕ, ◌≤◌, List, Some}
+use Rattle.u1_base.specs.declared.limits.TheConstants.{MOST_CLOCK_ENTRIES}
 use Rattle.vector_rev.specs.Counts.{Uid}
 use Rattle.vector_rev.specs.Clock.{Clock, count_of, Covers, Dominates}
 use Rattle.vector_rev.specs.Compare.{Compares, order_of}
 use Rattle.vector_rev.specs.Made.{occurring, IsFull}
-use Rattle.vector_rev.specs.ClockText.{clock_text, IsTextFault}
+use Rattle.vector_rev.specs.ClockText.{clock_text, IsTextFault, clock_in}
 use Rattle.vector_rev.specs.declared.compare.Order.{Order}
 use Rattle.vector_rev.specs.declared.read.ClockFault.{ClockFault}
 use Rattle.vector_rev.specs.declared.read.ClockFault.TheVariants.{Memory}
@@ -25,7 +26,7 @@ pub record JoinIsLeast (x y z : Clock) : Type 0 where
   pub left : Covers z x
   pub right : Covers z y
   pub least : (w : Clock) → Covers w x → Covers w y → Covers w z
-  pub few : occurring x y ≤ 64
+  pub few : occurring x y ≤ MOST_CLOCK_ENTRIES
 
 -- a raised clock is newer, and was not full
 pub record NextIsNewer (x : Clock) (own : Uid) (z : Clock) : Type 0 where
@@ -36,3 +37,8 @@ pub record NextIsNewer (x : Clock) (own : Uid) (z : Clock) : Type 0 where
 pub record TextsTellClocks : Type 0 where
   pub no_fault : (x : Clock) (fault : ClockFault) → IsTextFault (clock_text x) fault → fault ≡ Memory
   pub apart : (x y : Clock) → clock_text x ≡ clock_text y → x ≡ y
+
+-- a clock's text reads as that clock, and what reads as a clock is its text
+pub record ReadingTellsClocks : Type 0 where
+  pub back : (x : Clock) → clock_in (clock_text x) ≡ Some x
+  pub only : (text : List ℕ) (x : Clock) → clock_in text ≡ Some x → text ≡ clock_text x

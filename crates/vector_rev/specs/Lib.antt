@@ -1,5 +1,6 @@
 pub mod Counts
 pub mod Clock
+pub mod Stored
 pub mod Compare
 pub mod ClockText
 pub mod Made

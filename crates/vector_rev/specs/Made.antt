@@ -1,7 +1,9 @@
 -- The clocks that are made of others: by counters, and when there is none.
-use Rattle.std.specs.Prelude.{◌≡◌, ◌≢◌, ℕ, ◌+◌, ◌-◌, ◌^◌, ◌<◌, ◌≤◌, max, ◌⊎◌, length, filter, is_none, Result, Ok, Err}
+use Rattle.std.specs.Prelude.{◌≡◌, ◌≢◌, ℕ, ◌+◌, ◌<◌, ◌≤◌, max, ◌⊎◌, length, filter, is_none, List, codes, Result, Ok, Err}
 use Rattle.std.specs.FinMap.Entries.{find}
-use Rattle.vector_rev.specs.Counts.{Uid, uid_cmp}
+use Rattle.u1_base.specs.declared.limits.TheConstants.{GREATEST_COUNT, MOST_CLOCK_ENTRIES}
+use Rattle.vector_rev.specs.Counts.{Uid}
+use Rattle.u1_base.specs.Ids.{id_cmp}
 use Rattle.vector_rev.specs.Clock.{Clock, count_of}
 use Rattle.vector_rev.specs.declared.join.JoinFault.{JoinFault}
 use Rattle.vector_rev.specs.declared.join.JoinFault.TheVariants as join_fault
@@ -14,12 +16,12 @@ IsJoin x y z = (u : Uid) → count_of z u ≡ max (count_of x u) (count_of y u)
 
 -- how many uids occur in one clock or in both: those of x, and those of y that are not in x
 abbrev pub occurring : Clock → Clock → ℕ
-occurring x y = length x.entries + length (filter (λ e. is_none (find uid_cmp e.0 x.entries)) y.entries)
+occurring x y = length x.entries + length (filter (λ e. is_none (find id_cmp e.0 x.entries)) y.entries)
 
 -- a join is answered where no more than 64 uids occur
 abbrev pub Joins : Clock → Clock → Result Clock JoinFault → Type 0
 Joins x y (Ok z) = IsJoin x y z
-Joins x y (Err join_fault.TooMany) = 64 < occurring x y
+Joins x y (Err join_fault.TooMany) = MOST_CLOCK_ENTRIES < occurring x y
 Joins x y (Err join_fault.Memory) = Unit {0}
 
 -- z has the own counter raised by one, and each other counter of x
@@ -29,13 +31,13 @@ pub record IsNext (x : Clock) (own : Uid) (z : Clock) : Type 0 where
 
 -- the own counter cannot be raised: it is the greatest, or its entry would be the 65th
 abbrev pub IsFull : Clock → Uid → Type 0
-IsFull x own = (count_of x own ≡ 2 ^ 63 - 1) ⊎ ((count_of x own ≡ 0) × (length x.entries ≡ 64))
+IsFull x own = (count_of x own ≡ GREATEST_COUNT) ⊎ ((count_of x own ≡ 0) × (length x.entries ≡ MOST_CLOCK_ENTRIES))
 
--- n is the own counter raised by one, and the clock keeps the limits with it
+-- private to raising: n is the own counter raised by one, and the clock keeps the limits with it
 pub record HasRoom (x : Clock) (own : Uid) (n : ℕ) : Type 0 where
   pub raised : n ≡ count_of x own + 1
-  pub small : n < 2 ^ 63
-  pub room : (1 ≤ count_of x own) ⊎ (length x.entries < 64)
+  pub small : n ≤ GREATEST_COUNT
+  pub room : (1 ≤ count_of x own) ⊎ (length x.entries < MOST_CLOCK_ENTRIES)
 
 -- a clock is raised where it is not full
 abbrev pub Raises : Clock → Uid → Result Clock NextFault → Type 0
@@ -47,3 +49,12 @@ Raises x own (Err next_fault.Memory) = Unit {0}
 pub record IsFirst (own : Uid) (z : Clock) : Type 0 where
   pub one : count_of z own ≡ 1
   pub others : (u : Uid) → u ≢ own → count_of z u ≡ 0
+
+-- what the faults print
+abbrev pub join_fault_text : JoinFault → List ℕ
+join_fault_text join_fault.TooMany = codes "more than 64 replicas occur in the two clocks"
+join_fault_text join_fault.Memory = codes "out of memory"
+
+abbrev pub next_fault_text : NextFault → List ℕ
+next_fault_text next_fault.ClockFull = codes "the clock cannot count this replica further"
+next_fault_text next_fault.Memory = codes "out of memory"

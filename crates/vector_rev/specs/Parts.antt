@@ -1,16 +1,18 @@
--- What is read of one part of a text and of all parts, and how one more entry is written.
+-- Private to the reader and the writer: what is read of one part of a text and of all parts, and how one more entry is
+-- written.
 use Rattle.std.specs.Prelude.{◌≡◌, ℕ, ◌==◌, false, not, IsTrue, List, ◌∷◌, map, position, Option, Some, None, Result, Ok, Err, if◌then◌else◌}
 use Rattle.std.specs.List.{list_all}
 use Rattle.vector_rev.specs.Counts.{Uid, Entries}
-use Rattle.vector_rev.specs.Clock.{is_uid}
+use Rattle.u1_base.specs.Ids.{is_id}
+use Rattle.u1_base.specs.declared.ids.Form.TheVariants.{Replica}
 use Rattle.vector_rev.specs.ClockText.{entry_text, entry_of, is_entry_text}
 use Rattle.vector_rev.specs.declared.read.ClockFault.{ClockFault}
 use Rattle.vector_rev.specs.declared.read.ClockFault.TheVariants.{Empty, TooMany, BadEntry, NotSorted, Memory}
 
 -- a uid is read exactly where it is one
 abbrev pub UidIs : List ℕ → Option Uid → Type 0
-UidIs text (Some uid) = IsTrue (is_uid text) × (uid ≡ text)
-UidIs text None = is_uid text ≡ false
+UidIs text (Some uid) = IsTrue (is_id Replica text) × (uid ≡ text)
+UidIs text None = is_id Replica text ≡ false
 
 -- a part is read exactly where it is an entry
 abbrev pub EntryIs : List ℕ → Option (Uid × ℕ) → Type 0

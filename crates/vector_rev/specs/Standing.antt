@@ -1,13 +1,14 @@
--- Where a uid stands, or would stand, among entries in order.
+-- Private to joining and raising: where a uid stands, or would stand, among entries in order.
 use Rattle.std.specs.Prelude.{◌≡◌, ℕ, ◌-◌, ◌<◌, ◌≤◌, length}
 use Rattle.std.specs.List.{HoldsAt}
 use Rattle.std.proofs.Common.{Less}
-use Rattle.vector_rev.specs.Counts.{Uid, uid_cmp, Entries}
+use Rattle.vector_rev.specs.Counts.{Uid, Entries}
+use Rattle.u1_base.specs.Ids.{id_cmp}
 
 -- the uid is below the entry at a place, if there is one
 pub record IsAbove (u : Uid) (es : Entries) (place : ℕ) : Type 0 where
   pub within : place ≤ length es
-  pub after : place < length es → HoldsAt (λ e. uid_cmp u e.0 ≡ Less) es place
+  pub after : place < length es → HoldsAt (λ e. id_cmp u e.0 ≡ Less) es place
 
 -- the uid has an entry at a place
 pub record StandsAt (u : Uid) (es : Entries) (place : ℕ) : Type 0 where
@@ -17,4 +18,4 @@ pub record StandsAt (u : Uid) (es : Entries) (place : ℕ) : Type 0 where
 -- the uid is below the entry at a place, and above the one before it
 pub record FitsAt (u : Uid) (es : Entries) (place : ℕ) : Type 0 where
   pub above : IsAbove u es place
-  pub before : 0 < place → HoldsAt (λ e. uid_cmp e.0 u ≡ Less) es (place - 1)
+  pub before : 0 < place → HoldsAt (λ e. id_cmp e.0 u ≡ Less) es (place - 1)

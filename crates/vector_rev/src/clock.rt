@@ -1,7 +1,6 @@
 //! A clock, and what it counts.
 ghost use Rattle.std.specs.Prelude.{◌≡◌, ◌≤◌, IfOk, T, length};
-ghost use Rattle.u1_base.specs.Ids.{IsId};
-ghost use Rattle.u1_base.specs.declared.ids.Form.TheVariants as form_of;
+ghost use Rattle.u1_base.specs.declared.limits.TheConstants.{MOST_CLOCK_ENTRIES};
 ghost use Rattle.vector_rev.specs.Clock.{count_of, is_clock};
 ghost use Rattle.vector_rev.specs.Made.{IsFirst};
 
@@ -21,7 +20,8 @@ pub struct Clock {
 pub type Clocks = Items<Clock>;
 
 impl Model for Clock {
-    ghost use Rattle.vector_rev.specs.Clock.{Clock, clock_code};
+    ghost use Rattle.vector_rev.specs.Clock.{Clock};
+    ghost use Rattle.vector_rev.specs.Stored.{clock_code};
 
     ghost Value = { Clock };
 
@@ -36,7 +36,10 @@ impl Clock {
         ensures { IfOk result (λ z. IsFirst own.now z) }
     {
         let mut entries = Vec::with_capacity(alloc, 1)?;
-        entries.push(ClockEntry::new(own.copy()?, 1))?;
+        let entry = ClockEntry::new(own.copy()?, 1);
+        // Lending the uid is what tells the proof that it is an id.
+        let _uid = entry.uid();
+        entries.push(entry)?;
         Ok(Clock { entries })
     }
 
@@ -61,7 +64,7 @@ impl Clock {
     pub fn entries(&self) -> &[ClockEntry]
         ensures value { result.now ≡ self.now.entries }
         ensures some { 1 ≤ length self.now.entries }
-        ensures few { length self.now.entries ≤ 64 }
+        ensures few { length self.now.entries ≤ MOST_CLOCK_ENTRIES }
     {
         self.entries.as_slice()
     }

@@ -26,11 +26,8 @@ impl Model for ClockEntry {
 
 impl ClockEntry {
     pub fn new(uid: ReplicaUid, counter: u64) -> ClockEntry
-        ensures value { result ≡ (uid, counter) }
-        ensures id { IsId form_of.Replica uid }
+        ensures { result ≡ (uid, counter) }
     {
-        // Lending the text is what tells the proof that the uid is an id.
-        let _text = uid.as_str();
         ClockEntry { uid, counter }
     }
 
@@ -38,6 +35,7 @@ impl ClockEntry {
         ensures value { result.now ≡ self.now.0 }
         ensures id { IsId form_of.Replica self.now.0 }
     {
+        // Lending the text is what tells the proof that the uid is an id.
         let _text = self.uid.as_str();
         &self.uid
     }

@@ -1,11 +1,12 @@
 //! Clocks made of others: the join of two clocks, and a clock with one counter raised.
 ghost use Rattle.std.specs.Prelude.{◌≡◌, IfOk, MatchOption};
-ghost use Rattle.vector_rev.specs.Clock.{counts};
 ghost use Rattle.vector_rev.specs.Counts.{join, raised};
 ghost use Rattle.vector_rev.specs.Made.{HasRoom, IsFull, Joins, Raises};
 
 use crate::Clock;
 use crate::places::{put_each, put_greater};
+use std::error::Error;
+use std::fmt;
 use u1_base::limits::{GREATEST_COUNT, MOST_CLOCK_ENTRIES};
 use u1_base::{Memory, ReplicaUid};
 
@@ -24,6 +25,38 @@ pub enum NextFault {
     ClockFull,
     Memory,
 }
+
+impl fmt::Display for JoinFault {
+    ghost use Rattle.std.specs.Prelude.{Some};
+    ghost use Rattle.vector_rev.specs.Made.{join_fault_text};
+
+    ghost output = { λ fault. Some (join_fault_text fault) };
+
+    fn fmt<W: fmt::Write>(&self, f: &mut fmt::Formatter<W>) -> fmt::Result {
+        match self {
+            JoinFault::TooMany => f.write_str("more than 64 replicas occur in the two clocks"),
+            JoinFault::Memory => f.write_str("out of memory"),
+        }
+    }
+}
+
+impl Error for JoinFault {}
+
+impl fmt::Display for NextFault {
+    ghost use Rattle.std.specs.Prelude.{Some};
+    ghost use Rattle.vector_rev.specs.Made.{next_fault_text};
+
+    ghost output = { λ fault. Some (next_fault_text fault) };
+
+    fn fmt<W: fmt::Write>(&self, f: &mut fmt::Formatter<W>) -> fmt::Result {
+        match self {
+            NextFault::ClockFull => f.write_str("the clock cannot count this replica further"),
+            NextFault::Memory => f.write_str("out of memory"),
+        }
+    }
+}
+
+impl Error for NextFault {}
 
 impl From<Memory> for JoinFault {
     ghost use Rattle.std.specs.Prelude.{◌≡◌};
@@ -51,7 +84,7 @@ impl Clock {
     /// The clock with the greater counter of each uid.
     pub fn join(&self, other: &Clock) -> Result<Clock, JoinFault>
         ensures counters { Joins self.now other.now result }
-        ensures value { IfOk result (λ z. counts z ≡ join (counts self.now) (counts other.now)) }
+        ensures value { IfOk result (λ z. z.entries ≡ join self.now.entries other.now.entries) }
     {
         self.join_into(other.copy()?)
     }
@@ -59,7 +92,7 @@ impl Clock {
     /// The join with a clock that is consumed. It takes memory for the entries alone that are new to that clock.
     pub fn join_into(&self, all: Clock) -> Result<Clock, JoinFault>
         ensures counters { Joins self.now all result }
-        ensures value { IfOk result (λ z. counts z ≡ join (counts self.now) (counts all)) }
+        ensures value { IfOk result (λ z. z.entries ≡ join self.now.entries all.entries) }
     {
         let Clock { mut entries } = all;
         put_each(&mut entries, self.entries())?;
@@ -72,7 +105,7 @@ impl Clock {
     /// The clock with the own counter raised by one.
     pub fn next(&self, own: &ReplicaUid) -> Result<Clock, NextFault>
         ensures counters { Raises self.now own.now result }
-        ensures value { IfOk result (λ z. counts z ≡ raised (counts self.now) own.now) }
+        ensures value { IfOk result (λ z. z.entries ≡ raised self.now.entries own.now) }
     {
         self.copy_with_capacity(self.entries().len() + 1)?
             .raise(own)
@@ -81,7 +114,7 @@ impl Clock {
     /// The clock itself, with the own counter raised by one. It takes memory for an own entry alone that is new.
     pub fn raise(self, own: &ReplicaUid) -> Result<Clock, NextFault>
         ensures counters { Raises self own.now result }
-        ensures value { IfOk result (λ z. counts z ≡ raised (counts self) own.now) }
+        ensures value { IfOk result (λ z. z.entries ≡ raised self.entries own.now) }
     {
         let Some(counter) = self.raised_counter(own) else {
             return Err(NextFault::ClockFull);

@@ -1,7 +1,7 @@
 //! What holds of all clocks, each as the contract of a function that does nothing.
 ghost use Rattle.vector_rev.specs.Clock.{Clock};
 ghost use Rattle.vector_rev.specs.Counts.{Uid};
-ghost use Rattle.vector_rev.specs.Laws.{CountersDecide, CoveringIsAnOrder, JoinIsLeast, NextIsNewer, TextsTellClocks};
+ghost use Rattle.vector_rev.specs.Laws.{CountersDecide, CoveringIsAnOrder, JoinIsLeast, NextIsNewer, ReadingTellsClocks, TextsTellClocks};
 ghost use Rattle.vector_rev.specs.Made.{IsJoin, IsNext};
 
 /// Covering is a partial order, and each comparison has one answer.
@@ -24,7 +24,12 @@ pub fn law_next()
     ensures { (x z : Clock) (own : Uid) → IsNext x own z → NextIsNewer x own z }
 {}
 
-/// The text of a clock is read, and is the text of no other clock.
+/// The text of a clock has no fault, and is the text of no other clock.
 pub fn law_texts()
     ensures { TextsTellClocks }
+{}
+
+/// The text of a clock reads as that clock, and what reads as a clock is its text.
+pub fn law_reading()
+    ensures { ReadingTellsClocks }
 {}

@@ -18,5 +18,5 @@ pub use clock::{Clock, Clocks};
 pub use compare::Order;
 pub use entry::{ClockEntries, ClockEntry};
 pub use join::{JoinFault, NextFault};
-pub use laws::{law_counters, law_covering, law_join, law_next, law_texts};
+pub use laws::{law_counters, law_covering, law_join, law_next, law_reading, law_texts};
 pub use read::ClockFault;

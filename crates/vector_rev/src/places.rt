@@ -1,7 +1,8 @@
 //! Counters put into entries that are in order, each in its place.
 ghost use Rattle.std.specs.Prelude.{◌≡◌, ◌<◌, ◌≤◌, IfOk, MatchResult, OnOk, T, length, max};
 ghost use Rattle.std.specs.FinMap.Entries.{is_sorted, put};
-ghost use Rattle.vector_rev.specs.Counts.{count_in, joined_entries, uid_cmp};
+ghost use Rattle.u1_base.specs.Ids.{id_cmp};
+ghost use Rattle.vector_rev.specs.Counts.{count_in, join};
 ghost use Rattle.vector_rev.specs.Standing.{FitsAt, IsAbove, StandsAt};
 
 use crate::ClockEntry;
@@ -11,9 +12,9 @@ use u1_base::{Memory, ReplicaUid};
 // Puts each of the others in its place, of each uid the greater counter. At an error some of them may have been put.
 // The others go from the last to the first, so that the places go down: that is one walk along both lists.
 pub(crate) fn put_each(entries: &mut Vec<ClockEntry>, others: &[ClockEntry]) -> Result<(), Memory>
-    requires order { T (is_sorted uid_cmp entries.old.items) }
-    requires others { T (is_sorted uid_cmp others.now) }
-    ensures { OnOk result (entries.new.items ≡ joined_entries others.now entries.old.items) }
+    requires order { T (is_sorted id_cmp entries.old.items) }
+    requires others { T (is_sorted id_cmp others.now) }
+    ensures { OnOk result (entries.new.items ≡ join others.now entries.old.items) }
 {
     let mut end = entries.len();
     let mut left = others.len();
@@ -33,9 +34,9 @@ pub(crate) fn put_greater(
     uid: &ReplicaUid,
     counter: u64,
 ) -> Result<usize, Memory>
-    requires order { T (is_sorted uid_cmp entries.old.items) }
+    requires order { T (is_sorted id_cmp entries.old.items) }
     requires above { IsAbove uid.now entries.old.items end }
-    ensures entries { OnOk result (entries.new.items ≡ put uid_cmp uid.now (max counter (count_in entries.old.items uid.now)) entries.old.items) }
+    ensures entries { OnOk result (entries.new.items ≡ put id_cmp uid.now (max counter (count_in entries.old.items uid.now)) entries.old.items) }
     ensures place { IfOk result (λ place. StandsAt uid.now entries.new.items place) }
 {
     match place_of(entries.as_slice(), end, uid) {

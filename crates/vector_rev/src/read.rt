@@ -6,13 +6,15 @@ ghost use Rattle.vector_rev.specs.Clock.{is_entry, is_limited};
 ghost use Rattle.vector_rev.specs.ClockText.{IsFirstUnsorted, OrdersEntries, ReadsClock, TakesEntries, clock_text, entry_text, is_counter, is_numeral, parts_of};
 ghost use Rattle.std.specs.FinMap.Entries.{is_sorted};
 ghost use Rattle.std.specs.List.{list_all};
-ghost use Rattle.vector_rev.specs.Counts.{uid_cmp};
+ghost use Rattle.u1_base.specs.Ids.{id_cmp};
 ghost use Rattle.vector_rev.specs.Parts.{EntryIs, ReadsEntries, UidIs, separated};
 
 use crate::{Clock, ClockEntries, ClockEntry};
 use itoa::Buffer;
 use std::alloc::Global;
 use std::cmp::Ordering;
+use std::error::Error;
+use std::fmt;
 use u1_base::limits::{GREATEST_COUNT, MOST_CLOCK_ENTRIES};
 use u1_base::{IdFault, Memory, ReplicaUid, Text};
 
@@ -30,6 +32,31 @@ pub enum ClockFault {
     NotSorted(u64),
     Memory,
 }
+
+impl fmt::Display for ClockFault {
+    ghost use Rattle.std.specs.Prelude.{Some};
+    ghost use Rattle.vector_rev.specs.ClockText.{clock_fault_text};
+
+    ghost output = { λ fault. Some (clock_fault_text fault) };
+
+    fn fmt<W: fmt::Write>(&self, f: &mut fmt::Formatter<W>) -> fmt::Result {
+        match self {
+            ClockFault::Empty => f.write_str("the clock has no entry"),
+            ClockFault::TooMany => f.write_str("the clock has more than 64 entries"),
+            ClockFault::BadEntry(place) => write!(
+                f,
+                "entry {place} of the clock is not a replica uid with a counter"
+            ),
+            ClockFault::NotSorted(place) => write!(
+                f,
+                "entry {place} of the clock is not above the one before it"
+            ),
+            ClockFault::Memory => f.write_str("out of memory"),
+        }
+    }
+}
+
+impl Error for ClockFault {}
 
 impl From<Memory> for ClockFault {
     ghost use Rattle.std.specs.Prelude.{◌≡◌};
@@ -59,7 +86,7 @@ impl Clock {
         }
     }
 
-    /// Takes the list as a clock. It answers no want of memory.
+    /// Takes the list as a clock. It is never out of memory.
     pub fn of_entries(entries: ClockEntries) -> Result<Clock, ClockFault>
         ensures { TakesEntries entries result }
     {
@@ -223,7 +250,7 @@ fn first_bad(entries: &[ClockEntry]) -> Option<usize>
 
 // The first entry whose uid is not above the one before it.
 fn first_unsorted(entries: &[ClockEntry]) -> Option<usize>
-    ensures { MatchOption result (T (is_sorted uid_cmp entries.now)) (IsFirstUnsorted entries.now) }
+    ensures { MatchOption result (T (is_sorted id_cmp entries.now)) (IsFirstUnsorted entries.now) }
 {
     for i in 1..entries.len() {
         let (before, entry) = (&entries[i - 1], &entries[i]);

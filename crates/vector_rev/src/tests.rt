@@ -360,3 +360,30 @@ fn joins_and_raises_in_place(rt: HostRuntime) -> Result<(), Fail> {
     );
     Ok(())
 }
+
+#[test]
+fn faults_say_why(rt: HostRuntime) -> Result<(), Fail> {
+    let alloc = rt.alloc();
+    for (fault, want) in [
+        (ClockFault::Empty, "the clock has no entry"),
+        (ClockFault::TooMany, "the clock has more than 64 entries"),
+        (
+            ClockFault::BadEntry(2),
+            "entry 2 of the clock is not a replica uid with a counter",
+        ),
+        (
+            ClockFault::NotSorted(1),
+            "entry 1 of the clock is not above the one before it",
+        ),
+        (ClockFault::Memory, "out of memory"),
+    ] {
+        assert_eq!(rt; format!(in alloc; "{fault}")?.as_str(), want);
+    }
+    let join = JoinFault::TooMany;
+    let joined = "more than 64 replicas occur in the two clocks";
+    assert_eq!(rt; format!(in alloc; "{join}")?.as_str(), joined);
+    let next = NextFault::ClockFull;
+    let raised = "the clock cannot count this replica further";
+    assert_eq!(rt; format!(in alloc; "{next}")?.as_str(), raised);
+    Ok(())
+}

@@ -8,4 +8,4 @@ returns-in-Ok-clause-entries c =
 
 pub returns-in_ok-insert-in-Err-clause-entries : goal.returns-in_ok-insert-in-Err-clause-entries
 returns-in_ok-insert-in-Err-clause-entries c =
-    put_inserted c.args.uid.now c.in_ok-copy-in-Err.field-0 c.args.counter c.args.entries.now.items _ _ c.in-Err.place _ c.requires.order c.in-Err.ensures c.as_slice.ensures.value c.in_ok-copy-in-Err.ensures c.new.ensures.value c.in_ok-insert-in-Err.ensures.items
+    put_inserted c.args.uid.now c.in_ok-copy-in-Err.field-0 c.args.counter c.args.entries.now.items _ _ c.in-Err.place _ c.requires.order c.in-Err.ensures c.as_slice.ensures.value c.in_ok-copy-in-Err.ensures c.new.ensures c.in_ok-insert-in-Err.ensures.items

@@ -2,7 +2,8 @@
 use Rattle.std.proofs.Common.{◌∙◌, ap, arith, length}
 use Rattle.std.proofs.lemmas.List.{take_all}
 use Rattle.vector_rev.specs.Counts.{Entries}
-use Rattle.vector_rev.specs.Clock.{Clock, same_record}
+use Rattle.vector_rev.specs.Clock.{Clock}
+use Rattle.vector_rev.specs.Stored.{same_record}
 use Rattle.vector_rev.proofs.clock.Clock.copy_with_capacity.Goals as goal
 
 pub returns : goal.returns

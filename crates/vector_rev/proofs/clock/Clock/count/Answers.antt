@@ -1,14 +1,15 @@
 -- The entries passed have other uids, and the one found has its counter.
 use Rattle.std.proofs.Common.{◌≡◌, true, false, sym, ◌∙◌, ap, arith}
-use Rattle.vector_rev.specs.Counts.{Entries, same_uid, count_in}
+use Rattle.vector_rev.specs.Counts.{Entries, count_in}
+use Rattle.u1_base.specs.Ids.{same_id}
 use Rattle.vector_rev.specs.Clock.{Clock}
-use Rattle.vector_rev.proofs.Walks.{same_uid-eq, count_found, count_past}
+use Rattle.vector_rev.proofs.Walks.{same_id-eq, count_found, count_past}
 use Rattle.vector_rev.proofs.clock.Clock.count.Goals as goal
 
 pub returns-then-eq : goal.returns-then-eq
 returns-then-eq c =
-    let same : same_uid c.args.uid.now c.entry-item.result.0 ≡ true =
-    ap (same_uid c.args.uid.now) (sym c.uid.ensures.value) ∙ same_uid-eq c.uid.result.now c.args.uid.now c.eq.result c.eq.ensures ∙ c.if-eq.true in
+    let same : same_id c.args.uid.now c.entry-item.result.0 ≡ true =
+    ap (same_id c.args.uid.now) (sym c.uid.ensures.value) ∙ same_id-eq c.uid.result.now c.args.uid.now c.eq.result c.eq.ensures ∙ c.if-eq.true in
     c.counter.ensures
     ∙ sym (count_found c.as_slice-entries.result.now c.args.uid.now c.loop-entry.entry-index c.entry-item.result (omega arith) c.entry-item.is same)
     ∙ sym c.loop-entry.invariant
@@ -17,7 +18,7 @@ returns-then-eq c =
 
 pub loop-entry-preserved : goal.loop-entry-preserved
 loop-entry-preserved c =
-    let other : same_uid c.args.uid.now c.entry-item.result.0 ≡ false =
-    ap (same_uid c.args.uid.now) (sym c.uid.ensures.value) ∙ same_uid-eq c.uid.result.now c.args.uid.now c.eq.result c.eq.ensures ∙ c.if-eq.false in
+    let other : same_id c.args.uid.now c.entry-item.result.0 ≡ false =
+    ap (same_id c.args.uid.now) (sym c.uid.ensures.value) ∙ same_id-eq c.uid.result.now c.args.uid.now c.eq.result c.eq.ensures ∙ c.if-eq.false in
     c.loop-entry.invariant
     ∙ count_past c.as_slice-entries.result.now c.args.uid.now c.loop-entry.entry-index c.entry-item.result (omega arith) c.entry-item.is other
