@@ -2,7 +2,7 @@
 use Rattle.std.proofs.Common.{◌≡◌, ℕ, zero, suc, ◌<◌, ◌≤◌, List, [], ◌∷◌, ◌++◌, length, refl, ◌∙◌, ap, arith, inl, inr, length-append}
 use Rattle.std.specs.List.{slice_get}
 use Rattle.std.specs.Option.{option_map}
-use Rattle.u1_base.specs.declared.position.Position.{Position}
+use Rattle.u1_base.specs.Places.{Place}
 use Rattle.translog.specs.declared.entry.Entry.{Entry}
 use Rattle.translog.specs.Entries.{trans_at}
 use Rattle.translog.specs.Log.{FitsLog}
@@ -17,7 +17,7 @@ pub trans_at-append : (es more : List Entry) (g : ℕ) → g ≤ length es → t
 trans_at-append es more zero low = refl
 trans_at-append es more (suc k) low = ap (option_map (λ (e : Entry). e.trans)) (slice_get-append es more k (omega arith))
 
-pub FitsLog-append : (es more : List Entry) (p : Position) → FitsLog es p → FitsLog (es ++ more) p
+pub FitsLog-append : (es more : List Entry) (p : Place) → FitsLog es p → FitsLog (es ++ more) p
 FitsLog-append es more p (inl start) = inl start
 FitsLog-append es more p (inr at) =
     inr (omega (arith, at.0, length-append es more), trans_at-append es more p.generation at.0 ∙ at.1)

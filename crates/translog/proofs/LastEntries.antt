@@ -1,14 +1,15 @@
 -- The walk backward over a log that finds the last entries.
-use Rattle.std.proofs.Common.{◌≡◌, ℕ, zero, suc, ◌+◌, ◌-◌, ◌<◌, ◌≤◌, ◌⊎◌, Bool, true, false, cond, not, ◌&&◌, ◌||◌, List, [], ◌∷◌, ◌++◌, length, get_or, drop, reverse, refl, sym, ◌∙◌, ap, ap₂, subst, arith, inl, inr, ltb, lt-ltb, le-ltb, nat_cmp, Bor, Ordering, Less, Equal, Greater}
+use Rattle.std.proofs.Common.{◌≡◌, ℕ, zero, suc, ◌+◌, ◌-◌, ◌<◌, ◌≤◌, ◌⊎◌, Bool, true, false, cond, not, ◌&&◌, ◌||◌, List, [], ◌∷◌, ◌++◌, length, get_or, drop, reverse, refl, sym, ◌∙◌, ap, ap₂, subst, arith, inl, inr, ltb, lt-ltb, le-ltb, nat_cmp, Bor, Ordering}
 use Rattle.std.specs.Prelude.{filter}
 use Rattle.std.specs.List.{list_any}
-use Rattle.std.specs.Ordering.{is_eq, ordering_reverse}
-use Rattle.std.specs.Cmp.Lexicographic.{slice_cmp, nat_list_cmp_total}
+use Rattle.std.specs.Cmp.Lexicographic.{slice_cmp}
 use Rattle.std.specs.BTreeSet.{BTreeSet, contains, Updates}
 use Rattle.std.proofs.lemmas.List.{drop_more, drop_all, reverse-append}
+use Rattle.u1_base.specs.Ids.{same_id}
+use Rattle.u1_base.proofs.SameIds.{same_id-comm}
 use Rattle.translog.specs.declared.entry.Entry.{Entry}
 use Rattle.translog.specs.declared.entry.Change.{Change}
-use Rattle.translog.specs.Entries.{same_doc, change_at, numbered, is_last, changes_since}
+use Rattle.translog.specs.Entries.{change_at, numbered, is_last, changes_since}
 
 -- the order of the texts in the set
 abbrev pub text_cmp : Bor (List ℕ) → Bor (List ℕ) → Ordering
@@ -18,16 +19,8 @@ text_cmp x y = slice_cmp nat_cmp x.now y.now
 pub record Walked (es : List Entry) (g place : ℕ) (later : BTreeSet (Bor (List ℕ))) (found : List Change) : Type 0 where
   pub start : (place ≡ length es) ⊎ (g ≤ place)
   pub within : place ≤ length es
-  pub seen : (q : Bor (List ℕ)) → contains text_cmp later q ≡ list_any (λ e. same_doc q.now e.doc) (drop place es)
+  pub seen : (q : Bor (List ℕ)) → contains text_cmp later q ≡ list_any (λ e. same_id q.now e.doc) (drop place es)
   pub last : reverse found ≡ filter (is_last es) (numbered (place + 1) (drop place es))
-
-same_doc_comm : (x y : List ℕ) → is_eq (slice_cmp nat_cmp x y) ≡ same_doc y x
-same_doc_comm x y = ap is_eq (nat_list_cmp_total.antisymm x y) ∙ reversed (slice_cmp nat_cmp y x)
-  where
-    reversed : (r : Ordering) → is_eq (ordering_reverse r) ≡ is_eq r
-    reversed Less = refl
-    reversed Equal = refl
-    reversed Greater = refl
 
 or_cond : (b x : Bool) → cond b true x ≡ (b || x)
 or_cond true x = refl
@@ -37,14 +30,14 @@ from_place : (es : List Entry) (p : ℕ) (e : Entry) → p < length es → e ≡
 from_place es p e below at = drop_more es p e below ∙ ap (λ (f : Entry). f ∷ drop (p + 1) es) (sym at)
 
 -- the set after one more document
-seen_more : (es : List Entry) (p : ℕ) (e : Entry) (key q : Bor (List ℕ)) (old new : BTreeSet (Bor (List ℕ))) → drop p es ≡ e ∷ drop (p + 1) es → key.now ≡ e.doc → Updates text_cmp old new key true → contains text_cmp old q ≡ list_any (λ f. same_doc q.now f.doc) (drop (p + 1) es) → contains text_cmp new q ≡ list_any (λ f. same_doc q.now f.doc) (drop p es)
+seen_more : (es : List Entry) (p : ℕ) (e : Entry) (key q : Bor (List ℕ)) (old new : BTreeSet (Bor (List ℕ))) → drop p es ≡ e ∷ drop (p + 1) es → key.now ≡ e.doc → Updates text_cmp old new key true → contains text_cmp old q ≡ list_any (λ f. same_id q.now f.doc) (drop (p + 1) es) → contains text_cmp new q ≡ list_any (λ f. same_id q.now f.doc) (drop p es)
 seen_more es p e key q old new d k u h =
-    u.0 q ∙ or_cond _ (contains text_cmp old q) ∙ ap₂ (λ a b. a || b) (same_doc_comm key.now q.now ∙ ap (same_doc q.now) k) h
-    ∙ ap (list_any (λ f. same_doc q.now f.doc)) (sym d)
+    u.0 q ∙ or_cond _ (contains text_cmp old q) ∙ ap₂ (λ a b. a || b) (same_id-comm key.now q.now ∙ ap (same_id q.now) k) h
+    ∙ ap (list_any (λ f. same_id q.now f.doc)) (sym d)
 
 -- whether the entry at a place is the last one of its document
-last_test : (es : List Entry) (p : ℕ) (e : Entry) (key : Bor (List ℕ)) (old : BTreeSet (Bor (List ℕ))) (b : Bool) → key.now ≡ e.doc → b ≡ not (contains text_cmp old key) → contains text_cmp old key ≡ list_any (λ f. same_doc key.now f.doc) (drop (p + 1) es) → is_last es (change_at e (p + 1)) ≡ b
-last_test es p e key old b k is h = ap (λ d. not (list_any (λ f. same_doc d f.doc) (drop (p + 1) es))) (sym k) ∙ ap not (sym h) ∙ sym is
+last_test : (es : List Entry) (p : ℕ) (e : Entry) (key : Bor (List ℕ)) (old : BTreeSet (Bor (List ℕ))) (b : Bool) → key.now ≡ e.doc → b ≡ not (contains text_cmp old key) → contains text_cmp old key ≡ list_any (λ f. same_id key.now f.doc) (drop (p + 1) es) → is_last es (change_at e (p + 1)) ≡ b
+last_test es p e key old b k is h = ap (λ d. not (list_any (λ f. same_id d f.doc) (drop (p + 1) es))) (sym k) ∙ ap not (sym h) ∙ sym is
 
 numbered_from : (es : List Entry) (p : ℕ) (e : Entry) → drop p es ≡ e ∷ drop (p + 1) es → numbered (p + 1) (drop p es) ≡ change_at e (p + 1) ∷ numbered ((p + 1) + 1) (drop (p + 1) es)
 numbered_from es p e d = ap (numbered (p + 1)) d ∙ ap (λ n. change_at e (p + 1) ∷ numbered n (drop (p + 1) es)) (one_more (p + 1))

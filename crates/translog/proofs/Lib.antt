@@ -1,3 +1,5 @@
+pub mod GrowingChanges
 pub mod Growth
 pub mod LastEntries
+pub mod PlaceTests
 pub mod Worked

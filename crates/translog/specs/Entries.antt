@@ -2,15 +2,9 @@
 use Rattle.std.specs.Prelude.{ℕ, zero, suc, Bool, not, ◌&&◌, nat_lt, List, [], ◌∷◌, drop, filter, Option, None}
 use Rattle.std.specs.List.{list_any, slice_get}
 use Rattle.std.specs.Option.{option_map}
-use Rattle.std.specs.Ordering.{eq_by_cmp}
-use Rattle.std.specs.Cmp.Lexicographic.{slice_cmp}
-use Rattle.std.proofs.Common.{nat_cmp}
+use Rattle.u1_base.specs.Ids.{same_id}
 use Rattle.translog.specs.declared.entry.Entry.{Entry}
 use Rattle.translog.specs.declared.entry.Change.{Change}
-
--- whether two document ids are one
-abbrev pub same_doc : List ℕ → List ℕ → Bool
-same_doc = eq_by_cmp (slice_cmp nat_cmp)
 
 -- the transaction id of a generation: none for generation 0 and past the end
 abbrev pub trans_at : List Entry → ℕ → Option (List ℕ)
@@ -28,7 +22,7 @@ numbered n (e ∷ es) = change_at e n ∷ numbered (suc n) es
 
 -- no later entry of the log has the change's document
 abbrev pub is_last : List Entry → Change → Bool
-is_last es c = not (list_any (λ e. same_doc c.doc e.doc) (drop c.generation es))
+is_last es c = not (list_any (λ e. same_id c.doc e.doc) (drop c.generation es))
 
 -- the changes since a generation: the entries after it whose document no later entry repeats, in their order
 abbrev pub changes_since : List Entry → ℕ → List Change

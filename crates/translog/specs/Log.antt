@@ -1,6 +1,8 @@
--- A log as contracts see it, and how a position stands to it.
-use Rattle.std.specs.Prelude.{◌≡◌, ℕ, ◌≤◌, ◌⊎◌, List, length}
-use Rattle.u1_base.specs.declared.position.Position.{Position}
+-- A log as contracts see it, the place at its end, and how a place stands to it.
+use Rattle.std.specs.Prelude.{◌≡◌, ℕ, ◌≤◌, ◌⊎◌, Bool, ◌==◌, ◌||◌, ◌&&◌, nat_le, nat_eq, List, length}
+use Rattle.std.specs.Option.{option_eq}
+use Rattle.std.specs.Cmp.Lexicographic.{pointwise}
+use Rattle.u1_base.specs.Places.{Place}
 use Rattle.translog.specs.declared.entry.Entry.{Entry}
 use Rattle.translog.specs.Entries.{trans_at}
 
@@ -9,11 +11,21 @@ pub record Log : Type 0 where
   pub entries : List Entry
   pub room : ℕ
 
--- a position is the one after all entries
-pub record IsEnd (es : List Entry) (p : Position) : Type 0 where
+-- the place after all entries
+abbrev pub end_of : List Entry → Place
+end_of es = record { generation = length es; trans = trans_at es (length es) }
+
+-- a place is the one after all entries
+pub record IsEnd (es : List Entry) (p : Place) : Type 0 where
   pub generation : p.generation ≡ length es
   pub trans : p.trans ≡ trans_at es (length es)
 
--- a position fits a log: it is the start, or the log has its transaction id at its generation
-abbrev pub FitsLog : List Entry → Position → Type 0
+-- the log check: a place fits a log if it is the start, or if the log has its transaction id at its generation
+abbrev pub FitsLog : List Entry → Place → Type 0
 FitsLog es p = (p.generation ≡ 0) ⊎ ((p.generation ≤ length es) × (trans_at es p.generation ≡ p.trans))
+
+-- the log check as a test
+abbrev pub fits_log : List Entry → Place → Bool
+fits_log es p =
+    p.generation == 0
+    || nat_le p.generation (length es) && option_eq (pointwise nat_eq) (trans_at es p.generation) p.trans

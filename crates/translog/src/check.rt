@@ -1,7 +1,7 @@
 //! How a position that a peer tells stands to the log, and to the one that is kept for the peer.
-ghost use Rattle.std.specs.Prelude.{MatchBool};
+ghost use Rattle.std.specs.Prelude.{◌≡◌, MatchBool};
 ghost use Rattle.translog.specs.Checks.{Checks};
-ghost use Rattle.translog.specs.Source.{GoesBack, GoesOn};
+ghost use Rattle.translog.specs.Source.{GoesBack, GoesOn, passes};
 
 use crate::Log;
 use u1_base::{Position, TransId};
@@ -39,7 +39,8 @@ impl Log {
 
 /// Whether a position lies after the one that is kept, or is that very one.
 pub fn goes_on(kept: &Position, to: &Position) -> bool
-    ensures { MatchBool result (GoesOn kept.now to.now) (GoesBack kept.now to.now) }
+    ensures goes { MatchBool result (GoesOn kept.now to.now) (GoesBack kept.now to.now) }
+    ensures value { result ≡ passes kept.now to.now }
 {
     if to.generation == kept.generation {
         return to.trans == kept.trans;

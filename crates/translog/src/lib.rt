@@ -14,5 +14,5 @@ mod tests;
 
 pub use check::{Check, goes_on};
 pub use entry::{Change, Changes, Entry};
-pub use laws::law_growth;
+pub use laws::{law_changes, law_growth, law_tests};
 pub use log::Log;

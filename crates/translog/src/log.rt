@@ -1,7 +1,7 @@
 //! The log: its entries, its room, its places.
 ghost use Rattle.std.specs.Prelude.{◌≡◌, ◌+◌, ◌-◌, ◌^◌, ◌<◌, ◌≤◌, ◌⊎◌, ◌↔◌, [], ◌∷◌, ◌++◌, IfOk, IsNone, OnErr, OnOk, length, option_copied};
 ghost use Rattle.translog.specs.Entries.{trans_at};
-ghost use Rattle.translog.specs.Log.{IsEnd};
+ghost use Rattle.translog.specs.Log.{end_of};
 
 use crate::Entry;
 use std::alloc::Global;
@@ -38,7 +38,7 @@ impl Log {
         }
     }
 
-    /// Makes room for one more entry. A log of 2^63-1 entries takes no more: that is want of memory.
+    /// Makes room for one more entry. A log of 2^63-1 entries takes no more: it answers `Memory`.
     pub fn reserve(&mut self) -> Result<(), Memory>
         ensures entries { self.new.entries ≡ self.old.entries }
         ensures room { OnOk result (1 ≤ self.new.room) }
@@ -97,7 +97,7 @@ impl Log {
 
     /// The position after all entries.
     pub fn position(&self) -> Result<Position, Memory>
-        ensures { IfOk result (IsEnd self.now.entries) }
+        ensures { IfOk result (λ p. p ≡ end_of self.now.entries) }
     {
         let generation = self.generation();
         let trans = match self.at(generation) {
