@@ -5,17 +5,14 @@ use Rattle.std.proofs.Common.{sym, ◌∙◌, ap, inl, inr}
 use Rattle.std.proofs.lemmas.Bool.{and_parts, and_from}
 use Rattle.vector_rev.specs.Clock.{covers, dominates}
 use Rattle.conflicts.specs.Document.{FitsDocument, no_document}
-use Rattle.conflicts.specs.Kept.{Kept, members, document}
+use Rattle.conflicts.specs.Kept.{Kept, current, document}
 use Rattle.conflicts.specs.declared.member.Member.{Member}
 use Rattle.conflicts.specs.declared.accept.Accept.{Accept}
-use Rattle.conflicts.proofs.Members.{not_true}
+use Rattle.conflicts.proofs.Applied.{only_marked}
+use Rattle.u1_base.proofs.Booleans.{not_true}
 
 pub fits_none : (a : Accept) → IsTrue a.current ↔ FitsDocument no_document a
-fits_none a = (λ h. record { not_older = refl; settled = inl h }, λ f. only_marked f.settled)
-  where
-    only_marked : (a.current ≡ true) ⊎ ⊥ → a.current ≡ true
-    only_marked (inl h) = h
-    only_marked (inr h) = absurd h
+fits_none a = (λ h. record { not_older = refl; settled = inl h }, only_marked a)
 
 either_of : (b k : Bool) → (b || not k) ≡ true → (b ≡ true) ⊎ (k ≡ false)
 either_of true k h = inl refl
@@ -26,7 +23,7 @@ from_either b k (inl h) = ap (λ x. x || not k) h
 from_either true k (inr h) = refl
 from_either false k (inr h) = ap not h
 
-pub fits_is : (k : Kept) (a : Accept) (h c : Bool) (m : Member) → h ≡ list_any (λ n. dominates n.rev a.rev) (members k) → m ≡ k.current → c ≡ covers a.rev m.rev → IsTrue (not h && (a.current || not c)) ↔ FitsDocument (document (Some k)) a
+pub fits_is : (k : Kept) (a : Accept) (h c : Bool) (m : Member) → h ≡ list_any (λ n. dominates n.rev a.rev) k.members → m ≡ current k → c ≡ covers a.rev m.rev → IsTrue (not h && (a.current || not c)) ↔ FitsDocument (document (Some k)) a
 fits_is k a h c m older is covered = (
   λ t.
       let p = and_parts (not h) (a.current || not c) t in
@@ -34,13 +31,13 @@ fits_is k a h c m older is covered = (
   λ f. and_from (not h) (a.current || not c) (ap not (older ∙ f.not_older)) (from_either a.current c (from_settled f.settled)),
 )
   where
-    at : c ≡ covers a.rev k.current.rev
+    at : c ≡ covers a.rev (current k).rev
     at = covered ∙ ap (λ (n : Member). covers a.rev n.rev) is
 
-    to_settled : (a.current ≡ true) ⊎ (c ≡ false) → (a.current ≡ true) ⊎ (covers a.rev k.current.rev ≡ false)
+    to_settled : (a.current ≡ true) ⊎ (c ≡ false) → (a.current ≡ true) ⊎ (covers a.rev (current k).rev ≡ false)
     to_settled (inl h) = inl h
     to_settled (inr h) = inr (sym at ∙ h)
 
-    from_settled : (a.current ≡ true) ⊎ (covers a.rev k.current.rev ≡ false) → (a.current ≡ true) ⊎ (c ≡ false)
+    from_settled : (a.current ≡ true) ⊎ (covers a.rev (current k).rev ≡ false) → (a.current ≡ true) ⊎ (c ≡ false)
     from_settled (inl h) = inl h
     from_settled (inr h) = inr (at ∙ h)

@@ -1,14 +1,17 @@
 -- What is made and what is accepted fits, and a made revision counts more than any member for the own uid.
 use Rattle.std.specs.Prelude.{◌≡◌, ◌≢◌, ℕ, suc, ◌<◌, ◌≤◌, ◌⊎◌, Bool, true, false, cond, not, ◌&&◌, ◌||◌, nat_le, nat_lt, List, [], ◌∷◌, filter, length, Option, Some, None, Result, Err, IfOk, IfSome, refl}
-use Rattle.std.specs.List.{list_any, list_all}
+use Rattle.std.specs.List.{list_any}
 use Rattle.std.specs.Option.{option_map, ok_or}
 use Rattle.std.proofs.Common.{sym, ◌∙◌, ap, ap₂, subst, inl, inr, arith, leb-true, lt-ltb, le_trans}
-use Rattle.std.proofs.lemmas.Bool.{cond_both, and_parts, and_from}
+use Rattle.std.proofs.lemmas.Bool.{cases_lt, cond_both, and_parts, and_from}
 use Rattle.content.specs.Tree.{Tree}
-use Rattle.vector_rev.specs.Counts.{Uid, same_uid, count_in, raised}
+use Rattle.vector_rev.specs.Counts.{Uid, count_in, raised}
 use Rattle.vector_rev.specs.Clock.{Clock, count_of, Covers, covers, dominates}
 use Rattle.vector_rev.specs.Compare.{same}
-use Rattle.vector_rev.proofs.CountsLaws.{count-raised, uid_self, same_uid-tied}
+use Rattle.vector_rev.proofs.CountsLaws.{count-raised}
+use Rattle.u1_base.specs.Ids.{same_id}
+use Rattle.u1_base.proofs.SameIds.{same_id_is, same_id-itself}
+use Rattle.vector_rev.proofs.RoundTrip.{entries-clock_of}
 use Rattle.vector_rev.proofs.ClockLaws.{covers_at, dominates_from, same_decides, not_same}
 use Rattle.conflicts.specs.Lists.{In, is_empty}
 use Rattle.conflicts.specs.Document.{Document, has_rev, others, in_order, is_conflicted, is_live, covers_member, IsKept}
@@ -22,10 +25,12 @@ use Rattle.conflicts.specs.declared.receipts.Taken.{Taken}
 use Rattle.conflicts.specs.declared.receipts.Outcome4.TheVariants.{Conflicted}
 use Rattle.conflicts.specs.declared.edits.EditFault.TheVariants as edit_fault
 use Rattle.conflicts.specs.declared.resolutions.ResolveFault.TheVariants as resolve_fault
-use Rattle.conflicts.proofs.Members.{none_true, not_both, finds, passes_none, In-left, In-right, In-either, In-filter, from_filter, In-map, from_map}
+use Rattle.u1_base.proofs.Booleans.{none_true, not_both}
+use Rattle.conflicts.proofs.Members.{finds, passes_none, In-left, In-right, In-either, In-filter, from_filter, In-map, from_map}
+use Rattle.conflicts.proofs.Apart.{all_at}
 use Rattle.conflicts.proofs.Documents.{members_preorder}
 use Rattle.conflicts.proofs.Pruned.{above_through}
-use Rattle.conflicts.proofs.MadeClocks.{clock_of-entries, count-joined}
+use Rattle.conflicts.proofs.MadeClocks.{count-joined}
 
 -- ---- what a made clock counts
 
@@ -34,23 +39,34 @@ most_counts u p [] i = absurd i
 most_counts u p (q ∷ ps) (inl e) = omega (arith, ap (λ (c : Clock). count_of c u) e)
 most_counts u p (q ∷ ps) (inr i) = omega (arith, most_counts u p ps i)
 
-made_counts : (own : Uid) (ps : List Clock) (r : Clock) → made_clock own ps ≡ Some r → (u : Uid) → count_of r u ≡ cond (same_uid u own) (suc (greatest own ps)) (greatest u ps)
+-- some clock has the greatest counter, where there are clocks
+greatest_parent : (u : Uid) (ps : List Clock) → ps ≢ [] → (p : Clock) × In p ps × (count_of p u ≡ greatest u ps)
+greatest_parent u [] some = absurd (some refl)
+greatest_parent u (p ∷ []) some = (p, inl refl, omega arith)
+greatest_parent u (p ∷ q ∷ ps) some =
+    let r = greatest_parent u (q ∷ ps) (λ e. cc) in
+    elim (cases_lt (count_of p u) (greatest u (q ∷ ps))) [
+      | inl less ↦ (r.0, inr r.1, omega (arith, r.2, less))
+      | inr most ↦ (p, inl refl, omega (arith, most))
+    ]
+
+made_counts : (own : Uid) (ps : List Clock) (r : Clock) → made_clock own ps ≡ Some r → (u : Uid) → count_of r u ≡ cond (same_id u own) (suc (greatest own ps)) (greatest u ps)
 made_counts own ps r e u =
-    ap (λ es. count_in es u) (clock_of-entries (raised (joined ps) own) r e)
+    ap (λ es. count_in es u) (sym (entries-clock_of r (raised (joined ps) own) e))
     ∙ count-raised (joined ps) own u
-    ∙ ap₂ (λ (m n : ℕ). cond (same_uid u own) (suc m) n) (count-joined own ps) (count-joined u ps)
+    ∙ ap₂ (λ (m n : ℕ). cond (same_id u own) (suc m) n) (count-joined own ps) (count-joined u ps)
 
 made_own : (own : Uid) (ps : List Clock) (r : Clock) → made_clock own ps ≡ Some r → count_of r own ≡ suc (greatest own ps)
-made_own own ps r e = made_counts own ps r e own ∙ ap (λ b. cond b (suc (greatest own ps)) (greatest own ps)) (uid_self own)
+made_own own ps r e = made_counts own ps r e own ∙ ap (λ b. cond b (suc (greatest own ps)) (greatest own ps)) (same_id-itself own)
 
 made_other : (own : Uid) (ps : List Clock) (r : Clock) → made_clock own ps ≡ Some r → (u : Uid) → u ≢ own → count_of r u ≡ greatest u ps
 made_other own ps r e u other = made_counts own ps r e u ∙ ap (λ b. cond b (suc (greatest own ps)) (greatest u ps)) (not_same u own other)
 
 made_covers : (own : Uid) (ps : List Clock) (r : Clock) → made_clock own ps ≡ Some r → (p : Clock) → In p ps → Covers r p
 made_covers own ps r e p i u =
-    elim (same_uid u own) as (λ b. same_uid u own ≡ b → count_of p u ≤ count_of r u) [
+    elim (same_id u own) as (λ b. same_id u own ≡ b → count_of p u ≤ count_of r u) [
       | true ↦ λ t.
-          subst (λ v. count_of p v ≤ count_of r v) (sym (same_uid-tied u own t)) (omega (arith, most_counts own p ps i, made_own own ps r e))
+          subst (λ v. count_of p v ≤ count_of r v) (sym (same_id_is u own t)) (omega (arith, most_counts own p ps i, made_own own ps r e))
       | false ↦ λ f.
           let at : count_of r u ≡ greatest u ps = made_counts own ps r e u ∙ ap (λ b. cond b (suc (greatest own ps)) (greatest u ps)) f in
           omega (arith, most_counts u p ps i)
@@ -64,16 +80,17 @@ made_above own ps r e p i =
 smaller : (x y : Clock) (u : Uid) → count_of x u < count_of y u → covers x y ≡ false
 smaller x y u less = none_true _ (λ c. absurd (omega (arith, covers_at x y c u)))
 
-is_made : (own : Uid) (ms : List Member) (a : Accept) → made_clock own a.parents ≡ Some a.rev → ((m : Member) → In m ms → count_of m.rev own ≤ greatest own a.parents) → IsMade own ms a
+pub is_made : (own : Uid) (ms : List Member) (a : Accept) → made_clock own a.parents ≡ Some a.rev → ((m : Member) → In m ms → count_of m.rev own ≤ greatest own a.parents) → IsMade own ms a
 is_made own ms a e most = record {
   own_counter = omega (arith, made_own own a.parents a.rev e);
   others = made_other own a.parents a.rev e;
+  greatest_parent = λ u some. greatest_parent u a.parents some;
   above = made_above own a.parents a.rev e;
   fresh = λ m i. omega (arith, made_own own a.parents a.rev e, most m i);
 }
 
 -- a fresh revision is older than no member
-not_older : (own : Uid) (ms : List Member) (a : Accept) → IsMade own ms a → list_any (λ m. dominates m.rev a.rev) ms ≡ false
+pub not_older : (own : Uid) (ms : List Member) (a : Accept) → IsMade own ms a → list_any (λ m. dominates m.rev a.rev) ms ≡ false
 not_older own ms a made = passes_none (λ m. dominates m.rev a.rev) ms (λ m i. ap (λ b. b && not (covers a.rev m.rev)) (smaller m.rev a.rev own (made.fresh m i)))
 
 -- a fresh revision that is not newer than a member does not cover it
@@ -87,7 +104,7 @@ made_ok : {E : Type 0} (f : Clock → Accept) (o : Option Clock) (e : E) (P : Ac
 made_ok f None e P h = tt
 made_ok f (Some r) e P h = h r refl
 
-made_some : (f : Clock → Accept) (o : Option Clock) (P : Accept → Type 0) → ((r : Clock) → o ≡ Some r → P (f r)) → IfSome (option_map f o) P
+pub made_some : (f : Clock → Accept) (o : Option Clock) (P : Accept → Type 0) → ((r : Clock) → o ≡ Some r → P (f r)) → IfSome (option_map f o) P
 made_some f None P h = tt
 made_some f (Some r) P h = h r refl
 
@@ -130,6 +147,7 @@ edit_makes own d c m one t r e =
     let a : Accept = record { rev = r; content = t; making = Edit; parents = c ∷ []; current = true } in
     let made : IsMade own d.members a = is_made own d.members a e (λ n i. subst (λ (k : Clock). count_of k own ≤ greatest own (c ∷ [])) (sym (ap (λ (z : Member). z.rev) (only_one d.members m.0 n (at_most_one d.members one) m.1 i) ∙ m.2)) (most_counts own c (c ∷ []) (inl refl))) in
     record {
+      own_making = refl;
       fits = record { not_older = not_older own d.members a made; settled = inl refl };
       made = made;
       parents = λ p i. elim i [ inl q ↦ (m.0, m.1, m.2 ∙ sym q) | inr z ↦ absurd z ];
@@ -139,7 +157,7 @@ first_makes : (own : Uid) (d : Document) → d.members ≡ [] → (t : Option Tr
 first_makes own d none t r e =
     let a : Accept = record { rev = r; content = t; making = Edit; parents = []; current = true } in
     let made : IsMade own d.members a = is_made own d.members a e (λ n i. absurd (subst (In n) none i)) in
-    record { fits = record { not_older = not_older own d.members a made; settled = inl refl }; made = made; parents = λ p i. absurd i }
+    record { own_making = refl; fits = record { not_older = not_older own d.members a made; settled = inl refl }; made = made; parents = λ p i. absurd i }
 
 edited_makes_at : (own : Uid) (d : Document) (c : Option Clock) → CurrentIs d.members c → (rev : Option Clock) (t : Tree) → IfOk (edited_at c d rev t own) (MakesOf own d)
 edited_makes_at own d None none None t =
@@ -180,6 +198,7 @@ resolution_makes own d c now m named t least r e =
     let a : Accept = record { rev = r; content = t; making = Resolve; parents = ps; current = list_any (λ p. same p c) ps || dominates r c } in
     let made : IsMade own d.members a = is_made own d.members a e (λ n i. le_trans (most_counts own n.rev (revs (in_order c d.members)) (In-map (λ k. k.rev) n (in_order c d.members) (to_order c d.members n i))) (not_less _ _ least)) in
     record {
+      own_making = refl;
       fits = record { not_older = not_older own d.members a made; settled = made_settled own d c now m a made (list_any (λ p. same p c) ps) refl };
       made = made;
       parents = λ p i.
@@ -204,15 +223,15 @@ resolved_makes d w named t own = resolved_makes_at own d d.current refl w.curren
 -- ---- receipts
 
 -- what holds of each row where it is the first that applies
-abbrev EachRow : (Taken → Type 0) → List Row → Taken → Type 0
+abbrev pub EachRow : (Taken → Type 0) → List Row → Taken → Type 0
 EachRow P [] last = P last
 EachRow P (r ∷ rs) last = (r.0 ≡ true → P r.1) × (r.0 ≡ false → EachRow P rs last)
 
-by_rows : (P : Taken → Type 0) (rs : List Row) (last : Taken) → EachRow P rs last → P (first_row rs last)
+pub by_rows : (P : Taken → Type 0) (rs : List Row) (last : Taken) → EachRow P rs last → P (first_row rs last)
 by_rows P [] last h = h
 by_rows P (r ∷ rs) last h = cond_both r.0 r.1 (first_row rs last) P h.0 (λ e. by_rows P rs last (h.1 e))
 
-takes_received : (own : Uid) (d : Document) (x : Member) → list_any (λ m. dominates m.rev x.rev) d.members ≡ false → TakesOf own d x (received x)
+pub takes_received : (own : Uid) (d : Document) (x : Member) → list_any (λ m. dominates m.rev x.rev) d.members ≡ false → TakesOf own d x (received x)
 takes_received own d x none = record {
   fits = record { not_older = none; settled = inl refl };
   received = λ _. (refl, refl);
@@ -222,7 +241,7 @@ takes_received own d x none = record {
 
 module _ (own : Uid) (d : Document) (w : IsDocument d) (c : Clock) (now : d.current ≡ Some c) (m : CurrentIs d.members (Some c)) (x : Member) where
   -- no member is newer where neither the current one nor another one is
-  none_newer : dominates c x.rev ≡ false → list_any (λ n. dominates n.rev x.rev) (others c d.members) ≡ false → list_any (λ n. dominates n.rev x.rev) d.members ≡ false
+  pub none_newer : dominates c x.rev ≡ false → list_any (λ n. dominates n.rev x.rev) (others c d.members) ≡ false → list_any (λ n. dominates n.rev x.rev) d.members ≡ false
   none_newer p q =
       passes_none (λ n. dominates n.rev x.rev) d.members (λ n i.
       elim (same n.rev c) as (λ b. same n.rev c ≡ b → dominates n.rev x.rev ≡ false) [
@@ -231,7 +250,7 @@ module _ (own : Uid) (d : Document) (w : IsDocument d) (c : Clock) (now : d.curr
       ] refl)
 
   -- no member is newer than what is newer than the current one
-  none_newer_above : dominates x.rev c ≡ true → list_any (λ n. dominates n.rev x.rev) d.members ≡ false
+  pub none_newer_above : dominates x.rev c ≡ true → list_any (λ n. dominates n.rev x.rev) d.members ≡ false
   none_newer_above n =
       passes_none (λ k. dominates k.rev x.rev) d.members (λ k i. none_true _ (λ t.
       not_both _
@@ -241,7 +260,7 @@ module _ (own : Uid) (d : Document) (w : IsDocument d) (c : Clock) (now : d.curr
       (w.apart m.0 m.1)))
 
   -- a member counts no more than a revision that is merged
-  merge_least : may_merge (in_order c d.members) x own ≡ true → (n : Member) → In n d.members → count_of n.rev own ≤ greatest own (merge_parents x (in_order c d.members))
+  pub merge_least : may_merge (in_order c d.members) x own ≡ true → (n : Member) → In n d.members → count_of n.rev own ≤ greatest own (merge_parents x (in_order c d.members))
   merge_least may n i =
       let ms = in_order c d.members in
       let j : In n (in_order c d.members) = to_order c d.members n i in
@@ -251,16 +270,11 @@ module _ (own : Uid) (d : Document) (w : IsDocument d) (c : Clock) (now : d.curr
           | true ↦ λ s. most_counts own n.rev (merge_parents x ms) (inr (In-map (λ k. k.rev) n (alike x ms) (In-filter (is_alike x) n ms j (ap₂ (λ a b. not a && b) e s))))
           | false ↦ λ s.
               leb-true (count_of n.rev own) (greatest own (merge_parents x ms))
-              (all_true (λ k. nat_le (count_of k.rev own) (greatest own (merge_parents x ms))) n (unlike x ms)
+              (all_at (λ k. nat_le (count_of k.rev own) (greatest own (merge_parents x ms))) n (unlike x ms)
               (and_parts (not (is_empty (alike x ms))) _ may).1
               (In-filter (is_unlike x) n ms j (ap₂ (λ a b. not a && not b) e s)))
         ] refl
       ] refl
-    where
-      all_true : (p : Member → Bool) (k : Member) (ks : List Member) → list_all p ks ≡ true → In k ks → p k ≡ true
-      all_true p k [] h i = absurd i
-      all_true p k (z ∷ ks) h (inl e) = ap p e ∙ (and_parts (p z) (list_all p ks) h).0
-      all_true p k (z ∷ ks) h (inr i) = all_true p k ks (and_parts (p z) (list_all p ks) h).1 i
 
   merge_takes : (save : Bool) → may_merge (in_order c d.members) x own ≡ true → (r : Clock) → made_clock own (merge_parents x (in_order c d.members)) ≡ Some r →
       TakesOf own d x (record { rev = r; content = x.content; making = Merge; parents = merge_parents x (in_order c d.members); current = save || has_rev (alike x (in_order c d.members)) c || dominates r c })

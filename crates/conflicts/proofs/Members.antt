@@ -1,23 +1,9 @@
 -- Membership in a list, and how a test of a list, a filter and a map read it.
-use Rattle.std.specs.Prelude.{◌≡◌, Bool, true, false, cond, not, ◌&&◌, ◌||◌, ◌⊎◌, List, [], ◌∷◌, ◌++◌, filter, map, refl}
+use Rattle.std.specs.Prelude.{◌≡◌, Bool, true, false, cond, ◌&&◌, ◌||◌, ◌⊎◌, List, [], ◌∷◌, ◌++◌, filter, map, refl}
 use Rattle.std.specs.List.{list_any}
 use Rattle.std.proofs.Common.{sym, ◌∙◌, ap, subst, inl, inr, true≢false}
+use Rattle.u1_base.proofs.Booleans.{none_true, not_both}
 use Rattle.conflicts.specs.Lists.{In}
-
-pub none_true : (b : Bool) → (b ≡ true → ⊥) → b ≡ false
-none_true true h = absurd (h refl)
-none_true false h = refl
-
-pub some_true : (b : Bool) → (b ≡ false → ⊥) → b ≡ true
-some_true true h = refl
-some_true false h = absurd (h refl)
-
-pub not_both : (b : Bool) → b ≡ true → b ≡ false → ⊥
-not_both b p q = true≢false (sym p ∙ q)
-
-pub not_true : (b : Bool) → not b ≡ true → b ≡ false
-not_true true e = absurd (true≢false (sym e))
-not_true false e = refl
 
 module _ {A : Type 0} where
   pub In-left : (x : A) (xs ys : List A) → In x xs → In x (xs ++ ys)

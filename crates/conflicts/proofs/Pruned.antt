@@ -8,7 +8,8 @@ use Rattle.std.proofs.lemmas.List.Elements.{filter-append, filter_agree}
 use Rattle.std.proofs.lemmas.List.Folds.{list_any-append}
 use Rattle.conflicts.specs.Lists.{In}
 use Rattle.conflicts.specs.Pruning.{IsPreorder, is_above, is_equal, last_ones, undominated, pruned, pruned_all, AllCovered}
-use Rattle.conflicts.proofs.Members.{not_both, not_true, none_true, In-left, In-last, In-push, found, finds, In-filter, from_filter, filter-filter}
+use Rattle.u1_base.proofs.Booleans.{not_both, not_true, none_true}
+use Rattle.conflicts.proofs.Members.{In-left, In-last, In-push, found, finds, In-filter, from_filter, filter-filter}
 
 module _ {A : Type 0} (covers : A → A → Bool) where
   last_ones-push : (xs : List A) (a : A) → last_ones covers (xs ++ a ∷ []) ≡ filter (λ b. not (is_equal covers a b)) (last_ones covers xs) ++ a ∷ []

@@ -1,128 +1,127 @@
--- A kept document: its parts determine it, and what is asked of it as a document is asked of its parts.
-use Rattle.std.specs.Prelude.{◌≡◌, Bool, true, false, cond, not, ◌&&◌, ◌||◌, T, List, [], ◌∷◌, ◌++◌, filter, Option, Some, is_some, is_none, refl}
-use Rattle.std.specs.List.{list_all}
-use Rattle.std.proofs.Common.{sym, ◌∙◌, ap, ap₂, subst, inl, inr}
-use Rattle.std.proofs.lemmas.Bool.{and_parts}
-use Rattle.std.proofs.lemmas.List.Elements.{filter-append}
+-- A kept document: what is asked of it as a document is asked of its members and of the place of the current one.
+use Rattle.std.specs.Prelude.{◌≡◌, ℕ, zero, suc, ◌-◌, ◌<◌, ◌≤◌, Bool, true, false, cond, not, ◌||◌, T, List, [], ◌∷◌, ◌++◌, filter, length, slice_get, Option, None, Some, is_some, is_none, refl}
+use Rattle.std.proofs.Common.{sym, ◌∙◌, ap, arith}
+use Rattle.std.proofs.lemmas.Option.{same_Some, slice_get_within}
 use Rattle.content.specs.Tree.{Tree}
-use Rattle.vector_rev.specs.Counts.{first, second, T_true}
-use Rattle.vector_rev.specs.Clock.{Clock, covers, dominates}
+use Rattle.vector_rev.proofs.Truths.{T_true}
+use Rattle.vector_rev.specs.Clock.{Clock}
 use Rattle.vector_rev.specs.Compare.{same}
-use Rattle.vector_rev.proofs.ClockLaws.{same_decides, covers-itself}
 use Rattle.conflicts.specs.Lists.{In}
-use Rattle.conflicts.specs.Document.{has_rev, others, in_order, content_at, content_of, is_live}
-use Rattle.conflicts.specs.Kept.{Kept, are_apart, all_apart, members, current_first, document, same_kept}
+use Rattle.conflicts.specs.Document.{has_rev, others, content_at, current_member, content_of, is_live}
+use Rattle.conflicts.specs.Kept.{Kept, all_apart, value_of, current, current_first, document}
 use Rattle.conflicts.specs.Decision.{is_alike, alike}
 use Rattle.conflicts.specs.declared.member.Member.{Member}
-use Rattle.conflicts.proofs.Members.{none_true, not_both, not_true, filter_whole, filter_nothing, passes_none, from_filter, In-either}
+use Rattle.conflicts.proofs.Apart.{same_itself, In-get, other_clock, one_at, without, others_at}
+use Rattle.u1_base.proofs.Booleans.{not_true}
+use Rattle.conflicts.proofs.Members.{passes_none, from_filter}
 
-pub same_kept_from : (j k : Kept) → j.before ≡ k.before → j.current ≡ k.current → j.after ≡ k.after → j ≡ k
-same_kept_from j k b c a = same_kept j k (λ i. (b i, (c i, a i)))
+-- ---- the current member
 
-pub same_itself : (c : Clock) → same c c ≡ true
-same_itself c = (same_decides c c).1 refl
+value_is : {A : Type 0} (o : Option A) (there : T (is_some o)) → o ≡ Some (value_of o there)
+value_is None there = absurd there
+value_is (Some x) there = refl
 
--- a clock that another one does not cover is another clock
-pub not_covered_not_same : (x y : Clock) → covers x y ≡ false → same x y ≡ false
-not_covered_not_same x y h =
-    none_true _ (λ e. not_both _ (subst (λ z. covers x z ≡ true) ((same_decides x y).0 e) (covers-itself x)) h)
+-- it stands at its place
+pub current_at : (k : Kept) → slice_get k.members k.place ≡ Some (current k)
+current_at k = value_is (slice_get k.members k.place) k.there
 
--- ---- no two members are ordered
+pub is_current : (k : Kept) (m : Member) → slice_get k.members k.place ≡ Some m → m ≡ current k
+is_current k m e = same_Some m (current k) (sym e ∙ current_at k)
 
-all_at : {A : Type 0} (p : A → Bool) (x : A) (xs : List A) → T (list_all p xs) → In x xs → p x ≡ true
-all_at p x [] h i = absurd i
-all_at p x (y ∷ ys) h (inl e) = ap p e ∙ T_true _ (first _ _ h)
-all_at p x (y ∷ ys) h (inr i) = all_at p x ys (second (p y) _ h) i
+pub place_there : (k : Kept) → k.place < length k.members
+place_there k = slice_get_within k.members k.place (current k) (current_at k)
 
-list_all-behind : {A : Type 0} (p : A → Bool) (xs ys : List A) → T (list_all p (xs ++ ys)) → T (list_all p ys)
-list_all-behind p [] ys h = h
-list_all-behind p (x ∷ xs) ys h = list_all-behind p xs ys (second (p x) _ h)
+pub current_in : (k : Kept) → In (current k) k.members
+current_in k = In-get k.members k.place (current k) (current_at k)
 
-apart_behind : (xs ys : List Member) → T (all_apart (xs ++ ys)) → T (all_apart ys)
-apart_behind [] ys h = h
-apart_behind (x ∷ xs) ys h = apart_behind xs ys (second (list_all (are_apart x) (xs ++ ys)) _ h)
+pub kept_apart : (k : Kept) → all_apart k.members ≡ true
+kept_apart k = T_true _ k.apart
 
-apart_front : (xs ys : List Member) (m n : Member) → T (all_apart (xs ++ m ∷ ys)) → In n xs → are_apart n m ≡ true
-apart_front [] ys m n h i = absurd i
-apart_front (x ∷ xs) ys m n h (inl e) =
-    subst (λ z. are_apart z m ≡ true) (sym e)
-    (T_true _ (first (are_apart x m) (list_all (are_apart x) ys) (list_all-behind (are_apart x) xs (m ∷ ys) (first _ _ h))))
-apart_front (x ∷ xs) ys m n h (inr i) = apart_front xs ys m n (second (list_all (are_apart x) (xs ++ m ∷ ys)) _ h) i
+-- a member at another place has another clock
+pub other_at : (k : Kept) (i : ℕ) (m : Member) → slice_get k.members i ≡ Some m → (i ≡ k.place → ⊥) → same m.rev (current k).rev ≡ false
+other_at k i m e other = other_clock k.members (kept_apart k) i k.place m (current k) e (current_at k) other
 
-other_clock : (m n : Member) → are_apart m n ≡ true → (same m.rev n.rev ≡ false) × (same n.rev m.rev ≡ false)
-other_clock m n h =
-    let p = and_parts (not (covers m.rev n.rev)) (not (covers n.rev m.rev)) h in
-    (not_covered_not_same m.rev n.rev (not_true _ p.0), not_covered_not_same n.rev m.rev (not_true _ p.1))
+-- ---- the members, the current one first
 
-before_other : (k : Kept) (m : Member) → In m k.before → same m.rev k.current.rev ≡ false
-before_other k m i = (other_clock m k.current (apart_front k.before k.after k.current m k.apart i)).0
+pub current_first_is : (k : Kept) → current_first k ≡ current k ∷ others (current k).rev k.members
+current_first_is k =
+    ap (λ (ms : List Member). ms ++ others (current k).rev k.members) (one_at k.members k.place (current k) (kept_apart k) (current_at k))
 
-after_other : (k : Kept) (m : Member) → In m k.after → same m.rev k.current.rev ≡ false
-after_other k m i =
-    (other_clock k.current m (all_at (are_apart k.current) m k.after (first _ _ (apart_behind k.before (k.current ∷ k.after) k.apart)) i)).1
+without_before : {A : Type 0} (xs : List A) (place i : ℕ) → i < place → slice_get (without place xs) i ≡ slice_get xs i
+without_before [] place i less = refl
+without_before (x ∷ xs) zero i less = absurd (omega (arith, less))
+without_before (x ∷ xs) (suc place) zero less = refl
+without_before (x ∷ xs) (suc place) (suc i) less = without_before xs place i (omega (arith, less))
 
--- no other member has the current revision
-pub rest_other : (k : Kept) (m : Member) → In m (k.before ++ k.after) → same m.rev k.current.rev ≡ false
-rest_other k m i = elim (In-either m k.before k.after i) [ inl b ↦ before_other k m b | inr a ↦ after_other k m a ]
+without_behind : {A : Type 0} (xs : List A) (place i : ℕ) → place ≤ i → slice_get (without place xs) i ≡ slice_get xs (suc i)
+without_behind [] place i most = refl
+without_behind (x ∷ xs) zero i most = refl
+without_behind (x ∷ xs) (suc place) zero most = absurd (omega (arith, most))
+without_behind (x ∷ xs) (suc place) (suc i) most = without_behind xs place i (omega (arith, most))
 
--- ---- the others, and the members with the current one first
+listed : (k : Kept) → current_first k ≡ current k ∷ without k.place k.members
+listed k =
+    current_first_is k ∙ ap (λ ms. current k ∷ ms) (others_at k.members k.place (current k) (kept_apart k) (current_at k))
 
-pub others_kept : (k : Kept) → others k.current.rev (members k) ≡ k.before ++ k.after
-others_kept k =
-    let q = λ (m : Member). not (same m.rev k.current.rev) in
-    filter-append q k.before (k.current ∷ k.after)
-    ∙ ap₂ (λ (xs ys : List Member). xs ++ ys) (filter_whole q k.before (λ m i. ap not (before_other k m i)))
-    (ap (λ b. cond (not b) (k.current ∷ filter q k.after) (filter q k.after)) (same_itself k.current.rev) ∙ filter_whole q k.after (λ m i. ap not (after_other k m i)))
+pub first_listed : (k : Kept) (m : Member) → m ≡ current k → Some m ≡ slice_get (current_first k) 0
+first_listed k m e = ap Some e ∙ ap (λ (ms : List Member). slice_get ms 0) (sym (listed k))
 
-only_current : (k : Kept) → filter (λ m. same m.rev k.current.rev) (members k) ≡ k.current ∷ []
-only_current k =
-    let q = λ (m : Member). same m.rev k.current.rev in
-    filter-append q k.before (k.current ∷ k.after)
-    ∙ ap₂ (λ (xs ys : List Member). xs ++ ys) (filter_nothing q k.before (before_other k))
-    (ap (λ b. cond b (k.current ∷ filter q k.after) (filter q k.after)) (same_itself k.current.rev) ∙ ap (λ r. k.current ∷ r) (filter_nothing q k.after (after_other k)))
+pub listed_before : (k : Kept) (i : ℕ) → (i ≡ 0 → ⊥) → i ≤ k.place → slice_get k.members (i - 1) ≡ slice_get (current_first k) i
+listed_before k zero some most = absurd (some refl)
+listed_before k (suc i) some most =
+    ap (slice_get k.members) (one_less i)
+    ∙ sym (without_before k.members k.place i (omega (arith, most)))
+    ∙ ap (λ (ms : List Member). slice_get ms (suc i)) (sym (listed k))
+  where
+    one_less : (i : ℕ) → suc i - 1 ≡ i
+    one_less i = omega arith
 
-pub in_order_kept : (k : Kept) → in_order k.current.rev (members k) ≡ current_first k
-in_order_kept k = ap₂ (λ (xs ys : List Member). xs ++ ys) (only_current k) (others_kept k)
+pub listed_behind : (k : Kept) (i : ℕ) → k.place < i → slice_get k.members i ≡ slice_get (current_first k) i
+listed_behind k zero most = absurd (omega (arith, most))
+listed_behind k (suc i) most =
+    sym (without_behind k.members k.place i (omega (arith, most)))
+    ∙ ap (λ (ms : List Member). slice_get ms (suc i)) (sym (listed k))
 
 -- ---- the content of the current member
 
-content_past : (c : Clock) (xs ys : List Member) → ((m : Member) → In m xs → same m.rev c ≡ false) → content_at c (xs ++ ys) ≡ content_at c ys
-content_past c [] ys h = refl
-content_past c (x ∷ xs) ys h =
-    ap (λ b. cond b x.content (content_at c (xs ++ ys))) (h x (inl refl)) ∙ content_past c xs ys (λ m i. h m (inr i))
+content_there : (ms : List Member) (place : ℕ) (c : Member) → all_apart ms ≡ true → slice_get ms place ≡ Some c → content_at c.rev ms ≡ c.content
+content_there ms place c h e = through (one_at ms place c h e)
+  where
+    -- the first member with the clock is the first one that a filter by it leaves
+    first_left : (r : Clock) (ns : List Member) (n : Member) (more : List Member) → filter (λ m. same m.rev r) ns ≡ n ∷ more → content_at r ns ≡ n.content
+    first_left r [] n more q = cc
+    first_left r (x ∷ ns) n more q =
+        elim (same x.rev r) as (λ b. cond b (x ∷ filter (λ m. same m.rev r) ns) (filter (λ m. same m.rev r) ns) ≡ n ∷ more → cond b x.content (content_at r ns) ≡ n.content) [
+          | true ↦ λ z. ap (λ (ms : List Member). head_content n ms) z
+          | false ↦ λ z. first_left r ns n more z
+        ] q
+      where
+        head_content : Member → List Member → Option Tree
+        head_content n [] = n.content
+        head_content n (m ∷ ms) = m.content
 
-pub content_kept : (k : Kept) → content_of (document (Some k)) ≡ k.current.content
-content_kept k =
-    content_past k.current.rev k.before (k.current ∷ k.after) (before_other k)
-    ∙ ap (λ b. cond b k.current.content (content_at k.current.rev k.after)) (same_itself k.current.rev)
+    through : filter (λ m. same m.rev c.rev) ms ≡ c ∷ [] → content_at c.rev ms ≡ c.content
+    through q = first_left c.rev ms c [] q
+
+pub content_kept : (k : Kept) → content_of (document (Some k)) ≡ (current k).content
+content_kept k = content_there k.members k.place (current k) (kept_apart k) (current_at k)
+
+pub member_kept : (k : Kept) → current_member (document (Some k)) ≡ Some (current k)
+member_kept k = ap (λ t. Some (record { rev = (current k).rev; content = t })) (content_kept k)
 
 -- the current member is among those that are alike where it is alike
-pub alike_current : (k : Kept) (x : Member) → has_rev (alike x (current_first k)) k.current.rev ≡ is_alike x k.current
+pub alike_current : (k : Kept) (x : Member) → has_rev (alike x (current_first k)) (current k).rev ≡ is_alike x (current k)
 alike_current k x =
-    elim (is_alike x k.current) as (λ b. has_rev (cond b (k.current ∷ alike x (k.before ++ k.after)) (alike x (k.before ++ k.after))) k.current.rev ≡ b) [
-      | true ↦ ap (λ b. b || has_rev (alike x (k.before ++ k.after)) k.current.rev) (same_itself k.current.rev)
-      | false ↦ passes_none (λ m. same m.rev k.current.rev) (alike x (k.before ++ k.after)) (λ m i. rest_other k m (from_filter (is_alike x) m (k.before ++ k.after) i).0)
+    let rest = others (current k).rev k.members in
+    let none : has_rev (alike x rest) (current k).rev ≡ false =
+    passes_none (λ m. same m.rev (current k).rev) (alike x rest) (λ m i.
+    not_true _ (from_filter (λ m. not (same m.rev (current k).rev)) m k.members (from_filter (is_alike x) m rest i).0).1) in
+    ap (λ (ms : List Member). has_rev (alike x ms) (current k).rev) (current_first_is k)
+    ∙ elim (is_alike x (current k)) as (λ b. has_rev (cond b (current k ∷ alike x rest) (alike x rest)) (current k).rev ≡ b) [
+      | true ↦ ap (λ b. b || has_rev (alike x rest) (current k).rev) (same_itself (current k).rev)
+      | false ↦ none
     ]
 
--- no member dominates a member
-not_newer_itself : (c : Clock) → dominates c c ≡ false
-not_newer_itself c = ap (λ b. b && not b) (covers-itself c)
-
-apart_not : (m n : Member) → are_apart m n ≡ true → (dominates m.rev n.rev ≡ false) × (dominates n.rev m.rev ≡ false)
-apart_not m n h =
-    let p = and_parts (not (covers m.rev n.rev)) (not (covers n.rev m.rev)) h in
-    (ap (λ b. b && not (covers n.rev m.rev)) (not_true _ p.0), ap (λ b. b && not (covers m.rev n.rev)) (not_true _ p.1))
-
-pub ordered_not : (ms : List Member) (n m : Member) → T (all_apart ms) → In n ms → In m ms → dominates n.rev m.rev ≡ false
-ordered_not [] n m h i j = absurd i
-ordered_not (x ∷ ms) n m h (inl p) (inl q) =
-    ap (λ (k : Member). dominates k.rev m.rev) p ∙ ap (λ (k : Member). dominates x.rev k.rev) q ∙ not_newer_itself x.rev
-ordered_not (x ∷ ms) n m h (inl p) (inr j) =
-    ap (λ (k : Member). dominates k.rev m.rev) p ∙ (apart_not x m (all_at (are_apart x) m ms (first _ _ h) j)).0
-ordered_not (x ∷ ms) n m h (inr i) (inl q) =
-    ap (λ (k : Member). dominates n.rev k.rev) q ∙ (apart_not x n (all_at (are_apart x) n ms (first _ _ h) i)).1
-ordered_not (x ∷ ms) n m h (inr i) (inr j) = ordered_not ms n m (second (list_all (are_apart x) ms) _ h) i j
-
 -- an edit that names no revision
-pub named_none : (k : Kept) (o : Option Tree) (b : Bool) → o ≡ k.current.content → b ≡ is_none o → b ≡ not (is_live (document (Some k)))
+pub named_none : (k : Kept) (o : Option Tree) (b : Bool) → o ≡ (current k).content → b ≡ is_none o → b ≡ not (is_live (document (Some k)))
 named_none k o b e is = is ∙ ap (λ (t : Option Tree). not (is_some t)) (e ∙ sym (content_kept k))

@@ -4,7 +4,7 @@ use Rattle.std.specs.Prelude.{◌↔◌, IsTrue}
 use Rattle.content.specs.Tree.{Tree}
 use Rattle.content.specs.Values.{is_same}
 use Rattle.content.proofs.SameTrees.{is_same-Decides}
-use Rattle.conflicts.proofs.Members.{none_true}
+use Rattle.u1_base.proofs.Booleans.{none_true}
 
 -- a truth that tells whether two trees are equal is the test's
 pub told_same : (b : Bool) (t u : Tree) → (IsTrue b ↔ (t ≡ u)) → b ≡ is_same t u

@@ -1,6 +1,7 @@
 -- A document: which of its accepted revisions are its members, and which of them is the current one.
 use Rattle.std.specs.Prelude.{◌≡◌, ◌⊎◌, Bool, true, false, cond, not, ◌&&◌, ◌||◌, List, [], ◌∷◌, ◌++◌, length, filter, map, nat_lt, is_some, Option, Some, None}
 use Rattle.std.specs.List.{list_any}
+use Rattle.std.specs.Option.{option_map}
 use Rattle.content.specs.Tree.{Tree}
 use Rattle.vector_rev.specs.Clock.{Clock, covers, dominates}
 use Rattle.vector_rev.specs.Compare.{same}
@@ -90,6 +91,10 @@ content_now (Some c) ms = content_at c ms
 -- the content of the current member
 abbrev pub content_of : Document → Option Tree
 content_of d = content_now d.current d.members
+
+-- the current member
+abbrev pub current_member : Document → Option Member
+current_member d = option_map (λ c. record { rev = c; content = content_at c d.members }) d.current
 
 -- the document is live: its current member has a content
 abbrev pub is_live : Document → Bool

@@ -4,5 +4,8 @@ pub mod Document
 pub mod Kept
 pub mod Making
 pub mod Decision
+pub mod Walk
 pub mod State
 pub mod Laws
+pub mod Acceptances
+pub mod Receipts

@@ -1,4 +1,4 @@
--- Membership in a list, and the first and the last of a list.
+-- Membership in a list, and the last of a list.
 use Rattle.std.specs.Prelude.{◌≡◌, ◌⊎◌, Bool, true, false, List, [], ◌∷◌}
 
 -- x stands in the list
@@ -9,11 +9,6 @@ In x (y ∷ ys) = (x ≡ y) ⊎ In x ys
 abbrev pub is_empty : {A : Type 0} → List A → Bool
 is_empty [] = true
 is_empty (x ∷ xs) = false
-
--- the first of the list, or else a
-abbrev pub first_or : {A : Type 0} → A → List A → A
-first_or a [] = a
-first_or a (x ∷ xs) = x
 
 -- the last of the list, or else a
 abbrev pub last_or : {A : Type 0} → A → List A → A

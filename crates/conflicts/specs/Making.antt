@@ -3,8 +3,8 @@ use Rattle.std.specs.Prelude.{ℕ, max, Bool, true, not, ◌||◌, ◌==◌, nat
 use Rattle.std.specs.List.{list_any}
 use Rattle.std.specs.Option.{option_map, ok_or}
 use Rattle.content.specs.Tree.{Tree}
-use Rattle.vector_rev.specs.Counts.{Uid, Counts, raised, join_all}
-use Rattle.vector_rev.specs.Clock.{Clock, count_of, counts, clock_of, dominates}
+use Rattle.vector_rev.specs.Counts.{Uid, Entries, raised, join_all}
+use Rattle.vector_rev.specs.Clock.{Clock, count_of, clock_of, dominates}
 use Rattle.vector_rev.specs.Compare.{same}
 use Rattle.conflicts.specs.Lists.{is_empty}
 use Rattle.conflicts.specs.Document.{Document, in_order, is_conflicted, is_live}
@@ -19,8 +19,8 @@ use Rattle.conflicts.specs.declared.resolutions.ResolveFault.TheVariants as reso
 -- ---- the clock that is made
 
 -- of each uid the greatest counter among the clocks
-abbrev pub joined : List Clock → Counts
-joined cs = join_all (map counts cs)
+abbrev pub joined : List Clock → Entries
+joined cs = join_all (map (λ c. c.entries) cs)
 
 -- the parents' clocks joined, with the own counter raised by one; none where that would not keep the limits of a clock,
 -- that is, where it has more than 64 entries or the joined own counter is 2^63-1

@@ -1,16 +1,18 @@
 -- The history of a replica, and the state that it leaves: each part of the state is a filter of the whole history.
-use Rattle.std.specs.Prelude.{◌≡◌, ◌<◌, ◌^◌, ◌&&◌, ℕ, Bool, true, false, cond, List, [], ◌∷◌, ◌++◌, Option, Some, None, IsSome, refl}
+use Rattle.std.specs.Prelude.{◌≡◌, ◌&&◌, ℕ, Bool, true, false, cond, List, [], ◌∷◌, ◌++◌, Option, Some, None, IsSome, unwrap_or}
 use Rattle.std.specs.List.{flat_map}
-use Rattle.u1_base.specs.declared.position.Position.{Position}
+use Rattle.u1_base.specs.Ids.{same_id}
+use Rattle.u1_base.specs.Places.{Place, nowhere}
 use Rattle.translog.specs.declared.entry.Entry.{Entry}
-use Rattle.translog.specs.Entries.{same_doc}
 use Rattle.translog.specs.Source.{GoesOn}
-use Rattle.vector_rev.specs.Counts.{Uid, same_uid}
+use Rattle.vector_rev.specs.Counts.{Uid}
 use Rattle.vector_rev.specs.Clock.{Clock}
-use Rattle.std.proofs.Common.{arith}
 use Rattle.conflicts.specs.Lists.{In, last_or}
 use Rattle.conflicts.specs.Document.{Document, document_of, document_after_all, FitsDocument}
 use Rattle.conflicts.specs.declared.accept.Accept.{Accept}
+use Rattle.conflicts.specs.declared.moves.Move.{Move}
+use Rattle.conflicts.specs.declared.moves.PosTable.{PosTable}
+use Rattle.conflicts.specs.declared.moves.PosTable.TheVariants.{Known, Told}
 use Rattle.conflicts.specs.declared.accept.Making.{Making}
 use Rattle.conflicts.specs.declared.accept.Making.TheVariants.{Edit, Resolve, Merge, Received}
 
@@ -18,22 +20,11 @@ use Rattle.conflicts.specs.declared.accept.Making.TheVariants.{Edit, Resolve, Me
 abbrev pub Text : Type 0
 Text = List ℕ
 
--- a replica keeps of each peer the place up to which it knows the peer's log, and the place up to which the peer told
--- that it knows this log
-pub data PosTable : Type 0 where
-  Known : PosTable
-  Told : PosTable
-
 abbrev pub same_table : PosTable → PosTable → Bool
 same_table Known Known = true
 same_table Known Told = false
 same_table Told Known = false
 same_table Told Told = true
-
-pub record Move : Type 0 where
-  pub table : PosTable
-  pub uid : Uid
-  pub at : Position
 
 -- one committed step of a replica. `Gone` stands only in a history that was compacted: it keeps the place in the log of
 -- an acceptance that was left out
@@ -52,7 +43,7 @@ History = List Step
 -- ---- what one step says of a document, of the log, of a position and of an index
 
 abbrev pub accepts_in : Text → Step → List Accept
-accepts_in d (Accepted e a trans moved) = cond (same_doc d e) (a ∷ []) []
+accepts_in d (Accepted e a trans moved) = cond (same_id d e) (a ∷ []) []
 accepts_in d (Gone e trans moved) = []
 accepts_in d (Moved m) = []
 accepts_in d (IndexCreated n es) = []
@@ -72,11 +63,11 @@ move_of (Moved m) = Some m
 move_of (IndexCreated n es) = None
 move_of (IndexDeleted n) = None
 
-abbrev pub positions_by : PosTable → Uid → Option Move → List Position
+abbrev pub positions_by : PosTable → Uid → Option Move → List (Option Place)
 positions_by t u None = []
-positions_by t u (Some m) = cond (same_table t m.table && same_uid u m.uid) (m.at ∷ []) []
+positions_by t u (Some m) = cond (same_table t m.table && same_id u m.uid) (Some m.at ∷ []) []
 
-abbrev pub positions_in : PosTable → Uid → Step → List Position
+abbrev pub positions_in : PosTable → Uid → Step → List (Option Place)
 positions_in t u x = positions_by t u (move_of x)
 
 -- an index is there with its expressions, or it is not
@@ -84,24 +75,18 @@ abbrev pub indexes_in : Text → Step → List (Option (List Text))
 indexes_in n (Accepted d a trans moved) = []
 indexes_in n (Gone d trans moved) = []
 indexes_in n (Moved m) = []
-indexes_in n (IndexCreated k es) = cond (same_doc n k) (Some es ∷ []) []
-indexes_in n (IndexDeleted k) = cond (same_doc n k) (None ∷ []) []
+indexes_in n (IndexCreated k es) = cond (same_id n k) (Some es ∷ []) []
+indexes_in n (IndexDeleted k) = cond (same_id n k) (None ∷ []) []
 
 -- ---- the state
-
-pub below_limit : 0 < 2 ^ 63
-below_limit = omega arith
-
--- the place before the first entry of a log
-abbrev pub nowhere : Position
-nowhere = record { generation = 0; trans = None; named = (λ _. refl, λ _. refl); counted = below_limit }
 
 pub record State : Type 0 where
   pub name : Text
   pub uid : Uid
   pub document : Text → Document
   pub log : List Entry
-  pub position : PosTable → Uid → Position
+  -- none where it was never moved, which means the place before the first entry
+  pub position : PosTable → Uid → Option Place
   pub index : Text → Option (List Text)
 
 -- the state that a history leaves: a document has the acceptances of its steps, the log the entries of all steps, a
@@ -112,7 +97,7 @@ state_of name uid h = record {
   uid = uid;
   document = λ d. document_of (flat_map (accepts_in d) h);
   log = flat_map entries_in h;
-  position = λ t u. last_or nowhere (flat_map (positions_in t u) h);
+  position = λ t u. last_or None (flat_map (positions_in t u) h);
   index = λ n. last_or None (flat_map (indexes_in n) h);
 }
 
@@ -127,12 +112,17 @@ after s x = record {
   index = λ n. last_or (s.index n) (indexes_in n x);
 }
 
+-- the state after a list of steps
+abbrev pub after_all : State → List Step → State
+after_all s [] = s
+after_all s (x ∷ later) = after_all (after s x) later
+
 -- ---- which step fits
 
--- a move passes the source check: it does not take the kept position back
+-- a move passes the source check: it does not take the position back from where it is
 abbrev pub MoveFits : State → Option Move → Type 0
 MoveFits s None = Unit {0}
-MoveFits s (Some m) = GoesOn (s.position m.table m.uid) m.at
+MoveFits s (Some m) = GoesOn (unwrap_or (s.position m.table m.uid) nowhere) m.at
 
 -- a step fits a state: an acceptance by its document and its move, a move by the source check, an index is created where
 -- there is none of its name and deleted where there is one

@@ -1,10 +1,9 @@
 //! What is accepted of a document, and how it was made.
 ghost use Rattle.std.specs.Prelude.{◌≡◌, IfOk};
-ghost use Rattle.conflicts.specs.Document.{member_of};
 
-use crate::Member;
 use crate::member::copied;
 use content::Content;
+use std::alloc::Global;
 use u1_base::Memory;
 use vector_rev::{Clock, Clocks};
 
@@ -35,13 +34,25 @@ pub struct Accept {
 }
 
 impl Accept {
-    // The revision as a member of its document.
-    pub(crate) fn member(&self) -> Result<Member, Memory>
-        ensures { IfOk result (λ m. m ≡ member_of self.now) }
+    pub fn copy(&self, alloc: Global) -> Result<Accept, Memory>
+        ensures { IfOk result (λ a. a ≡ self.now) }
     {
-        Ok(Member {
+        Ok(Accept {
             rev: self.rev.copy()?,
             content: copied(&self.content)?,
+            making: self.making,
+            parents: clocks_copied(alloc, &self.parents)?,
+            current: self.current,
         })
     }
+}
+
+fn clocks_copied(alloc: Global, clocks: &Clocks) -> Result<Clocks, Memory>
+    ensures { IfOk result (λ copies. copies ≡ clocks.now) }
+{
+    let mut copies = Vec::with_capacity(alloc, clocks.len())?;
+    for clock in clocks.as_slice() {
+        copies.push(clock.copy()?)?;
+    }
+    Ok(Clocks::from_vec(copies))
 }

@@ -2,7 +2,7 @@
 ghost use Rattle.std.specs.Prelude.{◌≡◌, ◌⊎◌, [], ◌∷◌, Err, Ok, Some, true, option_copied};
 ghost use Rattle.std.specs.Option.{ok_or};
 ghost use Rattle.conflicts.specs.Document.{is_live};
-ghost use Rattle.conflicts.specs.Kept.{document};
+ghost use Rattle.conflicts.specs.Kept.{current, document};
 ghost use Rattle.conflicts.specs.Making.{deleted, edit_of, edited, names};
 
 use crate::made::{first_clock, made_of};
@@ -91,7 +91,7 @@ pub fn delete(
 
 // Whether the edit names the revision that it has to name.
 fn is_named(set: &DocSet, rev: Option<&Clock>) -> bool
-    ensures { result ≡ names (option_copied rev.entry) set.now.current.rev (is_live (document (Some set.now))) }
+    ensures { result ≡ names (option_copied rev.entry) (current set.now).rev (is_live (document (Some set.now))) }
 {
     match rev {
         Some(rev) => *rev == set.current().rev,
@@ -106,7 +106,7 @@ fn is_live(set: &DocSet) -> bool
 }
 
 fn revision_conflict(set: &DocSet) -> EditFault
-    ensures { (result ≡ EditFault.Memory) ⊎ (result ≡ EditFault.RevisionConflict set.now.current.rev) }
+    ensures { (result ≡ EditFault.Memory) ⊎ (result ≡ EditFault.RevisionConflict (current set.now).rev) }
 {
     match set.current().rev.copy() {
         Ok(rev) => EditFault::RevisionConflict(rev),
@@ -127,7 +127,7 @@ fn edit_over(
     content: Option<&Content>,
     own: &ReplicaUid,
 ) -> Result<Accept, EditFault>
-    ensures { (result ≡ Err EditFault.Memory) ⊎ (result ≡ ok_or (edit_of own.now (set.now.current.rev ∷ []) (option_copied content.entry)) EditFault.ClockFull) }
+    ensures { (result ≡ Err EditFault.Memory) ⊎ (result ≡ ok_or (edit_of own.now ((current set.now).rev ∷ []) (option_copied content.entry)) EditFault.ClockFull) }
 {
     let mut parents = Clocks::new(alloc);
     parents.push(set.current().rev.copy()?)?;

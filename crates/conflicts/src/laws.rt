@@ -1,5 +1,7 @@
 //! What holds of all documents and of all histories, each as the contract of a function that does nothing.
+ghost use Rattle.conflicts.specs.Acceptances.{LastMarkedIsCurrent, Unfitting};
 ghost use Rattle.conflicts.specs.Laws.{Makings, MembersAreKept, StateGoesOn};
+ghost use Rattle.conflicts.specs.Receipts.{Receipts};
 
 /// The members, pruned at each acceptance, are those of the whole list of acceptances, and no accepted revision is lost:
 /// a member covers it, now and after every later acceptance.
@@ -7,7 +9,7 @@ pub fn law_members()
     ensures { MembersAreKept }
 {}
 
-/// One more step changes the state that a history leaves by the step alone.
+/// Later steps change the state that a history leaves by these steps alone.
 pub fn law_state()
     ensures { StateGoesOn }
 {}
@@ -16,4 +18,21 @@ pub fn law_state()
 /// than one of them does, and has an own counter that is greater than any among the members.
 pub fn law_makings()
     ensures { Makings }
+{}
+
+/// What an acceptance leaves that does not fit: nothing changes where a member is newer, and else it acts as if it were
+/// marked current.
+pub fn law_unfitting()
+    ensures { Unfitting }
+{}
+
+/// Where each acceptance fits, the last one that is marked is the current one.
+pub fn law_current()
+    ensures { LastMarkedIsCurrent }
+{}
+
+/// What becomes of a document to which another replica hands over a revision: a member covers it where this replica asked
+/// for it, in any case some member is not older, and what is accepted then is what the answer says.
+pub fn law_receipts()
+    ensures { Receipts }
 {}

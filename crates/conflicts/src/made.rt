@@ -1,8 +1,8 @@
 //! The clock that is made of the parents' clocks.
 ghost use Rattle.std.specs.Prelude.{◌≡◌, ◌≤◌, ◌<◌, [], ◌∷◌, IfOk, MatchOption, Some, length};
-ghost use Rattle.vector_rev.specs.Clock.{counts};
+ghost use Rattle.u1_base.specs.declared.limits.TheConstants.{MOST_CLOCK_ENTRIES};
 ghost use Rattle.vector_rev.specs.Counts.{join};
-ghost use Rattle.conflicts.specs.Making.{joined, made_clock};
+ghost use Rattle.conflicts.specs.Making.{greatest, joined, made_clock};
 
 use std::alloc::Global;
 use u1_base::{Memory, ReplicaUid};
@@ -40,7 +40,7 @@ fn raised_of(clock: Clock, own: &ReplicaUid) -> Result<Option<Clock>, Memory>
 // The join of the clocks, from the last one on; None where it has more than 64 entries.
 fn joined_of(clocks: &[Clock]) -> Result<Option<Clock>, Memory>
     requires { 1 ≤ length clocks.now }
-    ensures { IfOk result (λ o. MatchOption o (64 < length (joined clocks.now).entries) (λ z. counts z ≡ joined clocks.now)) }
+    ensures { IfOk result (λ o. MatchOption o (MOST_CLOCK_ENTRIES < length (joined clocks.now)) (λ z. z.entries ≡ joined clocks.now)) }
 {
     let mut place = clocks.len() - 1;
     let mut all = clocks[place].copy()?;
@@ -57,12 +57,23 @@ fn joined_of(clocks: &[Clock]) -> Result<Option<Clock>, Memory>
 // The join of a clock with all that were joined before; None where it has more than 64 entries.
 fn joined_with(one: &Clock, all: Clock) -> Result<Option<Clock>, Memory>
     ensures { IfOk result (λ o. MatchOption o
-        (64 < length (join (counts one.now) (counts all)).entries)
-        (λ z. counts z ≡ join (counts one.now) (counts all))) }
+        (MOST_CLOCK_ENTRIES < length (join one.now.entries all.entries))
+        (λ z. z.entries ≡ join one.now.entries all.entries)) }
 {
     match one.join_into(all) {
         Ok(clock) => Ok(Some(clock)),
         Err(JoinFault::TooMany) => Ok(None),
         Err(JoinFault::Memory) => Err(Memory),
     }
+}
+
+// The greatest own counter among the clocks.
+pub(crate) fn greatest_in(clocks: &[Clock], own: &ReplicaUid) -> u64
+    ensures { result ≡ greatest own.now clocks.now }
+{
+    let mut most = 0;
+    for clock in clocks {
+        most = clock.count(own).max(most);
+    }
+    most
 }

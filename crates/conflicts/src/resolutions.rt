@@ -1,14 +1,15 @@
 //! What a resolution of a conflict makes.
-ghost use Rattle.std.specs.Prelude.{◌≡◌, ◌⊎◌, ◌≤◌, ◌++◌, ◌==◌, [], ◌∷◌, cond, Ok, Err, IfOk, OnOk, Some, find, length, option_copied, unwrap_or};
+ghost use Rattle.std.specs.Prelude.{◌≡◌, ◌⊎◌, ◌+◌, ◌<◌, ◌≤◌, ◌++◌, ◌==◌, [], ◌∷◌, cond, Ok, Err, IfOk, OnOk, Some, find, length, option_copied};
 ghost use Rattle.std.specs.List.{list_any};
-ghost use Rattle.std.specs.Option.{ok_or, option_map};
+ghost use Rattle.std.specs.Option.{ok_or};
 ghost use Rattle.vector_rev.specs.Clock.{count_of, dominates};
 ghost use Rattle.vector_rev.specs.Compare.{same};
-ghost use Rattle.conflicts.specs.Kept.{current_first, document};
+ghost use Rattle.conflicts.specs.Kept.{current, current_first, document};
+ghost use Rattle.conflicts.specs.Walk.{seen};
 ghost use Rattle.conflicts.specs.Making.{greatest, leader, named_in, resolution_of, resolved, resolved_over, revs};
 
 use crate::apply::is_newer;
-use crate::made::made_of;
+use crate::made::{greatest_in, made_of};
 use crate::{Accept, DocSet, Making, Member};
 use content::Content;
 use std::alloc::Global;
@@ -81,7 +82,7 @@ fn resolve_over(
     content: Option<&Content>,
     own: &ReplicaUid,
 ) -> Result<Accept, ResolveFault>
-    ensures { (result ≡ Err ResolveFault.Memory) ⊎ (result ≡ resolved_over set.now.current.rev (current_first set.now) named.now (option_copied content.entry) own.now) }
+    ensures { (result ≡ Err ResolveFault.Memory) ⊎ (result ≡ resolved_over (current set.now).rev (current_first set.now) named.now (option_copied content.entry) own.now) }
 {
     let parents = named_of(alloc, set, named)?;
     if parents.as_slice().len() == 0 {
@@ -99,19 +100,35 @@ fn named_of(alloc: Global, set: &DocSet, named: &[Clock]) -> Result<Vec<Clock>, 
     ensures { IfOk result (λ v. v.items ≡ revs (named_in named.now (current_first set.now))) }
 {
     let mut parents = Vec::new(alloc);
-    push_named(&mut parents, set.first(), named)?;
-    push_named(&mut parents, set.earlier(), named)?;
-    push_named(&mut parents, set.later(), named)?;
+    push_named(&mut parents, set.current(), named)?;
+    for place in 0..set.members().len() {
+        push_other(&mut parents, set, place, named)?;
+    }
     Ok(parents)
 }
 
-// Adds the named members' clocks at the end. At an error some of them may have been added.
-fn push_named(into: &mut Vec<Clock>, members: &[Member], named: &[Clock]) -> Result<(), Memory>
-    ensures { OnOk result (into.new.items ≡ into.old.items ++ revs (named_in named.now members.now)) }
+// Adds the clock of the member at the place, if it is not the current one and is named.
+fn push_other(
+    into: &mut Vec<Clock>,
+    set: &DocSet,
+    place: usize,
+    named: &[Clock],
+) -> Result<(), Memory>
+    requires { place < length set.now.members }
+    ensures { OnOk result (into.old.items ≡ revs (named_in named.now (seen set.now place)) → into.new.items ≡ revs (named_in named.now (seen set.now (place + 1)))) }
 {
-    for member in members {
-        push_if(into, &member.rev, stands_in(&member.rev, named))?;
+    if place == set.place() {
+        return Ok(());
     }
+    push_named(into, &set.members()[place], named)?;
+    Ok(())
+}
+
+// Adds the member's clock at the end, if it is named.
+fn push_named(into: &mut Vec<Clock>, member: &Member, named: &[Clock]) -> Result<(), Memory>
+    ensures { OnOk result (into.new.items ≡ into.old.items ++ revs (named_in named.now (member.now ∷ []))) }
+{
+    push_if(into, &member.rev, stands_in(&member.rev, named))?;
     Ok(())
 }
 
@@ -135,10 +152,7 @@ fn stands_in(rev: &Clock, clocks: &[Clock]) -> bool
 fn greatest_of(set: &DocSet, own: &ReplicaUid) -> u64
     ensures { result ≡ greatest own.now (revs (current_first set.now)) }
 {
-    let first = greatest_among(set.first(), own);
-    let before = greatest_among(set.earlier(), own);
-    let after = greatest_among(set.later(), own);
-    first.max(before.max(after))
+    greatest_among(set.members(), own)
 }
 
 fn greatest_among(members: &[Member], own: &ReplicaUid) -> u64
@@ -151,19 +165,9 @@ fn greatest_among(members: &[Member], own: &ReplicaUid) -> u64
     most
 }
 
-fn greatest_in(clocks: &[Clock], own: &ReplicaUid) -> u64
-    ensures { result ≡ greatest own.now clocks.now }
-{
-    let mut most = 0;
-    for clock in clocks {
-        most = clock.count(own).max(most);
-    }
-    most
-}
-
 fn unnamed(set: &DocSet, own: &ReplicaUid, most: u64) -> ResolveFault
     requires { most ≡ greatest own.now (revs (current_first set.now)) }
-    ensures { (result ≡ ResolveFault.Memory) ⊎ (result ≡ ResolveFault.Unnamed (leader own.now set.now.current.rev (current_first set.now))) }
+    ensures { (result ≡ ResolveFault.Memory) ⊎ (result ≡ ResolveFault.Unnamed (leader own.now (current set.now).rev (current_first set.now))) }
 {
     match leader(set, own, most).copy() {
         Ok(rev) => ResolveFault::Unnamed(rev),
@@ -174,31 +178,15 @@ fn unnamed(set: &DocSet, own: &ReplicaUid, most: u64) -> ResolveFault
 // The first member with that own counter, the current one standing first.
 fn leader<'a>(set: &'a DocSet, own: &ReplicaUid, most: u64) -> &'a Clock
     requires { most ≡ greatest own.now (revs (current_first set.now)) }
-    ensures { result.now ≡ leader own.now set.now.current.rev (current_first set.now) }
+    ensures { result.now ≡ leader own.now (current set.now).rev (current_first set.now) }
 {
     let current = set.current();
     if current.rev.count(own) == most {
         return &current.rev;
     }
-    other_leader(set, own, most)
-}
-
-// The first other member with that own counter, or else the current one.
-fn other_leader<'a>(set: &'a DocSet, own: &ReplicaUid, most: u64) -> &'a Clock
-    ensures { result.now ≡ unwrap_or (option_map (λ m. m.rev) (find (λ m. count_of m.rev own.now == most) (set.now.before ++ set.now.after))) set.now.current.rev }
-{
-    match first_with(set.earlier(), own, most) {
+    match first_with(set.members(), own, most) {
         Some(member) => &member.rev,
-        None => rev_or(first_with(set.later(), own, most), set.current()),
-    }
-}
-
-fn rev_or<'a>(member: Option<&'a Member>, other: &'a Member) -> &'a Clock
-    ensures { result.now ≡ unwrap_or (option_map (λ m. m.rev) (option_copied member.entry)) other.now.rev }
-{
-    match member {
-        Some(member) => &member.rev,
-        None => &other.rev,
+        None => &current.rev,
     }
 }
 
@@ -215,7 +203,7 @@ fn resolution(
     own: &ReplicaUid,
 ) -> Result<Accept, ResolveFault>
     requires { 1 ≤ length parents.items }
-    ensures { (result ≡ Err ResolveFault.Memory) ⊎ (result ≡ ok_or (resolution_of own.now set.now.current.rev parents.items (option_copied content.entry)) ResolveFault.ClockFull) }
+    ensures { (result ≡ Err ResolveFault.Memory) ⊎ (result ≡ ok_or (resolution_of own.now (current set.now).rev parents.items (option_copied content.entry)) ResolveFault.ClockFull) }
 {
     let Some(rev) = made_of(parents.as_slice(), own)? else {
         return Err(ResolveFault::ClockFull);

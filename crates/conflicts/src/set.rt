@@ -1,101 +1,96 @@
 //! The members of a document.
-ghost use Rattle.std.specs.Prelude.{◌≡◌, ◌+◌, ◌≤◌, ◌++◌, ◌∷◌, [], ◌↔◌, IfOk, IsNone, OnOk, T, length, option_copied};
+ghost use Rattle.std.specs.Prelude.{◌≡◌, ◌<◌, ◌≤◌, ◌++◌, ◌↔◌, IfOk, IsNone, OnOk, T, length, option_copied};
 ghost use Rattle.std.specs.List.{slice_get};
-ghost use Rattle.conflicts.specs.Kept.{all_apart, current_first, members};
+ghost use Rattle.conflicts.specs.Kept.{all_apart, current, current_first};
 
 use crate::Member;
-use std::alloc::Global;
 use std::marker::Model;
-use std::slice::from_ref;
 use u1_base::Memory;
 
-/// A document that is there: its current member, and the others in the order of their last acceptances. No two members
-/// are ordered by their clocks.
+/// A document that is there: its members in the order of their last acceptances, and which of them is the current one.
+/// No two members are ordered by their clocks.
 #[derive(Drop)]
 pub struct DocSet {
-    pub(crate) before: Vec<Member>,
-    pub(crate) current: Member,
-    pub(crate) after: Vec<Member>,
-    pub(crate) ghost apart: { T (all_apart (before.items ++ current ∷ after.items)) },
+    pub(crate) members: Vec<Member>,
+    pub(crate) place: usize,
+    pub(crate) ghost there: { place < length members.items },
+    pub(crate) ghost apart: { T (all_apart members.items) },
 }
 
 impl Model for DocSet {
-    ghost use Rattle.conflicts.specs.Kept.{Kept, kept_code};
+    ghost use Rattle.conflicts.specs.Kept.{Kept, at_place, kept_code};
 
     ghost Value = { Kept };
 
     ghost coded = { kept_code };
 
-    ghost view = { λ s. record { before = s.before.items; current = s.current; after = s.after.items; apart = s.apart } };
+    ghost view = { λ s. record { members = s.members.items; place = s.place; there = at_place s.members.items s.place s.there; apart = s.apart } };
 }
 
 impl DocSet {
     pub fn current(&self) -> &Member
-        ensures { result.now ≡ self.now.current }
+        ensures { result.now ≡ current self.now }
     {
-        &self.current
+        &self.members[self.place]
     }
 
     /// The number of members.
     pub fn length(&self) -> u64
-        ensures { result ≡ length (members self.now) }
+        ensures { result ≡ length self.now.members }
     {
-        self.before.len() as u64 + 1 + self.after.len() as u64
+        self.members.len() as u64
     }
 
     /// The member at a place: the current one at place 0, then the others in the order of their last acceptances. None
     /// exactly past the end.
     pub fn member(&self, place: u64) -> Option<&Member>
         ensures value { option_copied result ≡ slice_get (current_first self.now) place }
-        ensures none { IsNone result ↔ (length (members self.now) ≤ place) }
+        ensures none { IsNone result ↔ (length self.now.members ≤ place) }
     {
         if place == 0 {
-            return Some(&self.current);
+            return Some(self.current());
         }
-        let place = place - 1;
-        let earlier = self.before.len() as u64;
-        if place < earlier {
-            return self.before.get(place as usize);
+        if place <= self.place as u64 {
+            return member_at(self.members(), place - 1);
         }
-        let place = place - earlier;
-        if place < self.after.len() as u64 {
-            return self.after.get(place as usize);
+        if place < self.length() {
+            return member_at(self.members(), place);
         }
         None
     }
 
-    // The current member alone, those accepted before it, and those accepted after it.
-    pub(crate) fn first(&self) -> &[Member]
-        ensures { result.now ≡ self.now.current ∷ [] }
+    // The members in the order of their last acceptances.
+    pub(crate) fn members(&self) -> &[Member]
+        ensures { result.now ≡ self.now.members }
     {
-        from_ref(&self.current)
+        self.members.as_slice()
     }
 
-    pub(crate) fn earlier(&self) -> &[Member]
-        ensures { result.now ≡ self.now.before }
+    // The place of the current member.
+    pub(crate) fn place(&self) -> usize
+        ensures value { result ≡ self.now.place }
+        ensures there { result < length self.now.members }
     {
-        self.before.as_slice()
-    }
-
-    pub(crate) fn later(&self) -> &[Member]
-        ensures { result.now ≡ self.now.after }
-    {
-        self.after.as_slice()
+        self.place
     }
 
     pub fn copy(&self) -> Result<DocSet, Memory>
         ensures { IfOk result (λ s. s ≡ self.now) }
     {
-        let mut before = Vec::with_capacity(*self.before.allocator(), self.before.len())?;
-        push_copies(&mut before, self.before.as_slice())?;
-        let mut after = Vec::with_capacity(*self.after.allocator(), self.after.len())?;
-        push_copies(&mut after, self.after.as_slice())?;
+        let mut members = Vec::with_capacity(*self.members.allocator(), self.members.len())?;
+        push_copies(&mut members, self.members.as_slice())?;
         Ok(DocSet {
-            before,
-            current: self.current.copy()?,
-            after,
+            members,
+            place: self.place,
         })
     }
+}
+
+fn member_at(members: &[Member], place: u64) -> Option<&Member>
+    requires { place < length members.now }
+    ensures { option_copied result ≡ slice_get members.now place }
+{
+    members.get(place as usize)
 }
 
 // Adds copies of the members at the end. At an error some of them may have been added.

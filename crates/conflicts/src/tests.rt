@@ -71,6 +71,11 @@ a resolve a:1 {} => refused NoDocument => none
 const RESOLUTIONS: &str = r#"
 a commit current a:1 {"v":"a"} => fits => a:1 {"v":"a"};
 a commit current b:1 {"v":"b"} => fits => b:1 {"v":"b"};a:1 {"v":"a"};
+a resolve a:1 {"v":"x"} => a:2 {"v":"x"} Resolve of a:1 => b:1 {"v":"b"};a:2 {"v":"x"};
+a resolve b:1 {} => refused Unnamed a:2 => b:1 {"v":"b"};a:2 {"v":"x"};
+
+a commit current a:1 {"v":"a"} => fits => a:1 {"v":"a"};
+a commit current b:1 {"v":"b"} => fits => b:1 {"v":"b"};a:1 {"v":"a"};
 a resolve a:1,c:7 {"v":"x"} => a:2 {"v":"x"} Resolve of a:1 => b:1 {"v":"b"};a:2 {"v":"x"};
 a resolve b:1 {} => refused Unnamed a:2 => b:1 {"v":"b"};a:2 {"v":"x"};
 a resolve b:1,a:2 - => a:3|b:1 - Resolve of b:1 a:2 current => a:3|b:1 -;
@@ -100,6 +105,10 @@ a commit current a:1 {"v":"a"} => fits => a:1 {"v":"a"};
 a commit current b:1 {"v":"b"} => fits => b:1 {"v":"b"};a:1 {"v":"a"};
 a receive sent a:1 {"v":"a"} => Conflicted => b:1 {"v":"b"};a:1 {"v":"a"};
 a receive save a:1 {"v":"a"} => Conflicted a:1 {"v":"a"} Received of current => a:1 {"v":"a"};b:1 {"v":"b"};
+a receive sent a:1|b:1 {"v":"x"} => Inserted a:1|b:1 {"v":"x"} Received of current => a:1|b:1 {"v":"x"};
+
+a commit current a:1 {"v":"a"} => fits => a:1 {"v":"a"};
+a commit current b:1 {"v":"b"} => fits => b:1 {"v":"b"};a:1 {"v":"a"};
 a receive sent a:1|b:1 {"v":"x"} => Inserted a:1|b:1 {"v":"x"} Received of current => a:1|b:1 {"v":"x"};
 
 a commit current a:2 {"v":"a"} => fits => a:2 {"v":"a"};
@@ -237,7 +246,13 @@ fn after(
         return Ok(set);
     };
     assert!(rt; DocSet::fits(set.as_ref(), accept));
-    Ok(Some(DocSet::apply(alloc, set, accept)?))
+    let beside = DocSet::after(alloc, set.as_ref(), accept.copy(alloc)?)?;
+    let applied = DocSet::apply(alloc, set, accept.copy(alloc)?)?;
+    assert_eq!(rt;
+        set_told(alloc, Some(&applied))?.as_str(),
+        set_told(alloc, Some(&beside))?.as_str()
+    );
+    Ok(Some(applied))
 }
 
 // ---- values of words
@@ -630,7 +645,7 @@ fn after_one_more(
     if !DocSet::fits(set.as_ref(), &accept) {
         return Ok(set);
     }
-    let set = Some(DocSet::apply(alloc, set, &accept)?);
+    let set = Some(DocSet::apply(alloc, set, accept.copy(alloc)?)?);
     history.push(accept)?;
     let want = history_told(alloc, history.as_slice())?;
     assert_eq!(rt; set_told(alloc, set.as_ref())?.as_str(), want.as_str());
@@ -695,6 +710,21 @@ fn copies_sets(rt: HostRuntime) -> Result<(), Fail> {
         set_told(alloc, Some(&copy))?.as_str(),
         "c:1 {\"v\":3};a:1 {\"v\":1};b:2 {\"v\":2};"
     );
+    Ok(())
+}
+
+// The copies are told as what they are copies of, which is as it was.
+#[test]
+fn copies_acceptances(rt: HostRuntime) -> Result<(), Fail> {
+    let alloc = rt.alloc();
+    let one = handed_over(alloc, "a:1 {\"v\":1}", true)?;
+    let copy = one.copy(alloc)?;
+    for accept in [&one, &copy] {
+        assert_eq!(rt;
+            accept_told(alloc, accept)?.as_str(),
+            "a:1 {\"v\":1} Received of current"
+        );
+    }
     Ok(())
 }
 

@@ -1,6 +1,6 @@
 -- Each part of the state is a filter of the history.
-use Rattle.conflicts.proofs.States.{state_of-push}
+use Rattle.conflicts.proofs.States.{goes_on}
 use Rattle.conflicts.proofs.laws.law_state.Goals as goal
 
 pub returns : goal.returns
-returns c = state_of-push
+returns c = goes_on

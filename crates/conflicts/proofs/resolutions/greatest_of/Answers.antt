@@ -1,8 +1,11 @@
--- The greatest of the three parts is the greatest of all.
-use Rattle.conflicts.proofs.Parts.{greatest_of_all}
+-- The greatest counter does not go by the order.
+use Rattle.std.proofs.Common.{◌∙◌, ap}
+use Rattle.conflicts.specs.Kept.{current}
+use Rattle.conflicts.specs.Making.{greatest, revs}
+use Rattle.conflicts.proofs.Loops.{greatest_ordered}
 use Rattle.conflicts.proofs.resolutions.greatest_of.Goals as goal
 
 pub returns : goal.returns
 returns c =
-    greatest_of_all c.args.own.now c.args.set.now c.first.result.now c.earlier.result.now c.later.result.now c.greatest_among-first.result c.greatest_among-before.result c.greatest_among-after.result c.max.result c.max-2.result
-    c.first.ensures c.earlier.ensures c.later.ensures c.greatest_among-first.ensures c.greatest_among-before.ensures c.greatest_among-after.ensures c.max.ensures c.max-2.ensures
+    greatest_ordered c.args.own.now (current c.args.set.now).rev c.args.set.now.members c.greatest_among.result
+    (c.greatest_among.ensures ∙ ap (λ ms. greatest c.args.own.now (revs ms)) c.members.ensures)
