@@ -1,33 +1,37 @@
 -- What a search in one chunk says of the whole list.
 use Rattle.std.proofs.Common.{◌≡◌, ℕ, ◌+◌, ◌-◌, ◌<◌, ◌≤◌, List, length, get_or, sym, subst, ◌∙◌, ap, arith, min, add-one, inl, inr}
 use Rattle.std.proofs.lemmas.Bool.{cases_lt}
-use Rattle.std.proofs.lemmas.List.{get_or_default}
+use Rattle.std.proofs.lemmas.List.{get_or_default, get_or_read}
 use Rattle.std.specs.Global.{Vec}
 use Rattle.std.specs.Vec.{vec_items, vec_len}
 use Rattle.std.specs.List.{HoldsAt}
-use Rattle.chunk_list.specs.Chunks.{start_at, joined, IsSound}
-use Rattle.chunk_list.proofs.Pieces.{start_at-first, start_at-end, start_at-next, start_at-inside, get_or-joined}
+use Rattle.chunk_list.specs.Chunks.{start_at, joined, AreLaidOut}
+use Rattle.chunk_list.proofs.Places.{used_ends}
+use Rattle.chunk_list.proofs.Pieces.{start_at-first, start_at-next, start_at-inside, get_or-joined}
 
-module _ {T : Type 0} (chunks : List (Vec T)) (starts : List ℕ) (len room made : ℕ) (s : IsSound chunks starts len room made) where
+module _ {T : Type 0} (chunks : List (Vec T)) (starts : List ℕ) (used : ℕ) (s : AreLaidOut chunks starts used) where
   -- what holds at a place of a chunk holds there in the list
   holds_joined : (P : T → Type 0) (i j : ℕ) (c : Vec T) → i < length chunks → c ≡ get_or chunks i c → j < vec_len c → HoldsAt P c.items j → HoldsAt P (joined chunks) (start_at vec_items chunks i + j)
   holds_joined P i j c within is inside holds = λ d.
       let fits : j < length (vec_items (get_or chunks i c)) = omega (arith, ap vec_len is, (get_or chunks i c).ok.0) in
       subst P (ap (λ (v : Vec T). get_or (vec_items v) j d) is ∙ get_or-joined vec_items chunks i j c d within fits) (holds d)
 
-  module _ (at start r known : ℕ) (c : Vec T) (within : at < length chunks) (start_is : start ≡ get_or starts at 0) (is : c ≡ get_or chunks at c)
+  module _ (at start r known : ℕ) (c : Vec T) (within : at < used) (start_is : start ≡ get_or starts at start) (is : c ≡ get_or chunks at c)
       (known_is : known ≡ min at 1) (low : known ≤ r) (high : r ≤ vec_len c) where
+    at_chunk : at < length chunks
+    at_chunk = omega (arith, s.chunks_are.within)
+
     begin_is : start ≡ start_at vec_items chunks at
-    begin_is = start_is ∙ s.laid_out.begins at within
+    begin_is = get_or_read starts at start (omega (arith, at_chunk, s.starts_are.enough)) start_is 0 ∙ s.starts_are.begins at within
 
     same_len : vec_len c ≡ length (vec_items (get_or chunks at c))
     same_len = ap vec_len is ∙ (get_or chunks at c).ok.0
 
     pub found_within : start + r ≤ length (joined chunks)
-    found_within = omega (arith, begin_is, same_len, start_at-inside vec_items chunks at c within)
+    found_within = omega (arith, begin_is, same_len, start_at-inside vec_items chunks at c at_chunk)
 
     pub chunk_within : vec_len c ≤ length (joined chunks)
-    chunk_within = omega (arith, same_len, start_at-inside vec_items chunks at c within)
+    chunk_within = omega (arith, same_len, start_at-inside vec_items chunks at c at_chunk)
 
     pub found_before : (P : T → Type 0) → (0 < at → HoldsAt (λ v. HoldsAt P (vec_items v) 0) chunks at) → (known < r → HoldsAt P (vec_items c) (r - 1)) → 0 < start + r → HoldsAt P (joined chunks) (start + r - 1)
     found_before P here before some =
@@ -44,19 +48,22 @@ module _ {T : Type 0} (chunks : List (Vec T)) (starts : List ℕ) (len room made
               let first : 0 ≡ r - 1 = omega (arith, known_is) in
               subst (HoldsAt P (vec_items c)) first (subst (λ (v : Vec T). HoldsAt P (vec_items v) 0) (sym is) (here later c))
         ] in
-        subst (HoldsAt P (joined chunks)) (omega (arith, begin_is)) (holds_joined P at (r - 1) c within is (omega arith) last)
+        subst (HoldsAt P (joined chunks)) (omega (arith, begin_is)) (holds_joined P at (r - 1) c at_chunk is (omega arith) last)
 
-    pub found_after : (Q : T → Type 0) → (at + 1 < length chunks → HoldsAt (λ v. HoldsAt Q (vec_items v) 0) chunks (at + 1)) → (r < length (vec_items c) → HoldsAt Q (vec_items c) r) → start + r < length (joined chunks) → HoldsAt Q (joined chunks) (start + r)
+    pub found_after : (Q : T → Type 0) → (at + 1 < used → HoldsAt (λ v. HoldsAt Q (vec_items v) 0) chunks (at + 1)) → (r < length (vec_items c) → HoldsAt Q (vec_items c) r) → start + r < length (joined chunks) → HoldsAt Q (joined chunks) (start + r)
     found_after Q next after less =
         elim (cases_lt r (vec_len c)) [
-          | inl inside ↦ subst (HoldsAt Q (joined chunks)) (omega (arith, begin_is)) (holds_joined Q at r c within is inside (after (omega (arith, c.ok.0))))
+          | inl inside ↦ subst (HoldsAt Q (joined chunks)) (omega (arith, begin_is)) (holds_joined Q at r c at_chunk is inside (after (omega (arith, c.ok.0))))
           | inr all ↦
-              let ends : start_at vec_items chunks (at + 1) ≡ start + r = rw add-one (omega (arith, start_at-next vec_items chunks at c within, begin_is, same_len)) in
-              let more : at + 1 < length chunks = elim (cases_lt (at + 1) (length chunks)) [
+              let ends : start_at vec_items chunks (at + 1) ≡ start + r = rw add-one (omega (arith, start_at-next vec_items chunks at c at_chunk, begin_is, same_len)) in
+              let more : at + 1 < used = elim (cases_lt (at + 1) used) [
                 | inl m ↦ m
-                | inr last ↦ absurd (omega (arith, start_at-end vec_items chunks (at + 1) (omega arith)))
+                | inr last ↦
+                    let e : at + 1 ≡ used = omega arith in
+                    absurd (omega (arith, ap (start_at vec_items chunks) e, used_ends chunks used s.chunks_are))
               ] in
               let d : Vec T = get_or chunks (at + 1) c in
-              let full : 0 < vec_len d = s.full (omega arith) (at + 1) c more in
-              subst (HoldsAt Q (joined chunks)) (omega arith) (holds_joined Q (at + 1) 0 d more (get_or_default chunks (at + 1) c d more) full (next more c))
+              let full : 0 < vec_len d = s.chunks_are.held (at + 1) c (omega arith) more in
+              let there : at + 1 < length chunks = omega (arith, s.chunks_are.within) in
+              subst (HoldsAt Q (joined chunks)) (omega arith) (holds_joined Q (at + 1) 0 d there (get_or_default chunks (at + 1) c d there) full (next more c))
         ]

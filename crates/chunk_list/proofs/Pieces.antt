@@ -1,5 +1,5 @@
 -- A list that is joined from pieces: where each piece begins, and what a change in one piece does to the whole.
-use Rattle.std.proofs.Common.{◌≡◌, ℕ, ◌+◌, ◌<◌, ◌≤◌, List, [], ◌∷◌, ◌++◌, length, get_or, set, zero, suc, refl, sym, ◌∙◌, ap, arith, append_assoc, length-append}
+use Rattle.std.proofs.Common.{◌≡◌, ℕ, ◌+◌, ◌*◌, ◌<◌, ◌≤◌, List, [], ◌∷◌, ◌++◌, length, get_or, set, zero, suc, refl, sym, ◌∙◌, ap, arith, append_assoc, length-append}
 use Rattle.std.proofs.lemmas.List.{get_or-append-add, get_or_append_left, set-append_left, set-append_right}
 use Rattle.std.proofs.lemmas.List.Edits.{insert-append_left, insert-append_right, remove-append_left, remove-append_right}
 use Rattle.std.specs.List.{flat_map, insert, remove}
@@ -90,12 +90,6 @@ module _ {X T : Type 0} (f : X → List T) where
       ∙ ap (λ (n : ℕ). f y ++ set (flat_map f xs) n x) (omega arith)
       ∙ sym (set-append_right (f y) (flat_map f xs) (length (f y)) (length (f y) + start_at f xs i + p) x refl (omega arith))
 
-  -- one piece with the same items
-  pub same-joined : (xs : List X) (i : ℕ) (c d : X) → i < length xs → f c ≡ f (get_or xs i d) → flat_map f (set xs i c) ≡ flat_map f xs
-  same-joined [] i c d lt is = absurd (omega arith)
-  same-joined (y ∷ xs) zero c d lt is = ap (λ (l : List T). l ++ flat_map f xs) is
-  same-joined (y ∷ xs) (suc i) c d lt is = ap (λ (l : List T). f y ++ l) (same-joined xs i c d (omega arith) is)
-
   -- one piece changed: those up to it begin where they did, and the later ones as much later as it is longer
   pub start_at-set_low : (xs : List X) (i k : ℕ) (c : X) → k ≤ i → start_at f (set xs i c) k ≡ start_at f xs k
   start_at-set_low [] i k c le = refl
@@ -109,25 +103,63 @@ module _ {X T : Type 0} (f : X → List T) where
   start_at-set_high (y ∷ xs) zero (suc k) c d lt gt = omega arith
   start_at-set_high (y ∷ xs) (suc i) (suc k) c d lt gt = omega (arith, start_at-set_high xs i k c d (omega arith) (omega arith))
 
-  -- one piece cut in two
-  pub halved-joined : (xs : List X) (i : ℕ) (lower upper d : X) → i < length xs → f lower ++ f upper ≡ f (get_or xs i d) → flat_map f (insert (set xs i lower) (suc i) upper) ≡ flat_map f xs
-  halved-joined [] i lower upper d lt e = absurd (omega arith)
-  halved-joined (x ∷ xs) zero lower upper d lt e = sym (append_assoc (f lower) (f upper) (flat_map f xs)) ∙ ap (λ (l : List T). l ++ flat_map f xs) e
-  halved-joined (x ∷ xs) (suc i) lower upper d lt e = ap (λ (l : List T). f x ++ l) (halved-joined xs i lower upper d (omega arith) e)
+  -- two pieces side by side that hold the same as before; a hole stood for the second one meanwhile
+  pub parted-joined : (xs : List X) (i : ℕ) (hole lower upper d : X) → suc i < length xs → f lower ++ f upper ≡ f (get_or xs i d) ++ f (get_or xs (suc i) d)
+      → flat_map f (set (set (set xs (suc i) hole) i lower) (suc i) upper) ≡ flat_map f xs
+  parted-joined [] i hole lower upper d lt e = absurd (omega arith)
+  parted-joined (x ∷ []) i hole lower upper d lt e = absurd (omega arith)
+  parted-joined (x ∷ y ∷ xs) zero hole lower upper d lt e =
+      sym (append_assoc (f lower) (f upper) (flat_map f xs)) ∙ ap (λ (l : List T). l ++ flat_map f xs) e ∙ append_assoc (f x) (f y) (flat_map f xs)
+  parted-joined (x ∷ y ∷ xs) (suc i) hole lower upper d lt e = ap (λ (l : List T). f x ++ l) (parted-joined (y ∷ xs) i hole lower upper d (omega arith) e)
 
-  -- an empty piece gone
+  -- an empty piece more or less
   pub gone-joined : (xs : List X) (i : ℕ) (d : X) → i < length xs → f (get_or xs i d) ≡ [] → flat_map f (remove xs i) ≡ flat_map f xs
   gone-joined [] i d lt e = absurd (omega arith)
   gone-joined (x ∷ xs) zero d lt e = ap (λ (l : List T). l ++ flat_map f xs) (sym e)
   gone-joined (x ∷ xs) (suc i) d lt e = ap (λ (l : List T). f x ++ l) (gone-joined xs i d (omega arith) e)
 
-  -- a piece gone
-  pub length-gone : (xs : List X) (i : ℕ) → i < length xs → length (flat_map f (remove xs i)) ≤ length (flat_map f xs)
-  length-gone [] i lt = absurd (omega arith)
-  length-gone (x ∷ xs) zero lt = omega (arith, length-append (f x) (flat_map f xs))
-  length-gone (x ∷ xs) (suc i) lt = omega (arith, length-gone xs i (omega arith), length-append (f x) (flat_map f xs), length-append (f x) (flat_map f (remove xs i)))
+  pub empty-joined : (xs : List X) (i : ℕ) (c : X) → f c ≡ [] → flat_map f (insert xs i c) ≡ flat_map f xs
+  empty-joined [] zero c e = ap (λ (l : List T). l ++ []) e
+  empty-joined [] (suc i) c e = ap (λ (l : List T). l ++ []) e
+  empty-joined (x ∷ xs) zero c e = ap (λ (l : List T). l ++ flat_map f (x ∷ xs)) e
+  empty-joined (x ∷ xs) (suc i) c e = ap (λ (l : List T). f x ++ l) (empty-joined xs i c e)
 
-  -- pieces that are not empty are no more than the items
-  pub length-pieces : (xs : List X) → ((k : ℕ) (d : X) → k < length xs → 0 < length (f (get_or xs k d))) → length xs ≤ length (flat_map f xs)
-  length-pieces [] full = omega arith
-  length-pieces (x ∷ xs) full = omega (arith, full 0 x (omega arith), length-append (f x) (flat_map f xs), length-pieces xs (λ k d lt. full (suc k) d (omega arith)))
+  pub last-joined : (xs : List X) (c : X) → f c ≡ [] → flat_map f (xs ++ c ∷ []) ≡ flat_map f xs
+  last-joined [] c e = ap (λ (l : List T). l ++ []) e
+  last-joined (x ∷ xs) c e = ap (λ (l : List T). f x ++ l) (last-joined xs c e)
+
+  pub start_at-append : (xs ys : List X) (k : ℕ) → k ≤ length xs → start_at f (xs ++ ys) k ≡ start_at f xs k
+  start_at-append [] ys zero le = start_at-first ys
+  start_at-append [] ys (suc k) le = absurd (omega arith)
+  start_at-append (x ∷ xs) ys zero le = refl
+  start_at-append (x ∷ xs) ys (suc k) le = ap (λ (n : ℕ). length (f x) + n) (start_at-append xs ys k (omega arith))
+
+  -- behind pieces that are followed by empty ones the whole ends
+  pub start_at-used : (xs : List X) (n : ℕ) → n ≤ length xs → ((k : ℕ) (d : X) → n ≤ k → k < length xs → length (f (get_or xs k d)) ≡ 0) → start_at f xs n ≡ length (flat_map f xs)
+  start_at-used [] n le none = refl
+  start_at-used (x ∷ xs) zero le none =
+      omega (arith, none 0 x (omega arith) (omega arith), length-append (f x) (flat_map f xs), start_at-first xs, start_at-used xs 0 (omega arith) (λ k d _ lt. none (suc k) d (omega arith) (omega arith)))
+  start_at-used (x ∷ xs) (suc n) le none = omega (arith, length-append (f x) (flat_map f xs), start_at-used xs n (omega arith) (λ k d from lt. none (suc k) d (omega arith) (omega arith)))
+
+  -- pieces that are not empty are no more than the items, and one more may be empty
+  full-pieces : (xs : List X) (n : ℕ) → n ≤ length xs → ((k : ℕ) (d : X) → k < n → 0 < length (f (get_or xs k d))) → n ≤ length (flat_map f xs)
+  full-pieces xs zero le some = omega arith
+  full-pieces [] (suc n) le some = absurd (omega arith)
+  full-pieces (x ∷ xs) (suc n) le some = omega (arith, some 0 x (omega arith), length-append (f x) (flat_map f xs), full-pieces xs n (omega arith) (λ k d lt. some (suc k) d (omega arith)))
+
+  pub length-pieces : (xs : List X) (n : ℕ) → n ≤ length xs → ((k : ℕ) (d : X) → 0 < k → k < n → 0 < length (f (get_or xs k d))) → n ≤ length (flat_map f xs) + 1
+  length-pieces xs zero le some = omega arith
+  length-pieces [] (suc n) le some = absurd (omega arith)
+  length-pieces (x ∷ xs) (suc n) le some = omega (arith, length-append (f x) (flat_map f xs), full-pieces xs n (omega arith) (λ k d lt. some (suc k) d (omega arith) (omega arith)))
+
+  -- pieces that all have so many items, and one of them one more
+  length-full : (xs : List X) (n : ℕ) → ((k : ℕ) (d : X) → k < length xs → n ≤ length (f (get_or xs k d))) → length xs * n ≤ length (flat_map f xs)
+  length-full [] n all = omega arith
+  length-full (x ∷ xs) n all = omega (arith, all 0 x (omega arith), length-append (f x) (flat_map f xs), length-full xs n (λ k d lt. all (suc k) d (omega arith)))
+
+  pub length-over : (xs : List X) (n i : ℕ) → ((k : ℕ) (d : X) → k < length xs → n ≤ length (f (get_or xs k d))) → i < length xs → ((d : X) → n < length (f (get_or xs i d)))
+      → length xs * n < length (flat_map f xs)
+  length-over [] n i all lt more = absurd (omega arith)
+  length-over (x ∷ xs) n zero all lt more = omega (arith, more x, length-append (f x) (flat_map f xs), length-full xs n (λ k d lt. all (suc k) d (omega arith)))
+  length-over (x ∷ xs) n (suc i) all lt more =
+      omega (arith, all 0 x (omega arith), length-append (f x) (flat_map f xs), length-over xs n i (λ k d lt. all (suc k) d (omega arith)) (omega arith) more)

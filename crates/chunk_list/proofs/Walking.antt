@@ -8,10 +8,10 @@ use Rattle.chunk_list.specs.Walks.{IsRun}
 use Rattle.chunk_list.proofs.Pieces.{get_or-joined, start_at-inside}
 use Rattle.chunk_list.proofs.Places.{is_chunk, here, read_fits}
 
-module _ {T : Type 0} (chunks : List (Vec T)) (starts : List ℕ) (len room made : ℕ) (s : AreLaidOut chunks starts len room made) (i p start : ℕ) (f : FallsInto starts p i) (start_is : start ≡ get_or starts i 0)
-    (c : Vec T) (c_is : c ≡ get_or chunks i c) (lt : p < len) (xs : List T) (xs_is : xs ≡ vec_items c) where
+module _ {T : Type 0} (chunks : List (Vec T)) (starts : List ℕ) (used : ℕ) (s : AreLaidOut chunks starts used) (i p start : ℕ) (f : FallsInto starts used p i) (start_is : start ≡ get_or starts i start)
+    (c : Vec T) (c_is : c ≡ get_or chunks i c) (lt : p < length (joined chunks)) (xs : List T) (xs_is : xs ≡ vec_items c) where
   inside : p - start < length xs
-  inside = omega (arith, read_fits chunks starts len room made s i p start f start_is c c_is lt, c.ok.0, ap length xs_is)
+  inside = omega (arith, read_fits chunks starts used s i p start f start_is c c_is lt, c.ok.0, ap length xs_is)
 
   run_length : length (take (length xs - (p - start)) (drop (p - start) xs)) ≡ length xs - (p - start)
   run_length = length-take-le (length xs - (p - start)) (drop (p - start) xs) (omega (arith, length-drop (p - start) xs))
@@ -20,10 +20,10 @@ module _ {T : Type 0} (chunks : List (Vec T)) (starts : List ℕ) (len room made
   chunk_items = xs_is ∙ ap vec_items c_is
 
   chunk_there : i < length chunks
-  chunk_there = is_chunk chunks starts len room made s i p start f start_is
+  chunk_there = is_chunk chunks starts used s i p start f start_is
 
   place_is : start_at vec_items chunks i + (p - start) ≡ p
-  place_is = here chunks starts len room made s i p start f start_is
+  place_is = here chunks starts used s i p start f start_is
 
   pub run_is : IsRun (joined chunks) p (take (length xs - (p - start)) (drop (p - start) xs))
   run_is = record {

@@ -1,8 +1,6 @@
-pub mod Begun
 pub mod Chunks
-pub mod Fronts
+pub mod Edits
 pub mod Halves
 pub mod Kept
 pub mod Sorted
-pub mod Tended
 pub mod Walks

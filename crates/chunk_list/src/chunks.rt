@@ -1,20 +1,18 @@
-//! Edits of one chunk among the others.
-ghost use Rattle.std.specs.Prelude.{◌≡◌, ◌+◌, ◌-◌, ◌^◌, ◌<◌, ◌≤◌, ℕ, [], length, slice_index, slice_index_or, slice_set, IfOk, OnOk, OnErr, vec_len, vec_capacity};
-ghost use Rattle.std.specs.List.{insert};
-ghost use Rattle.chunk_list.specs.Chunks.{IsExchanged, IsGivenBack, IsHalved, IsOneEmpty, IsParted, IsPut, IsTakenOut, IsWidened, joined};
+//! Edits of one chunk among the others, and of two that stand side by side.
+ghost use Rattle.std.specs.Prelude.{◌≡◌, ◌+◌, ◌<◌, ◌≤◌, ◌++◌, ℕ, length, slice_index_or, slice_set, OnOk, vec_len, vec_capacity};
+ghost use Rattle.chunk_list.specs.Chunks.{Each, IsWide, full};
+ghost use Rattle.chunk_list.specs.Edits.{IsBroughtIn, IsExchanged, IsGrown, IsParted, IsPut, IsSetAside, IsTakenOut};
 
-use crate::starts::Starts;
+use crate::list::CHUNK;
+use crate::starts::extend;
 use std::alloc::AllocError;
 use std::mem;
 
-// A chunk that is widened gets spare capacity for so many items more, so that it is seldom moved.
-const SPARE: usize = 16;
-
-// Puts an item into the chunk at `at`, which has spare capacity.
+// Puts an item into the chunk at `at`, which has a place free.
 pub(crate) fn put<T: Drop>(chunks: &mut Vec<Vec<T>>, at: usize, place: usize, item: T)
     requires within { at < length chunks.old.items }
     requires place { (d : _) → place ≤ vec_len (slice_index_or chunks.old.items at d) }
-    requires spare { (d : _) → vec_len (slice_index_or chunks.old.items at d) < vec_capacity (slice_index_or chunks.old.items at d) }
+    requires free { (d : _) → vec_len (slice_index_or chunks.old.items at d) < vec_capacity (slice_index_or chunks.old.items at d) }
     ensures { (c : _) × (chunks.new.items ≡ slice_set chunks.old.items at c) × ((d : _) → IsPut (slice_index_or chunks.old.items at d) place item c) }
 {
     let chunk = &mut chunks[at];
@@ -44,111 +42,80 @@ pub(crate) fn take_out<T>(chunks: &mut Vec<Vec<T>>, at: usize, place: usize) -> 
     chunk.remove(place)
 }
 
-// Gives the memory of the chunk at `at` back, where it is empty and not the only one. Whether it did.
-pub(crate) fn give_back<T: Drop>(chunks: &mut Vec<Vec<T>>, starts: &mut Starts, at: usize) -> bool
-    requires within { at < length chunks.old.items }
-    requires as_many { length starts.old.places ≡ length chunks.old.items }
-    requires fits { length (joined chunks.old.items) < 2 ^ 64 }
-    ensures { IsGivenBack chunks.old.items starts.old.places at chunks.new.items starts.new.places result }
+// Moves items between two chunks, one behind the other, until the lower one has `count`.
+fn level<T>(lower: &mut Vec<T>, upper: &mut Vec<T>, count: usize)
+    requires enough { count ≤ vec_len lower.old + vec_len upper.old }
+    requires lower_fits { count ≤ vec_capacity lower.old }
+    requires upper_fits { vec_len lower.old + vec_len upper.old ≤ vec_capacity upper.old + count }
+    ensures items { lower.new.items ++ upper.new.items ≡ lower.old.items ++ upper.old.items }
+    ensures len { vec_len lower.new ≡ count }
+    ensures lower_capacity { vec_capacity lower.new ≡ vec_capacity lower.old }
+    ensures upper_capacity { vec_capacity upper.new ≡ vec_capacity upper.old }
 {
-    let gone = chunks.len() > 1 && chunks[at].len() == 0;
-    if gone {
-        chunks.remove(at);
-        starts.recount(chunks);
+    // So its first item is the last one, which is reached without moving the others.
+    upper.reverse();
+    while lower.len() > count {
+        let item = lower.take_last();
+        upper.push_reserved(item);
     }
-    gone
+    while lower.len() < count {
+        let item = upper.take_last();
+        lower.push_reserved(item);
+    }
+    upper.reverse();
 }
 
-// The first chunk, which is empty.
-pub(crate) fn first_chunk<T: Drop>(
-    chunks: &mut Vec<Vec<T>>,
-    starts: &mut Starts,
-    room: usize,
-) -> Result<(), AllocError>
-    requires chunks { chunks.old.items ≡ [] }
-    ensures ok { OnOk result (IsOneEmpty room chunks.new.items starts.new.places) }
-    ensures err_chunks { OnErr result (chunks.new.items ≡ []) }
-    ensures err_starts { OnErr result (starts.new.places ≡ starts.old.places) }
+// Moves items between the chunk at `at` and the next one until the first of them has `count`.
+pub(crate) fn part<T: Drop>(chunks: &mut Vec<Vec<T>>, at: usize, count: usize)
+    requires within { at + 1 < length chunks.old.items }
+    requires wide { Each IsWide chunks.old.items }
+    requires enough { (d : _) → count ≤ vec_len (slice_index_or chunks.old.items at d) + vec_len (slice_index_or chunks.old.items (at + 1) d) }
+    requires lower { count ≤ full + 1 }
+    requires upper { (d : _) → vec_len (slice_index_or chunks.old.items at d) + vec_len (slice_index_or chunks.old.items (at + 1) d) ≤ full + 1 + count }
+    ensures { IsParted chunks.old.items at count chunks.new.items }
 {
-    starts.reserve()?;
-    let chunk = Vec::with_capacity(*chunks.allocator(), room)?;
-    chunks.push(chunk)?;
-    starts.recount(chunks);
-    Ok(())
+    let hole = Vec::new(*chunks.allocator());
+    let mut upper = mem::replace(&mut chunks[at + 1], hole);
+    let lower = &mut chunks[at];
+    level(lower, &mut upper, count);
+    chunks[at + 1] = upper;
 }
 
-// Gives the chunk at `at` spare capacity for `room` items.
-pub(crate) fn widen<T>(chunks: &mut Vec<Vec<T>>, at: usize, room: usize) -> Result<(), AllocError>
+// Brings the last chunk to the place `at`.
+pub(crate) fn bring_in<T: Drop>(chunks: &mut Vec<Vec<T>>, at: usize)
     requires { at < length chunks.old.items }
-    ensures wider { (c : _) × (chunks.new.items ≡ slice_set chunks.old.items at c) × ((d : _) → IsWidened (slice_index_or chunks.old.items at d) c) }
-    ensures ok { OnOk result ((d : _) → vec_len (slice_index_or chunks.new.items at d) + room ≤ vec_capacity (slice_index_or chunks.new.items at d)) }
+    ensures { IsBroughtIn chunks.old.items at chunks.new.items }
 {
-    let chunk = &mut chunks[at];
-    if chunk.capacity() - chunk.len() < room {
-        chunk.reserve_exact(room.saturating_add(SPARE))?;
+    let spare = chunks.take_last();
+    match chunks.insert(at, spare) {
+        Ok(()) => {}
+        Err(_) => {}
     }
-    Ok(())
 }
 
-// Cuts the chunk at `at` into two halves. The upper one has spare capacity for `room` items, the lower one for as
-// many of them as the chunk had.
-pub(crate) fn halve<T: Drop>(
+// Sets the chunk at `at` aside: it becomes the last one.
+pub(crate) fn set_aside<T>(chunks: &mut Vec<Vec<T>>, at: usize)
+    requires { at < length chunks.old.items }
+    ensures { IsSetAside chunks.old.items at chunks.new.items }
+{
+    let spare = chunks.remove(at);
+    chunks.push_reserved(spare);
+}
+
+// Adds spare chunks until there are so many chunks.
+pub(crate) fn grow<T: Drop>(
     chunks: &mut Vec<Vec<T>>,
-    starts: &mut Starts,
-    at: usize,
-    room: usize,
+    starts: &mut Vec<usize>,
+    wanted: usize,
 ) -> Result<(), AllocError>
-    requires within { at < length chunks.old.items }
-    requires as_many { length starts.old.places ≡ length chunks.old.items }
-    requires long { (d : _) → 1 < vec_len (slice_index_or chunks.old.items at d) }
-    requires fits { length (joined chunks.old.items) + room < 2 ^ 64 }
-    ensures ok { OnOk result (IsHalved chunks.old.items at room chunks.new.items starts.new.places) }
-    ensures err_chunks { OnErr result (chunks.new.items ≡ chunks.old.items) }
-    ensures err_starts { OnErr result (starts.new.places ≡ starts.old.places) }
+    requires { length chunks.old.items ≤ length starts.old.items }
+    ensures grown { IsGrown chunks.old.items starts.old.items chunks.new.items starts.new.items }
+    ensures ok { OnOk result (wanted ≤ length chunks.new.items) }
 {
-    chunks.reserve(1)?;
-    starts.reserve()?;
-    let middle = chunks[at].len() / 2;
-    let upper = part(chunks, at, middle, room)?;
-    place(chunks, at + 1, upper);
-    starts.recount(chunks);
+    while chunks.len() < wanted {
+        let chunk = Vec::with_capacity(*chunks.allocator(), CHUNK + 1)?;
+        extend(starts, chunks.len())?;
+        chunks.push(chunk)?;
+    }
     Ok(())
-}
-
-// Parts the chunk at `at`: the items from `middle` on come in a chunk of their own.
-fn part<T: Drop>(
-    chunks: &mut Vec<Vec<T>>,
-    at: usize,
-    middle: usize,
-    room: usize,
-) -> Result<Vec<T>, AllocError>
-    requires within { at < length chunks.old.items }
-    requires middle { (d : _) → middle ≤ vec_len (slice_index_or chunks.old.items at d) }
-    requires fits { (d : _) → vec_len (slice_index_or chunks.old.items at d) + room < 2 ^ 64 }
-    ensures ok { IfOk result (λ upper. (lower : _) × (chunks.new.items ≡ slice_set chunks.old.items at lower) × ((d : _) → IsParted (slice_index_or chunks.old.items at d) middle room lower upper)) }
-    ensures err { OnErr result (chunks.new.items ≡ chunks.old.items) }
-    ensures len { vec_len chunks.new ≡ vec_len chunks.old }
-    ensures capacity { vec_capacity chunks.new ≡ vec_capacity chunks.old }
-{
-    let chunk = &mut chunks[at];
-    let mut upper = Vec::with_capacity(*chunk.allocator(), chunk.len() - middle + room)?;
-    let mut tail = chunk.split_off(middle)?;
-    match upper.append(&mut tail) {
-        Ok(()) => {}
-        Err(_) => {}
-    }
-    chunk.shrink_to(middle + room);
-    Ok(upper)
-}
-
-// Inserts an item where there is spare capacity.
-fn place<T: Drop>(items: &mut Vec<T>, at: usize, item: T)
-    requires place { at ≤ length items.old.items }
-    requires spare { vec_len items.old < vec_capacity items.old }
-    ensures { items.new.items ≡ insert items.old.items at item }
-{
-    match items.insert(at, item) {
-        Ok(()) => {}
-        Err(_) => {}
-    }
 }

@@ -1,57 +1,53 @@
 //! The list, and what a caller may do with it.
-ghost use Rattle.std.specs.Prelude.{◌≡◌, ◌+◌, ◌*◌, ◌-◌, ◌^◌, ◌<◌, ◌≤◌, ℕ, [], max, true, false, length, slice_get, slice_index_or, slice_set, IsTrue, ◌↔◌, IfOk, OnOk};
+ghost use Rattle.std.specs.Prelude.{◌≡◌, ◌+◌, ◌*◌, ◌-◌, ◌^◌, ◌<◌, ◌≤◌, ℕ, [], true, false, length, slice_get, slice_index_or, slice_set, IsTrue, ◌↔◌, OnOk};
 ghost use Rattle.std.specs.Fn.{FnReturnsAt};
 ghost use Rattle.std.specs.Option.{option_copied};
 ghost use Rattle.std.specs.List.{HoldsAt, insert, remove};
-ghost use Rattle.chunk_list.specs.Kept.{AreCuts, limit, slack};
 ghost use Rattle.chunk_list.specs.Walks.{IsRun};
 
-use crate::chunks::{exchange, first_chunk, give_back, halve, put, take_out, widen};
+use crate::chunks::grow;
+use crate::room::{exchange_at, put_at, take_at};
 use crate::search::{chunk_of, item_from, place_in};
-use crate::starts::Starts;
-use crate::touched::{forget, forget_if, move_up, note};
+use crate::starts::home;
 use crate::walk::Walk;
 use std::alloc::Global;
 use std::marker::{Brand, Model};
 use std::sync::ledger::{Blank, Ledger};
 use u1_base::{Memory, Steps};
 
-// A chunk that has grown past this is cut in two when room is made.
-pub(crate) const LIMIT: usize = 512;
+// A chunk holds so many items at most, and has memory for one more.
+pub(crate) const CHUNK: usize = 512;
 
-// Room is made for at least so many items, so that it is seldom made.
-const SLACK: usize = 16;
+// There are so many spare chunks at most that no item needs, so that a full chunk can be cut in two.
+pub(crate) const SPARE: usize = 16;
+
+// A list in fewer chunks than this has no such chunk, and one for each so many.
+const FEW: usize = 16;
 
 /// A list of items in chunks of a few hundred.
 #[derive(Drop)]
 pub struct ChunkList<T> {
+    // The chunks in use come first. The others are spare.
     chunks: Vec<Vec<T>>,
-    starts: Starts,
+    // Where each chunk in use begins.
+    starts: Vec<usize>,
+    used: usize,
     len: usize,
-    // Each chunk has spare capacity for so many items.
     room: usize,
-    // The room when it was last made in all chunks.
-    made: usize,
-    // Chunks that items went into since then.
-    touched: Vec<usize>,
-    // Each chunk that is not among these has spare capacity for so many items.
-    spare: usize,
 }
 
 impl<T> Model for ChunkList<T> {
-    ghost use Rattle.std.specs.Prelude.{◌+◌};
-    ghost use Rattle.chunk_list.specs.Kept.{Kept, kept_code, limit};
+    ghost use Rattle.chunk_list.specs.Kept.{Kept, kept_code};
 
     ghost Value = { Kept T };
 
     ghost coded = { kept_code T.code };
 
-    ghost use Rattle.chunk_list.specs.Chunks.{joined};
-    ghost use Rattle.chunk_list.specs.Tended.{IsTended};
+    ghost use Rattle.chunk_list.specs.Chunks.{joined, IsSound};
 
-    ghost view = { λ s. record { items = joined s.chunks.items; room = s.room; cuts = s.starts.places; longest = limit + s.made } };
+    ghost view = { λ s. record { items = joined s.chunks.items; room = s.room } };
 
-    ghost invariant = { λ s. IsTended s.chunks.items s.starts.places s.len s.room s.made s.touched.items s.spare };
+    ghost invariant = { λ s. IsSound s.chunks.items s.starts.items s.used s.len s.room };
 }
 
 impl<T> ChunkList<T> {
@@ -59,16 +55,13 @@ impl<T> ChunkList<T> {
     pub fn new(alloc: Global) -> ChunkList<T>
         ensures items { result.items ≡ [] }
         ensures room { result.room ≡ 0 }
-        ensures longest { result.longest ≡ limit }
     {
         ChunkList {
             chunks: Vec::new(alloc),
-            starts: Starts::new(alloc),
+            starts: Vec::new(alloc),
+            used: 0,
             len: 0,
             room: 0,
-            made: 0,
-            touched: Vec::new(alloc),
-            spare: 0,
         }
     }
 
@@ -91,14 +84,6 @@ impl<T> ChunkList<T> {
         self.room
     }
 
-    /// The places where the chunks begin. Each chunk ends where the next one begins.
-    pub fn cuts(&self) -> &Starts
-        ensures value { result.now.places ≡ self.now.cuts }
-        ensures cuts { AreCuts self.now.cuts (length self.now.items) self.now.longest }
-    {
-        &self.starts
-    }
-
     /// The item at a place, which counts from 0. None past the end.
     pub fn get(&self, place: usize) -> Option<&T>
         ensures { option_copied result ≡ slice_get self.now.items place }
@@ -113,8 +98,8 @@ impl<T> ChunkList<T> {
         if place >= self.len {
             return &[];
         }
-        let at = self.starts.home(place);
-        let start = self.starts.start(at);
+        let at = home(&self.starts, self.used, place);
+        let start = self.starts[at];
         let chunk = &self.chunks[at];
         &chunk[place - start..]
     }
@@ -143,12 +128,12 @@ impl<T> ChunkList<T> {
         if self.len == 0 {
             return (0, None);
         }
-        let at = chunk_of(&self.chunks, &passes, steps);
-        let start = self.starts.start(at);
+        let at = chunk_of(&self.chunks, self.used, &passes, steps);
+        let start = self.starts[at];
         // The first item of the chunk passes, unless it is the first chunk, of which nothing is known.
         let known = at.min(1);
         let place = place_in(&self.chunks[at], known, &passes, steps);
-        (start + place, item_from(&self.chunks, at, place))
+        (start + place, item_from(&self.chunks, self.used, at, place))
     }
 
     /// `search` for who counts nothing.
@@ -162,89 +147,26 @@ impl<T> ChunkList<T> {
         counted::<T, Brand, F>(self, passes, Blank::new(1))
     }
 
-    /// Makes room for so many more items, in each chunk. Chunks that have grown long are cut here and nowhere
-    /// else. At an error the items stand and the room is no less.
+    /// Makes room for so many more items. At an error the items stand and the room is no less.
     pub fn reserve(&mut self, more: usize) -> Result<(), Memory>
     where
         T: Drop,
         ensures items { self.new.items ≡ self.old.items }
         ensures ok { OnOk result (more ≤ self.new.room) }
         ensures room { self.old.room ≤ self.new.room }
-        ensures longest { self.new.longest ≤ max self.old.longest (limit + max more slack) }
     {
-        let wanted = more.max(SLACK);
-        if more <= self.room || self.refill(wanted)? {
-            return Ok(());
-        }
-        if usize::MAX - self.len < wanted {
+        let room = more.max(self.room);
+        if usize::MAX - self.len < room {
             return Err(Memory);
         }
-        self.make_room(wanted)
-    }
-
-    // Makes the room in the touched chunks alone, and cuts those that have grown long, if that is enough: all others
-    // have the room still. So that room is made often costs no look at each chunk. Whether it is made; where a half
-    // would be too long it is not.
-    fn refill(&mut self, wanted: usize) -> Result<bool, Memory>
-    where
-        T: Drop,
-        requires { self.old.room ≤ wanted }
-        ensures items { self.new.items ≡ self.old.items }
-        ensures done { IfOk result (λ done. done ≡ true → wanted ≤ self.new.room) }
-        ensures not_done { IfOk result (λ done. done ≡ false → self.new.room ≡ self.old.room) }
-        ensures room { self.old.room ≤ self.new.room }
-        ensures longest { self.new.longest ≡ self.old.longest }
-    {
-        if wanted > self.spare || self.chunks.len() == 0 || usize::MAX - self.len < self.spare {
-            return Ok(false);
-        }
-        while self.touched.len() > 0 {
-            let last = self.touched.len() - 1;
-            let at = self.touched[last];
-            let length = self.chunks[at].len();
-            if length > 2 * LIMIT {
-                return Ok(false);
-            }
-            if length > LIMIT {
-                halve(&mut self.chunks, &mut self.starts, at, self.spare)?;
-                move_up(&mut self.touched, at);
-            } else {
-                widen(&mut self.chunks, at, self.spare)?;
-                self.touched.truncate(last);
-            }
-        }
-        self.room = self.spare;
-        Ok(true)
-    }
-
-    // Makes the room in each chunk, and cuts those that have grown long.
-    fn make_room(&mut self, wanted: usize) -> Result<(), Memory>
-    where
-        T: Drop,
-        requires fits { length self.old.items + wanted < 2 ^ 64 }
-        requires wider { self.old.room ≤ wanted }
-        ensures items { self.new.items ≡ self.old.items }
-        ensures ok { OnOk result (self.new.room ≡ wanted) }
-        ensures room { self.old.room ≤ self.new.room }
-        ensures longest { self.new.longest ≤ max self.old.longest (limit + wanted) }
-    {
-        forget(&mut self.touched, &mut self.spare, self.room);
-        self.touched.reserve(SLACK)?;
-        if self.chunks.len() == 0 {
-            first_chunk(&mut self.chunks, &mut self.starts, wanted)?;
-        }
-        let mut at = 0;
-        while at < self.chunks.len() {
-            if self.chunks[at].len() > LIMIT {
-                halve(&mut self.chunks, &mut self.starts, at, wanted)?;
-            } else {
-                widen(&mut self.chunks, at, wanted)?;
-                at += 1;
-            }
-        }
-        self.room = wanted;
-        self.made = wanted;
-        self.spare = wanted;
+        let needed = (self.len + room).div_ceil(CHUNK);
+        let spare = more.min(SPARE).min(self.used / FEW);
+        grow(
+            &mut self.chunks,
+            &mut self.starts,
+            needed.max(self.used + spare),
+        )?;
+        self.room = room;
         Ok(())
     }
 
@@ -256,15 +178,16 @@ impl<T> ChunkList<T> {
         requires room { 0 < self.old.room }
         ensures items { self.new.items ≡ insert self.old.items place item }
         ensures room { self.new.room + 1 ≡ self.old.room }
-        ensures longest { self.new.longest ≡ self.old.longest }
     {
-        let at = self.starts.home(place);
-        let start = self.starts.start(at);
-        put(&mut self.chunks, at, place - start, item);
-        self.starts.raise(at);
+        put_at(
+            &mut self.chunks,
+            &mut self.starts,
+            &mut self.used,
+            place,
+            item,
+        );
         self.len += 1;
         self.room -= 1;
-        note(&mut self.touched, &mut self.spare, self.room, at);
     }
 
     /// Puts the item in the place of another, which comes back.
@@ -273,15 +196,12 @@ impl<T> ChunkList<T> {
         ensures value { result ≡ slice_index_or self.old.items place result }
         ensures items { self.new.items ≡ slice_set self.old.items place item }
         ensures room { self.new.room ≡ self.old.room }
-        ensures longest { self.new.longest ≡ self.old.longest }
     {
-        let at = self.starts.home(place);
-        let start = self.starts.start(at);
-        exchange(&mut self.chunks, at, place - start, item)
+        exchange_at(&mut self.chunks, &self.starts, self.used, place, item)
     }
 
-    /// Takes the item at a place out; those behind it move down by one. An empty chunk is given back, where it
-    /// is not the only one.
+    /// Takes the item at a place out; those behind it move down by one. It takes no memory, and gives some back
+    /// where there are many spare chunks.
     pub fn remove(&mut self, place: usize) -> T
     where
         T: Drop,
@@ -289,15 +209,16 @@ impl<T> ChunkList<T> {
         ensures value { result ≡ slice_index_or self.old.items place result }
         ensures items { self.new.items ≡ remove self.old.items place }
         ensures room { self.new.room ≡ self.old.room }
-        ensures longest { self.new.longest ≡ self.old.longest }
     {
-        let at = self.starts.home(place);
-        let start = self.starts.start(at);
-        let item = take_out(&mut self.chunks, at, place - start);
-        self.starts.lower(at);
+        let needed = (self.len - 1 + self.room).div_ceil(CHUNK);
+        let item = take_at(
+            &mut self.chunks,
+            &mut self.starts,
+            &mut self.used,
+            place,
+            needed,
+        );
         self.len -= 1;
-        let gone = give_back(&mut self.chunks, &mut self.starts, at);
-        forget_if(gone, &mut self.touched, &mut self.spare, self.room);
         item
     }
 }

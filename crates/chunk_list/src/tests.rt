@@ -1,6 +1,5 @@
 //! The list against a plain one, and each call on its own.
-use crate::{ChunkList, number_of};
-use std::alloc::Global;
+use crate::ChunkList;
 use std::test::Fail;
 
 // Pseudo-random numbers: xorshift of 64 bits with the shifts 13, 7 and 17 (Marsaglia, 2003).
@@ -74,33 +73,6 @@ fn is_same(list: &ChunkList<u64>, plain: &Vec<u64>) -> bool {
     walk.get(plain.len()).is_none()
 }
 
-// Whether the first chunk begins at 0, each begins where the one before it ends, none is empty but an only one, and none
-// is longer than `longest`.
-fn are_lawful(list: &ChunkList<u64>, longest: usize) -> bool {
-    let cuts = list.cuts();
-    for at in 0..cuts.len() {
-        let begin = cuts.get(at).unwrap_or(usize::MAX);
-        let end = cuts.get(at + 1).unwrap_or(list.len());
-        let is_short = begin <= end && end - begin <= longest;
-        let is_full = begin < end || cuts.len() == 1;
-        if !is_short || !is_full {
-            return false;
-        }
-    }
-    cuts.get(cuts.len()).is_none() && (cuts.is_empty() || cuts.get(0) == Some(0))
-}
-
-// Whether the chunks begin at these places.
-fn begin_at(list: &ChunkList<u64>, places: &[usize]) -> bool {
-    let cuts = list.cuts();
-    for (at, place) in places.iter().enumerate() {
-        if cuts.get(at) != Some(*place) {
-            return false;
-        }
-    }
-    cuts.len() == places.len()
-}
-
 #[test]
 fn starts_empty(rt: HostRuntime) -> Result<(), Fail> {
     let mut list = ChunkList::<u64>::new(rt.alloc());
@@ -108,7 +80,6 @@ fn starts_empty(rt: HostRuntime) -> Result<(), Fail> {
     assert_eq!(rt; list.len(), 0);
     assert_eq!(rt; list.room(), 0);
     assert_eq!(rt; list.get(0), None);
-    assert!(rt; list.cuts().is_empty());
     assert_eq!(rt; list.find(|_| true), (0, None));
     list.reserve(1)?;
     assert!(rt; 1 <= list.room());
@@ -120,183 +91,113 @@ fn starts_empty(rt: HostRuntime) -> Result<(), Fail> {
     Ok(())
 }
 
-#[test]
-fn is_as_a_plain_list(rt: HostRuntime) -> Result<(), Fail> {
-    let mut random = Random {
-        state: 0x9e37_79b9_7f4a_7c15,
-    };
-    let mut list = ChunkList::new(rt.alloc());
-    let mut plain = Vec::new(rt.alloc());
-    for item in 0..8000 {
+// Items go in and out, and others in their places, `rounds` times; now and then the two are compared.
+fn is_as_plain(
+    list: &mut ChunkList<u64>,
+    plain: &mut Vec<u64>,
+    seed: u64,
+    rounds: u64,
+) -> Result<bool, Fail> {
+    let mut random = Random { state: seed };
+    let mut agree = true;
+    for item in 0..rounds {
         let end = plain.len();
         let place = if item % 7 == 6 {
             end
         } else {
             random.below(end)
         };
-        insert_into_both(&mut list, &mut plain, place, item)?;
+        insert_into_both(list, plain, place, item)?;
         if item % 3 == 2 {
             let place = random.below(plain.len());
-            assert!(rt; remove_from_both(&mut list, &mut plain, place));
+            agree &= remove_from_both(list, plain, place);
         }
         if item % 5 == 4 {
             let place = random.below(plain.len());
-            assert!(rt; replace_in_both(&mut list, &mut plain, place, item + 10_000));
+            agree &= replace_in_both(list, plain, place, item.saturating_add(10_000));
+        }
+        if item % 5000 == 4999 {
+            agree &= is_same(list, plain);
         }
     }
-    assert_eq!(rt; list.len(), 5334);
-    assert!(rt; is_same(&list, &plain));
-    assert!(rt; are_lawful(&list, 512 + 23));
-    assert!(rt; list.cuts().len() > 10);
-    for round in 0..5333 {
-        let place = random.below(plain.len());
-        assert!(rt; remove_from_both(&mut list, &mut plain, place));
-        if round % 500 == 0 {
-            assert!(rt; is_same(&list, &plain));
-            assert!(rt; are_lawful(&list, 512 + 23));
-        }
-    }
-    assert!(rt; is_same(&list, &plain));
-    assert!(rt; begin_at(&list, [0].as_slice()));
-    Ok(())
+    Ok(agree & is_same(list, plain))
 }
 
-// So many items that the places of the chunks fill more than two blocks.
-#[test]
-fn keeps_many_chunks(rt: HostRuntime) -> Result<(), Fail> {
+// Items go out at random until so many are left.
+fn are_taken_out(list: &mut ChunkList<u64>, plain: &mut Vec<u64>, left: usize) -> bool {
     let mut random = Random {
         state: 0x2545_f491_4f6c_dd1d,
     };
+    let mut agree = true;
+    for round in left..plain.len() {
+        let place = random.below(plain.len());
+        agree &= remove_from_both(list, plain, place);
+        if round % 5000 == 0 {
+            agree &= is_same(list, plain);
+        }
+    }
+    agree & is_same(list, plain)
+}
+
+// Removal down to nothing, and growth again.
+#[test]
+fn is_as_a_plain_list(rt: HostRuntime) -> Result<(), Fail> {
     let mut list = ChunkList::new(rt.alloc());
     let mut plain = Vec::new(rt.alloc());
-    for item in 0..30_000 {
-        let place = random.below(plain.len() + 1);
-        insert_into_both(&mut list, &mut plain, place, item)?;
-        if item % 5000 == 4999 {
-            assert!(rt; is_same(&list, &plain));
-            assert!(rt; are_lawful(&list, 512 + 23));
-        }
-    }
-    assert_eq!(rt; list.len(), 30_000);
-    assert!(rt; list.cuts().len() > 64);
-    for round in 0..29_000 {
-        let place = random.below(plain.len());
-        assert!(rt; remove_from_both(&mut list, &mut plain, place));
-        if round % 5000 == 4999 {
-            assert!(rt; is_same(&list, &plain));
-            assert!(rt; are_lawful(&list, 512 + 23));
-        }
-    }
-    assert_eq!(rt; list.len(), 1000);
-    assert!(rt; is_same(&list, &plain));
-    assert!(rt; are_lawful(&list, 512 + 23));
-    Ok(())
-}
-
-#[test]
-fn a_chunk_made_with_much_room_is_cut_later(rt: HostRuntime) -> Result<(), Fail> {
-    let mut list = ChunkList::new(rt.alloc());
-    list.reserve(3000)?;
-    for item in 0..3000 {
-        if list.room() > 0 {
-            list.insert(0, item);
-        }
-    }
-    assert_eq!(rt; list.len(), 3000);
-    assert_eq!(rt; list.room(), 0);
-    assert!(rt; begin_at(&list, [0].as_slice()));
-    list.reserve(1)?;
-    assert!(rt; are_lawful(&list, 512));
-    for item in 0..3000 {
-        assert_eq!(rt; list.get(2999 - item as usize), Some(&item));
+    for seed in [0x9e37_79b9_7f4a_7c15, 0x0fed_cba9_8765_4321] {
+        assert!(rt; is_as_plain(&mut list, &mut plain, seed, 12_000)?);
+        assert_eq!(rt; list.len(), 8000);
+        assert!(rt; are_taken_out(&mut list, &mut plain, 300));
+        assert!(rt; are_taken_out(&mut list, &mut plain, 0));
+        assert!(rt; list.is_empty());
     }
     Ok(())
 }
 
-// A list of the items 0, 1, .. in one chunk, without room.
-fn in_one_chunk(alloc: Global, count: u64) -> Result<ChunkList<u64>, Fail> {
-    let mut list = ChunkList::new(alloc);
-    list.reserve(count as usize)?;
-    for item in 0..count {
-        if list.room() > 0 {
-            let end = list.len();
-            list.insert(end, item);
-        }
+// Where the next item goes: to an end, to the middle, to one place, or anywhere.
+fn next_place(way: usize, end: usize, random: &mut Random) -> usize {
+    match way {
+        0 => 0,
+        1 => end,
+        2 => end / 2,
+        3 => end.min(3000),
+        _ => random.below(end),
     }
-    Ok(list)
 }
 
-// Makes room in a list of the items 0, 1, .. and puts an item in. Whether it stands at the place, those before it
-// where they were, and those behind it one place up, and whether one of the room went.
-fn goes_in(list: &mut ChunkList<u64>, place: usize) -> Result<bool, Fail> {
-    list.reserve(1)?;
-    let room = list.room();
-    if room == 0 || place > list.len() {
-        return Ok(false);
-    }
-    list.insert(place, 1000);
-    for at in 0..list.len() {
-        let want = if at == place {
-            1000
-        } else if at < place {
-            at
-        } else {
-            at - 1
-        };
-        if list.get(at) != Some(&(want as u64)) {
-            return Ok(false);
+// Makes room for so many at once, and uses all of it.
+fn fill(
+    list: &mut ChunkList<u64>,
+    plain: &mut Vec<u64>,
+    more: usize,
+    way: usize,
+) -> Result<(), Fail> {
+    let mut random = Random {
+        state: 0x0123_4567_89ab_cdef,
+    };
+    list.reserve(more)?;
+    for item in 0..more {
+        let place = next_place(way, plain.len(), &mut random);
+        if list.room() > 0 && place <= list.len() && place <= plain.len() {
+            list.insert(place, item as u64);
+            plain.insert(place, item as u64)?;
         }
     }
-    Ok(list.room() == room - 1)
+    Ok(())
 }
 
+// Lists whose chunks are full, since they grew at one end, take many at one place, at either end, or anywhere.
 #[test]
-fn a_chunk_grows_to_the_limit(rt: HostRuntime) -> Result<(), Fail> {
-    for place in [0, 255, 510, 511] {
-        let mut list = in_one_chunk(rt.alloc(), 511)?;
-        assert_eq!(rt; list.len(), 511);
+fn takes_many_at_once(rt: HostRuntime) -> Result<(), Fail> {
+    for way in 0..5 {
+        let mut list = ChunkList::new(rt.alloc());
+        let mut plain = Vec::new(rt.alloc());
+        fill(&mut list, &mut plain, 8192, way % 2)?;
+        assert_eq!(rt; list.len(), 8192);
         assert_eq!(rt; list.room(), 0);
-        assert!(rt; goes_in(&mut list, place)?, "{place}");
-        assert_eq!(rt; list.len(), 512);
-        list.reserve(16)?;
-        assert!(rt; begin_at(&list, [0].as_slice()));
-    }
-    Ok(())
-}
-
-#[test]
-fn a_chunk_grows_past_the_limit(rt: HostRuntime) -> Result<(), Fail> {
-    for place in [0, 256, 511, 512] {
-        let mut list = in_one_chunk(rt.alloc(), 512)?;
-        assert_eq!(rt; list.len(), 512);
-        assert_eq!(rt; list.room(), 0);
-        assert!(rt; goes_in(&mut list, place)?, "{place}");
-        assert_eq!(rt; list.len(), 513);
-        assert!(rt; begin_at(&list, [0].as_slice()));
-        list.reserve(16)?;
-        assert!(rt; begin_at(&list, [0, 256].as_slice()));
-    }
-    Ok(())
-}
-
-// What goes in at the place of the cut stands first in the second chunk, and what goes in before it in the first.
-#[test]
-fn a_chunk_past_the_limit_is_cut(rt: HostRuntime) -> Result<(), Fail> {
-    for (place, cut) in [
-        (0, 257),
-        (128, 257),
-        (255, 257),
-        (256, 256),
-        (384, 256),
-        (513, 256),
-    ] {
-        let mut list = in_one_chunk(rt.alloc(), 513)?;
-        assert_eq!(rt; list.len(), 513);
-        assert!(rt; begin_at(&list, [0].as_slice()));
-        assert!(rt; goes_in(&mut list, place)?, "{place}");
-        assert_eq!(rt; list.len(), 514);
-        assert_eq!(rt; list.room(), 15);
-        assert!(rt; begin_at(&list, [0, cut].as_slice()));
+        fill(&mut list, &mut plain, 1500, way)?;
+        assert_eq!(rt; list.len(), 9692);
+        assert!(rt; is_same(&list, &plain), "{way}");
     }
     Ok(())
 }
@@ -309,7 +210,6 @@ fn finds_places(rt: HostRuntime) -> Result<(), Fail> {
         let end = list.len();
         list.insert(end, item);
     }
-    assert!(rt; list.cuts().len() > 2);
     for key in 0..1100 {
         let want = if key < 1000 { key as usize * 2 } else { 2000 };
         let (place, item) = list.find(|item| *item / 2 < key);
@@ -350,23 +250,5 @@ fn a_walk_goes_to_any_place(rt: HostRuntime) -> Result<(), Fail> {
         assert_eq!(rt; walk.get(place.saturating_add(1)).copied(), want, "{place}");
     }
     assert_eq!(rt; walk.get(usize::MAX), None);
-    Ok(())
-}
-
-#[test]
-fn numbers_first_bytes(rt: HostRuntime) -> Result<(), Fail> {
-    assert_eq!(rt; number_of("".as_bytes(), 16), 0);
-    assert_eq!(rt; number_of("ab".as_bytes(), 0), 0);
-    assert_eq!(rt; number_of("ab".as_bytes(), 1), 97);
-    assert_eq!(rt; number_of("ab".as_bytes(), 2), 0x6162);
-    assert_eq!(rt; number_of("ab".as_bytes(), 3), 0x616200);
-    assert_eq!(rt;
-        number_of("abcdefghijklmnopq".as_bytes(), 8),
-        0x6162636465666768
-    );
-    assert_eq!(rt;
-        number_of("abcdefghijklmnopq".as_bytes(), 16),
-        0x6162636465666768696a6b6c6d6e6f70
-    );
     Ok(())
 }

@@ -3,7 +3,7 @@ use Rattle.std.proofs.Common.{refl, sym, subst, ap, ◌∙◌, get_or, set}
 use Rattle.std.proofs.lemmas.List.{get_or_read}
 use Rattle.std.specs.Global.{Vec}
 use Rattle.std.specs.Vec.{with_item}
-use Rattle.chunk_list.specs.Chunks.{IsExchanged}
+use Rattle.chunk_list.specs.Edits.{IsExchanged}
 use Rattle.chunk_list.proofs.chunks.exchange.Goals as goal
 
 pub returns : goal.returns

@@ -5,7 +5,7 @@ use Rattle.std.specs.Global.{Vec}
 use Rattle.std.specs.Vec.{vec_len, vec_capacity}
 use Rattle.std.specs.List.{insert}
 use Rattle.std.specs.Prelude.{Result, Ok, Err, IsOk, is_ok, if◌then◌else◌, ⊤}
-use Rattle.chunk_list.specs.Chunks.{IsPut}
+use Rattle.chunk_list.specs.Edits.{IsPut}
 use Rattle.chunk_list.proofs.chunks.put.Goals as goal
 
 put_ok : {T E : Type 0} {old new : Vec T} {place : ℕ} {item : T} (r : Result ⊤ E) → IsOk r
@@ -18,7 +18,7 @@ pub returns : goal.returns
 returns g c =
     let chunk = c.index_mut-chunk.result.now in
     let has : vec_len chunk < vec_capacity chunk =
-    subst (λ (v : Vec g.row.T.Denot). vec_len v < vec_capacity v) (sym c.index_mut-chunk.ensures.value) (c.requires.spare chunk) in (
+    subst (λ (v : Vec g.row.T.Denot). vec_len v < vec_capacity v) (sym c.index_mut-chunk.ensures.value) (c.requires.free chunk) in (
       c.insert.new.self,
       refl,
       λ d.

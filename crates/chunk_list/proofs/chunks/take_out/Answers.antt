@@ -2,7 +2,7 @@
 use Rattle.std.proofs.Common.{refl, subst}
 use Rattle.std.proofs.lemmas.List.{get_or_read}
 use Rattle.std.specs.Global.{Vec}
-use Rattle.chunk_list.specs.Chunks.{IsTakenOut}
+use Rattle.chunk_list.specs.Edits.{IsTakenOut}
 use Rattle.chunk_list.proofs.chunks.take_out.Goals as goal
 
 pub returns : goal.returns
