@@ -1,3 +1,3 @@
+pub mod Abbreviated
 pub mod Entries
-pub mod Fronts
 pub mod Listed

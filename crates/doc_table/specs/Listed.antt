@@ -1,22 +1,29 @@
 -- What a contract sees of a table.
-use Rattle.std.specs.Prelude.{ℕ, List, refl}
-use Rattle.std.specs.Coded.{Coded, code_by, coded×, coded_ℕ, coded_list}
-use Rattle.std.specs.Cmp.Lexicographic.{slice_cmp}
-use Rattle.std.specs.Ordering.{nat_cmp}
-use Rattle.std.specs.declared.cmp.Ordering.{Ordering}
+use Rattle.std.specs.Prelude.{◌≡◌, ℕ, not, List, T}
+use Rattle.std.specs.Coded.{Coded, coded×, coded_ℕ, coded_list}
+use Rattle.std.specs.FinMap.Entries.{is_sorted, where_key}
+use Rattle.std.proofs.Math.Dec.{T_prop}
+use base.Stored.{coded_via}
+use mathlib.Core.HLevel.{Σ_prop_path}
+use Rattle.u1_base.specs.Ids.{id_cmp, same_id}
 
--- the pairs of an id and a value in the order of the ids, each id once; and how many new ids may be put without
--- memory
-pub record Listed (T : Type 0) : Type 0 where
-  pub pairs : List (List ℕ × T)
+-- the pairs of an id and a value, and that they go by id, each id once; and how many new ids may be put without memory
+pub record Listed (V : Type 0) : Type 0 where
+  pub pairs : List (List ℕ × V)
+  pub sorted : T (is_sorted id_cmp pairs)
   pub room : ℕ
 
--- it is stored as the pair of its fields
-abbrev pub listed_code : {T : Type 0} → Coded T → Coded (Listed T)
-listed_code {T} code =
-    code_by (List (List ℕ × T) × ℕ) (coded× (coded_list (coded× (coded_list coded_ℕ) code)) coded_ℕ) (λ v. (v.pairs, v.room))
-    (λ p. record { pairs = p.0; room = p.1 }) (λ _. refl)
+-- the pairs but that of the id
+abbrev pub without : {V : Type 0} → List ℕ → List (List ℕ × V) → List (List ℕ × V)
+without id pairs = where_key id_cmp (λ other. not (same_id id other)) pairs
 
--- the order of ids: by bytes
-abbrev pub id_cmp : List ℕ → List ℕ → Ordering
-id_cmp = slice_cmp nat_cmp
+-- pairs and room tell a table
+pub same_listed : {V : Type 0} (x y : Listed V) → ◌≡◌ {A = List (List ℕ × V) × ℕ} (x.pairs, x.room) (y.pairs, y.room) → x ≡ y
+same_listed {V} x y e =
+    let sorted : ◌≡◌ {A = (es : List (List ℕ × V)) × T (is_sorted id_cmp es)} (x.pairs, x.sorted) (y.pairs, y.sorted) = Σ_prop_path (λ es. T_prop _) (λ i. (e i).0) in
+    λ i. record { pairs = (sorted i).0; sorted = (sorted i).1; room = (e i).1 }
+
+-- a table is stored as these two
+abbrev pub listed_code : {V : Type 0} → Coded V → Coded (Listed V)
+listed_code {V} code =
+    coded_via (coded× (coded_list (coded× (coded_list coded_ℕ) code)) coded_ℕ) (λ v. (v.pairs, v.room)) same_listed

@@ -1,50 +1,48 @@
 //! One entry of the table, and its place in the order of ids.
 ghost use Rattle.std.specs.Prelude.{◌≡◌};
-ghost use Rattle.doc_table.specs.Fronts.{IsFront};
-ghost use Rattle.doc_table.specs.Listed.{id_cmp};
+ghost use Rattle.doc_table.specs.Abbreviated.{IsAbbreviated};
+ghost use Rattle.u1_base.specs.Ids.{id_cmp};
 
-use chunk_list::number_of;
+use key_lanes::abbreviated_key;
 use std::cmp::Ordering;
-use u1_base::DocId;
+use u1_base::{FormOf, Id};
 
-// How many bytes of an id make its front.
-const FRONT: usize = 8;
+// How many bytes of an id its abbreviated key has.
+const ABBREVIATED: usize = 8;
 
-// An id and its value. The front of the id stands beside it: most looks of a search need no more, and to read the id
-// is to wait for memory once more.
+// An id and its value. The abbreviated key of the id stands beside it: most looks of a search need no more, and to
+// read the id is to wait for memory once more.
 #[derive(Drop)]
-pub(crate) struct Entry<T> {
-    pub(crate) front: u64,
-    pub(crate) id: DocId,
-    pub(crate) value: T,
-    ghost is_front: { IsFront id front },
+pub(crate) struct Entry<F: FormOf, V> {
+    pub(crate) abbreviated: u64,
+    pub(crate) id: Id<F>,
+    pub(crate) value: V,
+    ghost abbreviates: { IsAbbreviated id abbreviated },
 }
 
-impl<T> Entry<T> {
-    pub(crate) fn value(&self) -> &T
+impl<F: FormOf, V> Entry<F, V> {
+    pub(crate) fn value(&self) -> &V
         ensures { result.now ≡ self.now.value }
     {
         &self.value
     }
 
-    // The order of the entry's id, and of an id with its front. Where the fronts differ they decide.
-    pub(crate) fn compare(&self, front: u64, id: &DocId) -> Ordering
-        requires { IsFront id.now front }
+    // The order of the entry's id, and of an id with its abbreviated key. Where these keys differ they decide.
+    pub(crate) fn compare(&self, abbreviated: u64, id: &Id<F>) -> Ordering
+        requires { IsAbbreviated id.now abbreviated }
         ensures { result ≡ id_cmp self.now.id id.now }
     {
-        if self.front < front {
-            return Ordering::Less;
+        match self.abbreviated.cmp(&abbreviated) {
+            Ordering::Less => Ordering::Less,
+            Ordering::Equal => self.id.cmp(id),
+            Ordering::Greater => Ordering::Greater,
         }
-        if front < self.front {
-            return Ordering::Greater;
-        }
-        self.id.cmp(id)
     }
 }
 
-// The front of an id.
-pub(crate) fn front(id: &DocId) -> u64
-    ensures { IsFront id.now result }
+// The abbreviated key of an id.
+pub(crate) fn abbreviated<F: FormOf>(id: &Id<F>) -> u64
+    ensures { IsAbbreviated id.now result }
 {
-    number_of(id.as_str().as_bytes(), FRONT) as u64
+    abbreviated_key(id.as_str().as_bytes(), ABBREVIATED) as u64
 }

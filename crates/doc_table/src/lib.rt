@@ -1,11 +1,14 @@
-//! A sorted map from document ids, which can make room ahead and lend the pair at a place.
+//! A sorted map from ids of one kind, as document ids or replica uids, which can make room ahead.
 //!
-//! A contract sees the list of its pairs in id order, and how many new ones may be put without memory.
+//! A contract sees the list of its pairs and that they go by id, each id once; and how many new ones may be put
+//! without memory.
 #![tactic(auto)]
 
 mod entry;
 mod table;
 #[cfg(test)]
 mod tests;
+mod walk;
 
 pub use table::Table;
+pub use walk::Pairs;

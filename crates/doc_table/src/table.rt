@@ -1,41 +1,42 @@
 //! The table, over a list of entries that is kept in chunks.
-ghost use Rattle.std.specs.Prelude.{◌≡◌, ◌+◌, ◌<◌, ◌≤◌, [], length, map, slice_get, OnOk, MatchResult, None, Some, not};
-ghost use Rattle.std.specs.Option.{option_copied, option_map};
-ghost use Rattle.std.specs.Ordering.{eq_by_cmp};
-ghost use Rattle.std.specs.FinMap.Entries.{find, put, where_key};
-ghost use Rattle.chunk_list.specs.Sorted.{FitsAt, StandsAt};
-ghost use Rattle.doc_table.specs.Entries.{pairs_of};
-ghost use Rattle.doc_table.specs.Fronts.{IsFront};
-ghost use Rattle.doc_table.specs.Listed.{id_cmp};
+ghost use Rattle.std.specs.Prelude.{◌≡◌, ◌+◌, ◌<◌, ◌≤◌, [], length, slice_get, OnOk, MatchResult, None};
+ghost use Rattle.std.specs.Option.{option_copied};
+ghost use Rattle.std.specs.FinMap.Entries.{find, put};
+ghost use Rattle.chunk_list.specs.Sorted.{FitsAt};
+ghost use Rattle.doc_table.specs.Abbreviated.{IsAbbreviated};
+ghost use Rattle.doc_table.specs.Entries.{AreSorted, IsFound, pairs_of};
+ghost use Rattle.doc_table.specs.Listed.{without};
+ghost use Rattle.u1_base.specs.Ids.{id_cmp};
 
-use crate::entry::{Entry, front};
+use crate::entry::{Entry, abbreviated};
+use crate::walk::Pairs;
 use chunk_list::ChunkList;
 use std::alloc::Global;
 use std::marker::Model;
-use u1_base::{DocId, Memory};
+use u1_base::{FormOf, Id, Memory};
 
-/// A map from document ids to values, in the order of the ids' bytes.
+/// A map from the ids of one kind to values, in the order of the ids' bytes.
 #[derive(Drop)]
-pub struct Table<T> {
-    entries: ChunkList<Entry<T>>,
+pub struct Table<F: FormOf, V> {
+    entries: ChunkList<Entry<F, V>>,
+    ghost sorted: { AreSorted entries.items },
 }
 
-impl<T> Model for Table<T> {
+impl<F: FormOf, V> Model for Table<F, V> {
     ghost use Rattle.doc_table.specs.Listed.{Listed, listed_code};
 
-    ghost Value = { Listed T };
+    ghost Value = { Listed V };
 
-    ghost coded = { listed_code T.code };
+    ghost coded = { listed_code V.code };
 
-    ghost use Rattle.doc_table.specs.Entries.{pairs_of, AreSorted};
+    ghost use Rattle.doc_table.specs.Entries.{pairs_of};
 
-    ghost view = { λ s. record { pairs = pairs_of s.entries.items; room = s.entries.room } };
-
-    ghost invariant = { λ s. AreSorted s.entries.items };
+    ghost view = { λ s. record { pairs = pairs_of s.entries.items; sorted = s.sorted; room = s.entries.room } };
 }
 
-impl<T> Table<T> {
-    pub fn new(alloc: Global) -> Table<T>
+impl<F: FormOf, V> Table<F, V> {
+    /// An empty table without room.
+    pub fn new(alloc: Global) -> Table<F, V>
         ensures pairs { result.pairs ≡ [] }
         ensures room { result.room ≡ 0 }
     {
@@ -47,7 +48,7 @@ impl<T> Table<T> {
     /// Makes room for one new id. At an error the table stands as it was, and the room is no less.
     pub fn reserve(&mut self) -> Result<(), Memory>
     where
-        T: Drop,
+        V: Drop,
         ensures pairs { self.new.pairs ≡ self.old.pairs }
         ensures ok { OnOk result (1 ≤ self.new.room) }
         ensures room { self.old.room ≤ self.new.room }
@@ -57,36 +58,46 @@ impl<T> Table<T> {
 
     /// Puts the value at the id, and answers the one that stood there. A new id takes one from the room. It takes
     /// no memory.
-    pub fn put(&mut self, id: DocId, value: T) -> Option<T>
+    pub fn put(&mut self, id: Id<F>, value: V) -> Option<V>
     where
-        T: Drop,
+        V: Drop,
         requires { find id_cmp id self.old.pairs ≡ None → 0 < self.old.room }
         ensures value { result ≡ find id_cmp id self.old.pairs }
         ensures pairs { self.new.pairs ≡ put id_cmp id value self.old.pairs }
         ensures room { self.new.room + length self.new.pairs ≡ self.old.room + length self.old.pairs }
     {
-        let front = front(&id);
-        match search(&self.entries, front, &id) {
+        let abbreviated = abbreviated(&id);
+        match search(&self.entries, abbreviated, &id) {
             Ok((place, _)) => {
-                let old = self.entries.replace(place, Entry { front, id, value });
+                let entry = Entry {
+                    abbreviated,
+                    id,
+                    value,
+                };
+                let old = self.entries.replace(place, entry);
                 Some(old.value)
             }
             Err(place) => {
-                self.entries.insert(place, Entry { front, id, value });
+                let entry = Entry {
+                    abbreviated,
+                    id,
+                    value,
+                };
+                self.entries.insert(place, entry);
                 None
             }
         }
     }
 
     /// Takes the id out, and answers its value. It takes no memory.
-    pub fn take(&mut self, id: &DocId) -> Option<T>
+    pub fn take(&mut self, id: &Id<F>) -> Option<V>
     where
-        T: Drop,
+        V: Drop,
         ensures value { result ≡ find id_cmp id.now self.old.pairs }
-        ensures pairs { self.new.pairs ≡ where_key id_cmp (λ k. not (eq_by_cmp id_cmp id.now k)) self.old.pairs }
+        ensures pairs { self.new.pairs ≡ without id.now self.old.pairs }
         ensures room { self.new.room ≡ self.old.room }
     {
-        match search(&self.entries, front(id), id) {
+        match search(&self.entries, abbreviated(id), id) {
             Ok((place, _)) => {
                 let gone = self.entries.remove(place);
                 Some(gone.value)
@@ -96,10 +107,10 @@ impl<T> Table<T> {
     }
 
     /// The value at the id. None where the id is not there.
-    pub fn get(&self, id: &DocId) -> Option<&T>
+    pub fn get(&self, id: &Id<F>) -> Option<&V>
         ensures { option_copied result ≡ find id_cmp id.now self.now.pairs }
     {
-        match search(&self.entries, front(id), id) {
+        match search(&self.entries, abbreviated(id), id) {
             Ok((_, entry)) => Some(entry.value()),
             Err(_) => None,
         }
@@ -112,30 +123,29 @@ impl<T> Table<T> {
         self.entries.len() as u64
     }
 
-    /// The pair at a place, which counts from 0 in the order of the ids. None past the end.
-    pub fn walk(&self, place: u64) -> Option<(&DocId, &T)>
-        ensures { option_map (λ p. (p.0.now, p.1.now)) result ≡ slice_get self.now.pairs place }
+    /// A walk through the pairs.
+    pub fn walk(&self) -> Pairs<'_, F, V>
+        ensures { result ≡ self.now.pairs }
     {
-        match self.entries.get(place as usize) {
-            Some(entry) => Some((&entry.id, &entry.value)),
-            None => None,
+        Pairs {
+            entries: self.entries.walk(),
         }
     }
 }
 
-// The place where an id with its front stands, and its entry, or else the place where it would stand.
-fn search<'a, T>(
-    entries: &'a ChunkList<Entry<T>>,
-    front: u64,
-    id: &DocId,
-) -> Result<(usize, &'a Entry<T>), usize>
-    requires { IsFront id.now front }
-    ensures { MatchResult result (λ found. StandsAt id_cmp (pairs_of entries.now.items) id.now found.0 × (Some found.1.now ≡ slice_get entries.now.items found.0)) (FitsAt id_cmp (pairs_of entries.now.items) id.now) }
+// The place where an id with its abbreviated key stands, and its entry, or else the place where it would stand.
+fn search<'a, F: FormOf, V>(
+    entries: &'a ChunkList<Entry<F, V>>,
+    abbreviated: u64,
+    id: &Id<F>,
+) -> Result<(usize, &'a Entry<F, V>), usize>
+    requires { IsAbbreviated id.now abbreviated }
+    ensures { MatchResult result (λ found. IsFound entries.now.items id.now found.0 found.1.now) (FitsAt id_cmp (pairs_of entries.now.items) id.now) }
 {
-    let (place, found) = entries.find(|entry| entry.compare(front, id).is_lt());
+    let (place, found) = entries.find(|entry| entry.compare(abbreviated, id).is_lt());
     match found {
         Some(entry) => {
-            if entry.compare(front, id).is_eq() {
+            if entry.compare(abbreviated, id).is_eq() {
                 Ok((place, entry))
             } else {
                 Err(place)

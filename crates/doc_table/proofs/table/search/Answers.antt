@@ -1,5 +1,5 @@
 -- The search stopped at the first entry that is not below the id.
-use Rattle.std.proofs.Common.{rules, ◌≡◌, sym, ap, ◌∙◌, Some, None}
+use Rattle.std.proofs.Common.{rules, ◌≡◌, sym, ap, ◌∙◌, Some}
 use Rattle.std.specs.Option.{option_copied}
 use Rattle.std.specs.Ordering.{is_eq}
 use Rattle.std.specs.Prelude.{slice_get}
@@ -9,7 +9,7 @@ use Rattle.doc_table.proofs.table.search.Goals as goal
 pub returns-then-is_eq : goal.returns-then-is_eq
 returns-then-is_eq g c =
     let here : Some c.in-Some.entry.now ≡ slice_get c.args.entries.now.items c.find-place.result.0 = sym (ap option_copied c.in-Some.is) ∙ c.find-place.ensures.item in
-    (stands c.args.entries.now.items c.args.id.now c.find-place.result.0 c.in-Some.entry.now here (ap is_eq (sym c.compare.ensures) ∙ sym c.is_eq.ensures ∙ c.if-is_eq.true), here)
+    stands c.args.entries.now.items c.args.id.now c.find-place.result.0 c.in-Some.entry.now here (ap is_eq (sym c.compare.ensures) ∙ sym c.is_eq.ensures ∙ c.if-is_eq.true)
 
 pub returns-else-is_eq : goal.returns-else-is_eq
 returns-else-is_eq g c =
