@@ -9,7 +9,7 @@ use Rattle.index_tables.specs.Entries.{entries_of, has, same, is_of}
 use Rattle.index_tables.specs.Order.{Entry, IsInOrder, entry_cmp}
 use Rattle.index_tables.specs.Seen.{entry_of, seen}
 use Rattle.index_tables.specs.declared.pair.Pair.{Pair}
-use Rattle.index_tables.proofs.Lists.{filter-filter, not_or, map-remove, holds_map, holds_front, part_gone, part_kept}
+use Rattle.index_tables.proofs.Lists.{filter-filter, not_or, map-remove, holds_map, holds_first, part_gone, part_kept}
 use Rattle.index_tables.proofs.PutIn.{has-push}
 use Rattle.index_tables.proofs.Sets.{filter_stands, filter_fits}
 use Rattle.index_tables.proofs.TotalOrders.{entry_total, entry_same}
@@ -59,10 +59,10 @@ module _ (list : List Pair) (entry : Entry) (place : ℕ) (order : IsInOrder (se
       (λ lt. holds_map entry_of (λ p. is_lt (entry_cmp p entry) ≡ false) list place (omega (arith, long)) (after (omega (arith, long))))
       (λ lt. holds_map entry_of (λ p. same p entry ≡ false) list place (omega (arith, long)) (other (omega (arith, long)))))
 
-long_front : {X : Type 0} (xs ys : List X) (n : ℕ) → n < length xs → n < length (take (suc n) xs ++ ys)
-long_front [] ys n lt = absurd (omega arith)
-long_front (x ∷ xs) ys zero lt = omega arith
-long_front (x ∷ xs) ys (suc n) lt = omega (arith, long_front xs ys n (omega arith))
+long_enough : {X : Type 0} (xs ys : List X) (n : ℕ) → n < length xs → n < length (take (suc n) xs ++ ys)
+long_enough [] ys n lt = absurd (omega arith)
+long_enough (x ∷ xs) ys zero lt = omega arith
+long_enough (x ∷ xs) ys (suc n) lt = omega (arith, long_enough xs ys n (omega arith))
 
 -- the pair at a place was looked at, and the places behind it before
 module _ (list : List Pair) (old : List Entry) (id : List ℕ) (p n : ℕ) (b : Bool) (next : n ≡ p - 1) (some : 0 < p) (within : p ≤ length old)
@@ -73,11 +73,11 @@ module _ (list : List Pair) (old : List Entry) (id : List ℕ) (p n : ℕ) (b : 
       subst (λ (m : ℕ). seen list ≡ take m old ++ filter (λ e. not (is_of id e)) (drop m old)) is kept
 
   at : n < length list
-  at = omega (arith, length-map list entry_of, ap length kept_suc, long_front old (filter (λ e. not (is_of id e)) (drop (suc n) old)) n (omega arith))
+  at = omega (arith, length-map list entry_of, ap length kept_suc, long_enough old (filter (λ e. not (is_of id e)) (drop (suc n) old)) n (omega arith))
 
   told_old : HoldsAt (λ e. is_of id e ≡ b) old n
   told_old =
-      holds_front (λ e. is_of id e ≡ b) old (filter (λ e. not (is_of id e)) (drop (suc n) old)) n (omega arith)
+      holds_first (λ e. is_of id e ≡ b) old (filter (λ e. not (is_of id e)) (drop (suc n) old)) n (omega arith)
       (subst (λ (l : List Entry). HoldsAt (λ e. is_of id e ≡ b) l n) kept_suc (holds_map entry_of (λ e. is_of id e ≡ b) list n at told))
 
   pub id_gone : b ≡ true → (new : List Pair) → new ≡ remove list n → seen new ≡ take n old ++ filter (λ e. not (is_of id e)) (drop n old)

@@ -1,4 +1,5 @@
-pub mod Fronts
+pub mod Deciding
+pub mod Documents
 pub mod Gone
 pub mod Keys
 pub mod Laws

@@ -1,6 +1,12 @@
 -- Lists: an item put in or taken out, under a map, a filter or a test.
-use Rattle.std.proofs.Common.{◌≡◌, ℕ, ◌<◌, ◌≤◌, Bool, true, false, cond, not, ◌&&◌, ◌||◌, List, [], ◌∷◌, ◌++◌, length, map, get_or, take, drop, zero, suc, refl, sym, subst, ◌∙◌, ap, arith}
+use Rattle.std.proofs.Common.{◌≡◌, ℕ, ◌<◌, ◌≤◌, Bool, true, false, cond, not, ◌&&◌, ◌||◌, List, [], ◌∷◌, ◌++◌, length, map, get_or, take, drop, zero, suc, refl, sym, subst, ◌∙◌, ap, arith, Ordering, Less, Equal, Greater}
+use Rattle.std.specs.Ordering.{is_lt}
 use Rattle.std.specs.List.{HoldsAt, AllPairs, filter, insert, remove, list_any}
+
+pub is_less : (r : Ordering) → is_lt r ≡ true → r ≡ Less
+is_less Less p = refl
+is_less Equal p = absurd (cc)
+is_less Greater p = absurd (cc)
 
 pub or_comm : (a b : Bool) → (a || b) ≡ (b || a)
 or_comm true true = refl
@@ -82,21 +88,21 @@ module _ {X : Type 0} (f : X → Bool) where
   part_kept (x ∷ xs) zero lt h = ap (λ (b : Bool). cond b (x ∷ filter f xs) (filter f xs)) (sym (h x))
   part_kept (x ∷ xs) (suc n) lt h = ap (λ (l : List X). x ∷ l) (part_kept xs n (omega arith) (λ d. h d))
 
-pub holds_front : {X : Type 0} (P : X → Type 0) (xs ys : List X) (n : ℕ) → n < length xs → HoldsAt P (take (suc n) xs ++ ys) n → HoldsAt P xs n
-holds_front P [] ys n lt h = absurd (omega arith)
-holds_front P (x ∷ xs) ys zero lt h = λ d. h d
-holds_front P (x ∷ xs) ys (suc n) lt h = λ d. holds_front P xs ys n (omega arith) (λ e. h e) d
+pub holds_first : {X : Type 0} (P : X → Type 0) (xs ys : List X) (n : ℕ) → n < length xs → HoldsAt P (take (suc n) xs ++ ys) n → HoldsAt P xs n
+holds_first P [] ys n lt h = absurd (omega arith)
+holds_first P (x ∷ xs) ys zero lt h = λ d. h d
+holds_first P (x ∷ xs) ys (suc n) lt h = λ d. holds_first P xs ys n (omega arith) (λ e. h e) d
 
-pub pairs_front : {X : Type 0} (R : X → X → Type 0) (xs ys : List X) → AllPairs R (xs ++ ys) → AllPairs R xs
-pairs_front {X} R xs ys h = λ i j d lt le.
-    subst (λ (x : X). R x (get_or xs j d)) (front xs i d (omega arith))
-    (subst (λ (y : X). R (get_or (xs ++ ys) i d) y) (front xs j d le) (h i j d lt (omega (arith, longer xs))))
+pub pairs_first : {X : Type 0} (R : X → X → Type 0) (xs ys : List X) → AllPairs R (xs ++ ys) → AllPairs R xs
+pairs_first {X} R xs ys h = λ i j d lt le.
+    subst (λ (x : X). R x (get_or xs j d)) (alike xs i d (omega arith))
+    (subst (λ (y : X). R (get_or (xs ++ ys) i d) y) (alike xs j d le) (h i j d lt (omega (arith, longer xs))))
   where
     longer : (xs : List X) → length xs ≤ length (xs ++ ys)
     longer [] = omega arith
     longer (x ∷ xs) = omega (arith, longer xs)
 
-    front : (xs : List X) (i : ℕ) (d : X) → i < length xs → get_or (xs ++ ys) i d ≡ get_or xs i d
-    front [] i d lt = absurd (omega arith)
-    front (x ∷ xs) zero d lt = refl
-    front (x ∷ xs) (suc i) d lt = front xs i d (omega arith)
+    alike : (xs : List X) (i : ℕ) (d : X) → i < length xs → get_or (xs ++ ys) i d ≡ get_or xs i d
+    alike [] i d lt = absurd (omega arith)
+    alike (x ∷ xs) zero d lt = refl
+    alike (x ∷ xs) (suc i) d lt = alike xs i d (omega arith)

@@ -10,14 +10,13 @@ use Rattle.index_tables.specs.Entries.{AreDistinct, AreNew, entries_of, has, sam
 use Rattle.index_tables.specs.Order.{Entry, IsInOrder, entry_cmp}
 use Rattle.index_tables.specs.Seen.{entry_of, seen}
 use Rattle.index_tables.specs.declared.pair.Pair.{Pair}
-use Rattle.index_tables.proofs.Lists.{or_comm, or_assoc, pairs_front, map-insert, list_any-insert, holds_map}
+use Rattle.index_tables.proofs.Lists.{or_comm, or_assoc, pairs_first, map-insert, list_any-insert, holds_map}
 use Rattle.index_tables.proofs.Sets.{rising_insert}
+use Rattle.u1_base.proofs.SameIds.{equal_is}
+use Rattle.index_tables.proofs.Laws.{same_self}
 use Rattle.index_tables.proofs.TotalOrders.{entry_total, entry_same}
 
-pub same_self : (p : Entry) → same p p ≡ true
-same_self p = ap is_eq (tied_itself entry_total p)
-
-or_false : (b : Bool) → (b || false) ≡ b
+pub or_false : (b : Bool) → (b || false) ≡ b
 or_false true = refl
 or_false false = refl
 
@@ -56,7 +55,7 @@ module _ (old new first whole : List Entry) (pairs rest : List Pair) (pair : Pai
   is_fresh = fresh (entry_of pair) (has_taken (entry_of pair) ∙ ap (λ (b : Bool). has (seen rest) (entry_of pair) || b) (same_self (entry_of pair)) ∙ or_comm (has (seen rest) (entry_of pair)) true)
 
   pub rest_distinct : AreDistinct (seen rest)
-  rest_distinct = pairs_front (λ p q. same p q ≡ false) (seen rest) (entry_of pair ∷ []) (subst AreDistinct seen_taken distinct)
+  rest_distinct = pairs_first (λ p q. same p q ≡ false) (seen rest) (entry_of pair ∷ []) (subst AreDistinct seen_taken distinct)
 
   module _ (members : (p : Entry) → has new p ≡ (has old p || same p (entry_of pair))) where
     pub rest_fresh : AreNew new (seen rest)
@@ -101,11 +100,6 @@ entries_distinct id keys distinct i j d lt le =
     let one : get_or (entries_of id keys) i d ≡ (get_or keys i d.0, id) = get_or-map (λ (k : List (List ℕ)). (k, id)) keys i d.0 d (omega (arith, long)) in
     let other : get_or (entries_of id keys) j d ≡ (get_or keys j d.0, id) = get_or-map (λ (k : List (List ℕ)). (k, id)) keys j d.0 d (omega (arith, long)) in
     elim (same (get_or (entries_of id keys) i d) (get_or (entries_of id keys) j d)) as (λ (b : Bool). same (get_or (entries_of id keys) i d) (get_or (entries_of id keys) j d) ≡ b → b ≡ false) [
-      | true ↦ λ is. absurd (distinct i j d.0 lt (omega (arith, long)) (ap (λ (e : Entry). e.0) (sym one ∙ entry_same _ _ (ties _ is) ∙ other)))
+      | true ↦ λ is. absurd (distinct i j d.0 lt (omega (arith, long)) (ap (λ (e : Entry). e.0) (sym one ∙ entry_same _ _ (equal_is _ is) ∙ other)))
       | false ↦ λ is. refl
     ] refl
-  where
-    ties : (r : Ordering) → is_eq r ≡ true → r ≡ Equal
-    ties Less p = absurd (cc)
-    ties Equal p = refl
-    ties Greater p = absurd (cc)

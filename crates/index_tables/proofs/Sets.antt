@@ -1,6 +1,7 @@
 -- Lists in which each item is below all later ones, by any total order: they are sets, written in order.
 use Rattle.std.proofs.Common.{◌≡◌, ◌≢◌, ℕ, ◌-◌, ◌<◌, ◌≤◌, Bool, true, false, cond, not, ◌&&◌, ◌||◌, List, [], ◌∷◌, length, map, get_or, zero, suc, refl, sym, subst, ◌∙◌, ap, arith, Some, None, Ordering, Less, Equal, Greater}
-use Rattle.std.specs.Prelude.{IsTrue, T}
+use Rattle.std.specs.Prelude.{IsTrue}
+use Rattle.std.specs.Bool.{passes}
 use Rattle.std.specs.List.{HoldsAt, AllPairs, filter, insert, remove, list_any}
 use Rattle.std.specs.Ordering.{eq_by_cmp, is_lt, is_eq}
 use Rattle.std.specs.Cmp.{IsTotalOrder, eq_by_cmp_equiv}
@@ -9,33 +10,9 @@ use Rattle.std.proofs.lemmas.List.{length-map}
 use Rattle.std.proofs.lemmas.List.Elements.{filter_agree}
 use Rattle.chunk_list.specs.Sorted.{StandsAt, FitsAt}
 use Rattle.chunk_list.proofs.Sorted.{fits_at, put_fits, sorted_put, where_fits, where_stands}
-use Rattle.index_tables.proofs.Lists.{map-insert, map-remove, holds_map, none_at}
-
-both : (a b : Bool) → IsTrue a → IsTrue b → IsTrue (a && b)
-both true b p q = q
-both false b p q = p
-
-first : (a b : Bool) → IsTrue (a && b) → IsTrue a
-first true b p = refl
-first false b p = p
-
-second : (a b : Bool) → IsTrue (a && b) → IsTrue b
-second true b p = p
-second false b p = absurd (cc)
-
-less : (r : Ordering) → IsTrue (is_lt r) → r ≡ Less
-less Less p = refl
-less Equal p = absurd (cc)
-less Greater p = absurd (cc)
-
-equal : (r : Ordering) → is_eq r ≡ true → r ≡ Equal
-equal Less p = absurd (cc)
-equal Equal p = refl
-equal Greater p = absurd (cc)
-
-to_test : (b : Bool) → IsTrue b → T b
-to_test true p = tt
-to_test false p = absurd (cc)
+use Rattle.u1_base.proofs.Booleans.{both, first, second}
+use Rattle.u1_base.proofs.SameIds.{equal_is}
+use Rattle.index_tables.proofs.Lists.{is_less, map-insert, map-remove, holds_map, none_at}
 
 module _ {K : Type 0} (R : K → K → Ordering) where
   -- the items as keys of entries without a value
@@ -63,7 +40,7 @@ module _ {K : Type 0} (R : K → K → Ordering) where
 
   above_units : (x : K) (ks : List K) → IsTrue (below_all R x (units ks)) → (j : ℕ) (d : K) → j < length ks → R x (get_or ks j d) ≡ Less
   above_units x [] h j d lt = absurd (omega arith)
-  above_units x (k ∷ ks) h zero d lt = less _ (first _ _ h)
+  above_units x (k ∷ ks) h zero d lt = is_less _ (first _ _ h)
   above_units x (k ∷ ks) h (suc j) d lt = above_units x ks (second _ _ h) j d (omega arith)
 
   pub to_sorted : (ks : List K) → AllPairs (λ x y. R x y ≡ Less) ks → IsTrue (is_sorted R (units ks))
@@ -87,7 +64,7 @@ module _ {K : Type 0} (R : K → K → Ordering) where
         → ((k : K) → list_any (eq_by_cmp R k) ks ≡ list_any (eq_by_cmp R k) ls) → ks ≡ ls
     same_sets same ks ls h g is =
         sym (keys_units ks)
-        ∙ ap (λ (l : List (K × Unit {0})). map (λ e. e.0) l) (same_entries R o same (units ks) (units ls) (to_test _ (to_sorted ks h)) (to_test _ (to_sorted ls g))
+        ∙ ap (λ (l : List (K × Unit {0})). map (λ e. e.0) l) (same_entries R o same (units ks) (units ls) (passes _ (to_sorted ks h)) (passes _ (to_sorted ls g))
         (λ k. find_units k ks ∙ ap (λ (b : Bool). cond b (Some tt) None) (is k) ∙ sym (find_units k ls)))
         ∙ keys_units ls
 
@@ -106,7 +83,7 @@ module _ {K : Type 0} (R : K → K → Ordering) where
       filter_stands lt at =
           let stands : StandsAt R (units ks) k q = record {
             within = omega (arith, length-map ks unit);
-            same = holds_map unit (λ e. R k e.0 ≡ Equal) ks q lt (λ d. equal _ (sym (flip k (get_or ks q d)) ∙ at d));
+            same = holds_map unit (λ e. R k e.0 ≡ Equal) ks q lt (λ d. equal_is _ (sym (flip k (get_or ks q d)) ∙ at d));
           } in
           turned ∙ filter_as (λ x. not (eq_by_cmp R k x)) (remove ks q) (where_stands R o same k (units ks) q (to_sorted ks h) stands ∙ sym (map-remove unit ks q))
 

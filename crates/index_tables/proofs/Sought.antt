@@ -8,13 +8,8 @@ use Rattle.index_tables.specs.Order.{Entry, key_cmp, entry_cmp, IsInOrder, Falls
 use Rattle.std.proofs.lemmas.List.{length-map}
 use Rattle.index_tables.specs.Seen.{entry_of, seen}
 use Rattle.index_tables.specs.declared.pair.Pair.{Pair}
-use Rattle.index_tables.proofs.Lists.{holds_map}
+use Rattle.index_tables.proofs.Lists.{holds_map, is_less}
 use Rattle.index_tables.proofs.TotalOrders.{key_total}
-
-is_less : (r : Ordering) → is_lt r ≡ true → r ≡ Less
-is_less Less p = refl
-is_less Equal p = absurd (cc)
-is_less Greater p = absurd (cc)
 
 -- what is below an entry whose key is below a key has a key below it
 pub key_below : (p q : Entry) (key : List (List ℕ)) → entry_cmp p q ≡ Less → key_cmp q.0 key ≡ Less → key_cmp p.0 key ≡ Less

@@ -1,5 +1,7 @@
+pub mod Abbreviated
+pub mod Documents
 pub mod Entries
-pub mod Fronts
+pub mod Looks
 pub mod Order
 pub mod Seen
 pub mod Table

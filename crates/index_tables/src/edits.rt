@@ -1,12 +1,11 @@
 //! What is done to the sorted list of pairs.
-ghost use Rattle.std.specs.Prelude.{◌≡◌, ◌+◌, ◌-◌, ◌<◌, ◌≤◌, ℕ, true, false, not, length, filter, vec_len, ◌||◌};
+ghost use Rattle.std.specs.Prelude.{◌≡◌, ◌+◌, ◌<◌, ◌≤◌, false, not, length, filter, vec_len, ◌||◌};
 ghost use Rattle.std.specs.List.{HoldsAt};
-ghost use Rattle.std.specs.Ordering.{is_lt};
-ghost use Rattle.index_tables.specs.Entries.{AreDistinct, AreNew, HoldsBoth, entries_of, has, is_of, same};
-ghost use Rattle.index_tables.specs.Order.{IsInOrder, entry_cmp};
-ghost use Rattle.index_tables.specs.Seen.{entry_of, seen};
+ghost use Rattle.index_tables.specs.Entries.{AreDistinct, AreNew, HoldsBoth, entries_of, has, is_of, not_among, not_of, same};
+ghost use Rattle.index_tables.specs.Order.{IsInOrder};
+ghost use Rattle.index_tables.specs.Seen.{EndsAt, Tells, entry_of, is_below, seen};
 
-use crate::front::front;
+use crate::abbreviated::abbreviated;
 use crate::order::compare_pair;
 use crate::pair::Pair;
 use chunk_list::ChunkList;
@@ -14,16 +13,13 @@ use u1_base::{DocId, Key, Text};
 
 // The place of the first pair that is not below a key and an id, and whether it is theirs.
 fn place_of(list: &ChunkList<Pair>, key: &[Text], id: &DocId) -> (usize, bool)
-    ensures within { result.0 ≤ length list.now.items }
-    ensures before { 0 < result.0 → HoldsAt (λ p. is_lt (entry_cmp (entry_of p) (key.now, id.now)) ≡ true) list.now.items (result.0 - 1) }
-    ensures after { result.0 < length list.now.items → HoldsAt (λ p. is_lt (entry_cmp (entry_of p) (key.now, id.now)) ≡ false) list.now.items result.0 }
-    ensures yes { result.1 ≡ true → (result.0 < length list.now.items) × HoldsAt (λ p. same (entry_of p) (key.now, id.now) ≡ true) list.now.items result.0 }
-    ensures no { result.1 ≡ false → result.0 < length list.now.items → HoldsAt (λ p. same (entry_of p) (key.now, id.now) ≡ false) list.now.items result.0 }
+    ensures place { EndsAt (is_below (key.now, id.now)) list.now.items result.0 }
+    ensures stands { Tells (key.now, id.now) list.now.items result.0 result.1 }
 {
-    let front = front(key);
-    let (place, found) = list.find(|pair| compare_pair(pair, front, key, id).is_lt());
+    let abbreviated = abbreviated(key);
+    let (place, found) = list.find(|pair| compare_pair(pair, abbreviated, key, id).is_lt());
     match found {
-        Some(pair) => (place, compare_pair(pair, front, key, id).is_eq()),
+        Some(pair) => (place, compare_pair(pair, abbreviated, key, id).is_eq()),
         None => (place, false),
     }
 }
@@ -75,7 +71,7 @@ fn take_out(list: &mut ChunkList<Pair>, key: &[Text], id: &DocId)
 pub(crate) fn take_keys(list: &mut ChunkList<Pair>, keys: &[Key], id: &DocId)
     requires { IsInOrder (seen list.old.items) }
     ensures order { IsInOrder (seen list.new.items) }
-    ensures pairs { seen list.new.items ≡ filter (λ p. not (has (entries_of id.now keys.now) p)) (seen list.old.items) }
+    ensures pairs { seen list.new.items ≡ not_among (entries_of id.now keys.now) (seen list.old.items) }
     ensures room { list.new.room ≡ list.old.room }
 {
     for key in keys {
@@ -89,7 +85,7 @@ fn is_of_at(list: &ChunkList<Pair>, place: usize, id: &DocId) -> bool
     ensures { HoldsAt (λ p. is_of id.now (entry_of p) ≡ result) list.now.items place }
 {
     match list.get(place) {
-        Some(pair) => pair.id == *id,
+        Some(pair) => id.cmp(&pair.id).is_eq(),
         None => false,
     }
 }
@@ -98,7 +94,7 @@ fn is_of_at(list: &ChunkList<Pair>, place: usize, id: &DocId) -> bool
 pub(crate) fn take_id(list: &mut ChunkList<Pair>, id: &DocId)
     requires { IsInOrder (seen list.old.items) }
     ensures order { IsInOrder (seen list.new.items) }
-    ensures pairs { seen list.new.items ≡ filter (λ p. not (is_of id.now p)) (seen list.old.items) }
+    ensures pairs { seen list.new.items ≡ not_of id.now (seen list.old.items) }
     ensures room { list.new.room ≡ list.old.room }
 {
     let mut place = list.len();

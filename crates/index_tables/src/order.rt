@@ -1,6 +1,6 @@
 //! The order of keys, and of pairs of a key and an id.
 ghost use Rattle.std.specs.Prelude.{◌≡◌};
-ghost use Rattle.index_tables.specs.Fronts.{IsFront};
+ghost use Rattle.index_tables.specs.Abbreviated.{IsAbbreviated};
 ghost use Rattle.index_tables.specs.Order.{entry_cmp, key_cmp};
 ghost use Rattle.index_tables.specs.Seen.{entry_of};
 
@@ -24,28 +24,26 @@ pub fn compare_keys(a: &[Text], b: &[Text]) -> Ordering
     a.len().cmp(&b.len())
 }
 
-// The same of the key of a pair, and of a key and its front. Where the fronts differ they decide.
-pub(crate) fn compare_key(pair: &Pair, front: u128, key: &[Text]) -> Ordering
-    requires { IsFront key.now front }
+// The same of the key of a pair, and of a key with its abbreviated key. Where these differ they decide.
+pub(crate) fn compare_key(pair: &Pair, abbreviated: u128, key: &[Text]) -> Ordering
+    requires { IsAbbreviated key.now abbreviated }
     ensures { result ≡ key_cmp pair.now.key key.now }
 {
-    if pair.front < front {
-        return Ordering::Less;
+    match pair.abbreviated.cmp(&abbreviated) {
+        Ordering::Less => Ordering::Less,
+        Ordering::Equal => compare_keys(pair.key.texts(), key),
+        Ordering::Greater => Ordering::Greater,
     }
-    if front < pair.front {
-        return Ordering::Greater;
-    }
-    compare_keys(pair.key.texts(), key)
 }
 
-// The order of a pair, and of a key with its front and an id.
-pub(crate) fn compare_pair(pair: &Pair, front: u128, key: &[Text], id: &DocId) -> Ordering
-    requires { IsFront key.now front }
+// The order of a pair, and of a key with its abbreviated key and an id.
+pub(crate) fn compare_pair(pair: &Pair, abbreviated: u128, key: &[Text], id: &DocId) -> Ordering
+    requires { IsAbbreviated key.now abbreviated }
     ensures { result ≡ entry_cmp (entry_of pair.now) (key.now, id.now) }
 {
-    let order = compare_key(pair, front, key);
-    if order.is_ne() {
-        return order;
+    match compare_key(pair, abbreviated, key) {
+        Ordering::Less => Ordering::Less,
+        Ordering::Equal => compare(pair.id.as_str().as_bytes(), id.as_str().as_bytes()),
+        Ordering::Greater => Ordering::Greater,
     }
-    compare(pair.id.as_str().as_bytes(), id.as_str().as_bytes())
 }

@@ -1,14 +1,14 @@
 //! One pair of the table of an index.
-ghost use Rattle.index_tables.specs.Fronts.{IsFront};
+ghost use Rattle.index_tables.specs.Abbreviated.{IsAbbreviated};
 
 use u1_base::{DocId, Key};
 
-// A key, and the id of a document that has it. The front of the key stands beside it: most looks of a search need no
+// A key, and the id of a document that has it. The abbreviated key stands beside it: most looks of a search need no
 // more, and to read the key's first text is to wait for memory twice.
 #[derive(Drop)]
 pub(crate) struct Pair {
-    pub(crate) front: u128,
+    pub(crate) abbreviated: u128,
     pub(crate) key: Key,
     pub(crate) id: DocId,
-    ghost is_front: { IsFront key front },
+    ghost abbreviates: { IsAbbreviated key abbreviated },
 }

@@ -3,7 +3,7 @@ ghost use Rattle.std.specs.Prelude.{◌≡◌, ◌↔◌, [], IfOk, IsTrue, leng
 ghost use Rattle.index_tables.specs.Entries.{entries_of};
 ghost use Rattle.index_tables.specs.Seen.{seen};
 
-use crate::front::front;
+use crate::abbreviated::abbreviated;
 use crate::pair::Pair;
 use std::marker::Model;
 use u1_base::{DocId, Keys, Memory};
@@ -51,8 +51,12 @@ pub(crate) fn make_pairs(id: &DocId, keys: Keys) -> Result<Vec<Pair>, Memory>
     let mut pairs = Vec::with_capacity(*keys.allocator(), keys.len())?;
     for key in keys {
         let id = id.copy()?;
-        let front = front(key.texts());
-        pairs.push(Pair { front, key, id })?;
+        let abbreviated = abbreviated(key.texts());
+        pairs.push(Pair {
+            abbreviated,
+            key,
+            id,
+        })?;
     }
     Ok(pairs)
 }

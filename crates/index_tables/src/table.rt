@@ -1,12 +1,13 @@
 //! The table of an index.
-ghost use Rattle.std.specs.Prelude.{◌≡◌, ◌≢◌, ◌+◌, ◌-◌, ◌*◌, ◌^◌, ◌<◌, ◌≤◌, ℕ, [], true, false, not, map, filter, length, slice_get, option_map, IfOk, OnOk, OnErr};
-ghost use Rattle.std.specs.List.{AllPairs, HoldsAt};
-ghost use Rattle.std.specs.Ordering.{is_lt};
-ghost use Rattle.index_tables.specs.Entries.{AreNew, HoldsBoth, entries_of, has, is_of};
-ghost use Rattle.index_tables.specs.Order.{FallsAt, IsInOrder, key_cmp};
+ghost use Rattle.std.specs.Prelude.{◌≡◌, ◌≢◌, ◌+◌, ◌≤◌, [], length, slice_get, option_map, IfOk, OnOk, OnErr};
+ghost use Rattle.std.specs.List.{AllPairs};
+ghost use Rattle.index_tables.specs.Entries.{AreNew, HoldsBoth, entries_of, not_among, not_of};
+ghost use Rattle.index_tables.specs.Looks.{FewLooks};
+ghost use Rattle.index_tables.specs.Order.{FallsAt, IsInOrder};
+ghost use Rattle.index_tables.specs.Seen.{EndsAt, has_lower_key, seen};
 
+use crate::abbreviated::abbreviated;
 use crate::edits::{put_all, take_id, take_keys};
-use crate::front::front;
 use crate::order::compare_key;
 use crate::pair::Pair;
 use crate::pairs::{Pairs, make_pairs};
@@ -21,6 +22,7 @@ use u1_base::{DocId, Key, Keys, Memory, Steps, Text};
 #[derive(Drop)]
 pub struct IndexTable {
     pairs: ChunkList<Pair>,
+    ghost order: { IsInOrder (seen pairs.items) },
 }
 
 impl Model for IndexTable {
@@ -30,12 +32,9 @@ impl Model for IndexTable {
 
     ghost coded = { indexed_code };
 
-    ghost use Rattle.index_tables.specs.Order.{IsInOrder};
     ghost use Rattle.index_tables.specs.Seen.{seen};
 
-    ghost view = { λ s. record { pairs = seen s.pairs.items; room = s.pairs.room } };
-
-    ghost invariant = { λ s. IsInOrder (seen s.pairs.items) };
+    ghost view = { λ s. record { pairs = seen s.pairs.items; order = s.order; room = s.pairs.room } };
 }
 
 impl IndexTable {
@@ -51,8 +50,7 @@ impl IndexTable {
 
     /// The number of pairs.
     pub fn length(&self) -> u64
-        ensures value { result ≡ length self.now.pairs }
-        ensures order { IsInOrder self.now.pairs }
+        ensures { result ≡ length self.now.pairs }
     {
         self.pairs.len() as u64
     }
@@ -81,7 +79,6 @@ impl IndexTable {
         requires room { length pairs ≤ self.old.room }
         requires fresh { AreNew self.old.pairs pairs }
         ensures members { HoldsBoth self.old.pairs pairs self.new.pairs }
-        ensures order { IsInOrder self.new.pairs }
         ensures count { length self.new.pairs ≡ length self.old.pairs + length pairs }
         ensures room { self.new.room + length pairs ≡ self.old.room }
     {
@@ -94,7 +91,6 @@ impl IndexTable {
         requires fresh { AreNew self.old.pairs (entries_of id.now keys) }
         ensures ok { OnOk result (HoldsBoth self.old.pairs (entries_of id.now keys) self.new.pairs) }
         ensures err { OnErr result (self.new.pairs ≡ self.old.pairs) }
-        ensures order { OnOk result (IsInOrder self.new.pairs) }
         ensures count { OnOk result (length self.new.pairs ≡ length self.old.pairs + length keys) }
     {
         let pairs = IndexTable::pairs(id, keys)?;
@@ -104,9 +100,9 @@ impl IndexTable {
     }
 
     /// Drops all pairs of an id. It looks at each pair of the table: `drop_pairs` looks for those of known keys.
+    /// It takes no memory.
     pub fn remove(&mut self, id: &DocId)
-        ensures pairs { self.new.pairs ≡ filter (λ p. not (is_of id.now p)) self.old.pairs }
-        ensures order { IsInOrder self.new.pairs }
+        ensures pairs { self.new.pairs ≡ not_of id.now self.old.pairs }
         ensures room { self.new.room ≡ self.old.room }
     {
         take_id(&mut self.pairs, id);
@@ -114,8 +110,7 @@ impl IndexTable {
 
     /// Drops the pairs of the keys and an id, those that are there. It takes no memory.
     pub fn drop_pairs(&mut self, id: &DocId, keys: &[Key])
-        ensures pairs { self.new.pairs ≡ filter (λ p. not (has (entries_of id.now keys.now) p)) self.old.pairs }
-        ensures order { IsInOrder self.new.pairs }
+        ensures pairs { self.new.pairs ≡ not_among (entries_of id.now keys.now) self.old.pairs }
         ensures room { self.new.room ≡ self.old.room }
     {
         take_keys(&mut self.pairs, keys, id);
@@ -142,12 +137,10 @@ impl IndexTable {
         }
     }
 
-    /// The first place whose key is not below the key. Each pair that it looks at counts one step: at most two
-    /// for each bit of the length.
+    /// The first place whose key is not below the key. It counts at most two steps for each bit of the length.
     pub fn seek<L: Ledger>(&self, key: &[Text], steps: &mut Steps<L>) -> u64
         ensures place { FallsAt self.now.pairs key.now result }
-        ensures order { IsInOrder self.now.pairs }
-        ensures looks { (k : ℕ) → length self.now.pairs < 2 ^ k → steps.new ≤ steps.old + 2 * k }
+        ensures looks { FewLooks (length self.now.pairs) 0 steps.old steps.new }
     {
         first_from(&self.pairs, key, steps) as u64
     }
@@ -155,12 +148,10 @@ impl IndexTable {
 
 // The place of the first pair whose key is not below the key.
 fn first_from<L: Ledger>(list: &ChunkList<Pair>, key: &[Text], steps: &mut Steps<L>) -> usize
-    ensures within { result ≤ length list.now.items }
-    ensures before { 0 < result → HoldsAt (λ p. is_lt (key_cmp p.key key.now) ≡ true) list.now.items (result - 1) }
-    ensures after { result < length list.now.items → HoldsAt (λ p. is_lt (key_cmp p.key key.now) ≡ false) list.now.items result }
-    ensures looks { (k : ℕ) → length list.now.items < 2 ^ k → steps.new ≤ steps.old + 2 * k }
+    ensures place { EndsAt (has_lower_key key.now) list.now.items result }
+    ensures looks { FewLooks (length list.now.items) 0 steps.old steps.new }
 {
-    let front = front(key);
-    let (place, _) = list.search(|pair| compare_key(pair, front, key).is_lt(), steps);
+    let abbreviated = abbreviated(key);
+    let (place, _) = list.search(|pair| compare_key(pair, abbreviated, key).is_lt(), steps);
     place
 }

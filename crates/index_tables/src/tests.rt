@@ -179,7 +179,7 @@ fn is_same(table: &IndexTable, plain: &[u64], alloc: Global) -> Result<bool, Fai
 #[test]
 fn orders_keys(rt: HostRuntime) -> Result<(), Fail> {
     let alloc = rt.alloc();
-    // In order: a front comes first, and the first texts decide before the second ones.
+    // In order: a key comes before one that goes on behind it, and the first texts decide before the second ones.
     let keys = [
         "",
         "|z",
@@ -451,5 +451,123 @@ fn is_as_a_plain_list(rt: HostRuntime) -> Result<(), Fail> {
     }
     assert!(rt; table.length() > 700);
     assert!(rt; is_same(&table, plain.as_slice(), alloc)?);
+    Ok(())
+}
+
+// The four keys of a document, in no order.
+fn four_keys(alloc: Global, number: u64) -> Result<KeySet, Fail> {
+    let mut set = KeySet::new(alloc);
+    for place in 0..4u64 {
+        let drawn = number
+            .wrapping_mul(4)
+            .wrapping_add(place)
+            .wrapping_mul(2_654_435_769);
+        let text = format!(in alloc; "word{:08}", (drawn >> 8) % 100_000_000)?;
+        if let Some(key) = key_of(texts(alloc, text.as_str())?) {
+            set.insert(key)?;
+        }
+    }
+    Ok(set)
+}
+
+fn numbered_document(alloc: Global, number: u64) -> Result<DocId, Fail> {
+    let text = format!(in alloc; "d{number:05}")?;
+    Ok(DocId::read(alloc, text.as_str())?)
+}
+
+// Puts so many documents of four keys, the last one first.
+fn grow(alloc: Global, table: &mut IndexTable, documents: u64) -> Result<(), Fail> {
+    for back in 0..documents {
+        let number = documents.saturating_sub(back);
+        let id = numbered_document(alloc, number)?;
+        put(table, &id, four_keys(alloc, number)?, number % 2 == 0)?;
+    }
+    Ok(())
+}
+
+// As many keys as a document may have, spread over the whole order.
+fn most_keys(alloc: Global) -> Result<KeySet, Fail> {
+    let mut set = KeySet::new(alloc);
+    for number in 0..4096u64 {
+        let text = format!(in alloc; "word{number:04}")?;
+        if let Some(key) = key_of(texts(alloc, text.as_str())?) {
+            set.insert(key)?;
+        }
+    }
+    Ok(set)
+}
+
+#[test]
+fn takes_a_document_of_4096_keys(rt: HostRuntime) -> Result<(), Fail> {
+    let alloc = rt.alloc();
+    let mut table = IndexTable::new(alloc);
+    grow(alloc, &mut table, 2000)?;
+    let before = table.length();
+    assert!(rt; before > 7900);
+    let first = spelled(alloc, &table, 0)?;
+    let id = DocId::read(alloc, "large")?;
+    put(&mut table, &id, most_keys(alloc)?, true)?;
+    assert_eq!(rt; table.length(), before.saturating_add(4096));
+    assert!(rt; walks(&table));
+    assert!(rt; is_sought(alloc, &table, "word0000", 0)?);
+    assert_eq!(rt; spelled(alloc, &table, 0)?.as_str(), "word0000|large");
+    table.drop_pairs(&id, most_keys(alloc)?.keys.as_slice());
+    assert_eq!(rt; table.length(), before);
+    assert_eq!(rt; spelled(alloc, &table, 0)?.as_str(), first.as_str());
+    assert!(rt; walks(&table));
+    Ok(())
+}
+
+// Whether two tables have the same pairs.
+fn are_same(alloc: Global, table: &IndexTable, other: &IndexTable) -> Result<bool, Fail> {
+    for place in 0..table.length() {
+        if spelled(alloc, table, place)? != spelled(alloc, other, place)? {
+            return Ok(false);
+        }
+    }
+    Ok(table.length() == other.length())
+}
+
+#[test]
+fn grows_again_from_nothing(rt: HostRuntime) -> Result<(), Fail> {
+    let alloc = rt.alloc();
+    let mut wanted = IndexTable::new(alloc);
+    grow(alloc, &mut wanted, 300)?;
+    let mut table = IndexTable::new(alloc);
+    for round in 0..3u64 {
+        grow(alloc, &mut table, 300)?;
+        assert!(rt; are_same(alloc, &table, &wanted)?);
+        for step in 0..300u64 {
+            let number = if round == 1 {
+                300u64.saturating_sub(step)
+            } else {
+                step * 7 % 300 + 1
+            };
+            let id = numbered_document(alloc, number)?;
+            table.drop_pairs(&id, four_keys(alloc, number)?.keys.as_slice());
+        }
+        assert_eq!(rt; table.length(), 0);
+        assert!(rt; entry(&table, 0).is_none());
+    }
+    Ok(())
+}
+
+// A call that finds no memory leaves the pairs as they were, and the same call can be made again.
+#[test]
+fn stands_where_memory_runs_out(rt: HostRuntime) -> Result<(), Fail> {
+    let alloc = rt.alloc();
+    let mut table = IndexTable::new(alloc);
+    for number in 0..150u64 {
+        let id = numbered_document(alloc, number)?;
+        let before = table.length();
+        let set = four_keys(alloc, number)?;
+        if put(&mut table, &id, set, number % 2 == 0).is_err() {
+            assert_eq!(rt; table.length(), before);
+            assert!(rt; walks(&table));
+            put(&mut table, &id, four_keys(alloc, number)?, true)?;
+        }
+        assert_eq!(rt; table.length(), before.saturating_add(4));
+    }
+    assert!(rt; walks(&table));
     Ok(())
 }
