@@ -11,12 +11,6 @@ use Rattle.query_range.proofs.Keys.{reads}
 pub one_distinct : (key : List (List ℕ)) → AllPairs (λ a b. a ≢ b) (key ∷ [])
 one_distinct key = λ i j d lt le. absurd (omega arith)
 
--- its pair is new where it was dropped
-pub new_after_drop : (ps : List Entry) (id : List ℕ) (keys : List (List (List ℕ))) → AreNew (filter (λ p. not (has (entries_of id keys) p)) ps) (entries_of id keys)
-new_after_drop ps id keys p there =
-    has-filter (λ q. not (has (entries_of id keys) q)) ps p
-    ∙ ap (λ (b : Bool). not b && has ps p) there
-
 -- the keys before a place have a width, and so has the key at the place
 pub width_more : (ps : List Entry) (place width : ℕ) (p : Entry) → Some p ≡ slice_get ps place → length p.0 ≡ width
     → ((k : ℕ) (d : Entry) → k < place → length (get_or ps k d).0 ≡ width) → (k : ℕ) (d : Entry) → k < place + 1 → length (get_or ps k d).0 ≡ width

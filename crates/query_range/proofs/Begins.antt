@@ -4,19 +4,8 @@ use Rattle.std.proofs.lemmas.Cmp.{ranked}
 use Rattle.std.specs.List.{starts_with}
 use Rattle.std.specs.Ordering.{ordering_then}
 use Rattle.std.specs.Prelude.{nat_eq}
-use Rattle.query_range.specs.Answers.{id_cmp}
-
-pub both : (a b : Bool) → a ≡ true → b ≡ true → (a && b) ≡ true
-both true b p q = q
-both false b p q = p
-
-pub first : (a b : Bool) → (a && b) ≡ true → a ≡ true
-first true b p = refl
-first false b p = p
-
-pub second : (a b : Bool) → (a && b) ≡ true → b ≡ true
-second true b p = p
-second false b p = absurd (cc)
+use Rattle.u1_base.specs.Ids.{id_cmp}
+use Rattle.u1_base.proofs.Booleans.{both, first, second}
 
 -- the bytes that a text begins with, one by one
 same_byte : (c e : ℕ) (p y : List ℕ) → starts_with nat_eq (e ∷ y) (c ∷ p) ≡ true → c ≡ e

@@ -4,16 +4,14 @@ use Rattle.std.proofs.lemmas.Bool.{cases_Bool, cases_lt}
 use Rattle.std.proofs.lemmas.List.{length-append, map-append, take_more}
 use Rattle.std.specs.List.{list_any, slice_get}
 use Rattle.std.specs.Ordering.{eq_by_cmp, is_eq, ordering_reverse, ordering_then}
-use Rattle.index_tables.specs.Order.{Entry, IsInOrder, entry_cmp, key_cmp}
+use Rattle.index_tables.specs.Order.{Entry, IsInOrder, Key, entry_cmp, key_cmp}
 use Rattle.index_tables.proofs.Sought.{key_below}
 use Rattle.index_tables.proofs.TotalOrders.{key_same, key_total}
-use Rattle.query_range.specs.Answers.{firsts, id_cmp, keys_of}
+use Rattle.u1_base.specs.Ids.{id_cmp}
+use Rattle.u1_base.proofs.SameIds.{equal_is}
+use Rattle.query_range.specs.Answers.{firsts, keys_of}
 use Rattle.query_range.specs.Wanted.{is_key}
 use Rattle.query_range.proofs.Firsts.{firsts-push}
-use Rattle.query_range.proofs.Laws.{equal}
-
-abbrev Key : Type 0
-Key = List (List ℕ)
 
 -- the key of the entry before a place
 abbrev pub key_before : List Entry → ℕ → Option Key
@@ -154,7 +152,7 @@ module _ (ps : List Entry) (order : IsInOrder ps) (place : ℕ) (keys : List Key
     where
       by : (o : Option Key) → is_key o p.0 ≡ true → o ≡ Some p.0
       by None h = absurd (cc)
-      by (Some k) h = ap Some (key_same k p.0 (equal (key_cmp k p.0) h))
+      by (Some k) h = ap Some (key_same k p.0 (equal_is (key_cmp k p.0) h))
 
 -- all entries were looked at
 pub all_listed : (ps : List Entry) (place : ℕ) (keys : List Key) (begun now : ℕ) → length ps ≤ place → Listed ps place keys begun now → keys ≡ keys_of ps

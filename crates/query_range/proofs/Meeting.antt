@@ -1,21 +1,18 @@
 -- The keys that meet a pattern make one run of all keys of its width: it begins at the pattern's floor.
 use Rattle.std.proofs.Common.{◌≡◌, ◌≢◌, ℕ, ◌<◌, true, false, List, [], ◌∷◌, length, get_or, suc, refl, sym, subst, arith, Ordering, Less, Equal, Greater}
-use Rattle.std.specs.Cmp.{tied_itself}
-use Rattle.std.specs.Cmp.Lexicographic.{pointwise, bytes_decides, nat_list_cmp_total}
-use Rattle.std.specs.FinMap.{slice_cmp-IsAntisymmetric, nat_cmp-IsAntisymmetric}
+use Rattle.std.specs.Cmp.Lexicographic.{pointwise, bytes_decides}
 use Rattle.std.specs.List.{starts_with}
 use Rattle.std.specs.Ordering.{ordering_then}
 use Rattle.std.specs.Prelude.{nat_eq}
-use Rattle.index_tables.specs.Order.{key_cmp}
-use Rattle.query_range.specs.Answers.{id_cmp}
+use Rattle.index_tables.specs.Order.{Key, key_cmp}
+use Rattle.u1_base.specs.Ids.{id_cmp}
+use Rattle.u1_base.proofs.Booleans.{both, first, second}
+use Rattle.u1_base.proofs.SameIds.{id_tied, id_ties_itself}
 use Rattle.query_range.specs.Floor.{floor_of}
 use Rattle.query_range.specs.Patterns.{IsPattern, is_any, is_open, meets, part_meets}
 use Rattle.query_range.specs.declared.pattern.Part.{Part}
 use Rattle.query_range.specs.declared.pattern.Part.TheVariants.{Exact, Prefix, Any}
-use Rattle.query_range.proofs.Begins.{both, first, second, begins_above, begins_between}
-
-abbrev Key : Type 0
-Key = List (List ℕ)
+use Rattle.query_range.proofs.Begins.{begins_above, begins_between}
 
 tail_pattern : (part : Part) (parts : List Part) → IsPattern (part ∷ parts) → IsPattern parts
 tail_pattern part parts pattern i j d lt le = pattern (suc i) (suc j) d (omega arith) (omega arith)
@@ -37,9 +34,6 @@ any_meets (Any ∷ parts) (text ∷ key) any long = any_meets parts key (λ k d 
 is_exact : (text exact : List ℕ) → pointwise nat_eq text exact ≡ true → text ≡ exact
 is_exact text exact is = (bytes_decides text exact).0 is
 
-tied : (text : List ℕ) → id_cmp text text ≡ Equal
-tied = tied_itself nat_list_cmp_total
-
 -- no key that meets the pattern is below the floor
 pub floor_below : (parts : List Part) (key : Key) → meets parts key ≡ true → key_cmp key (floor_of parts) ≢ Less
 floor_below [] [] is = λ less. absurd (cc)
@@ -47,7 +41,7 @@ floor_below [] (text ∷ key) is = λ less. absurd (cc)
 floor_below (part ∷ parts) [] is = absurd (cc)
 floor_below (Exact exact ∷ parts) (text ∷ key) is =
     let same : text ≡ exact = is_exact text exact (first (part_meets (Exact exact) text) (meets parts key) is) in
-    let tie : id_cmp text exact ≡ Equal = subst (λ (t : List ℕ). id_cmp text t ≡ Equal) same (tied text) in
+    let tie : id_cmp text exact ≡ Equal = subst (λ (t : List ℕ). id_cmp text t ≡ Equal) same (id_ties_itself text) in
     subst (λ (r : Ordering). ordering_then r (key_cmp key (floor_of parts)) ≢ Less) (sym tie) (floor_below parts key (second (part_meets (Exact exact) text) (meets parts key) is))
 floor_below (Prefix prefix ∷ parts) (text ∷ key) is =
     elim (id_cmp text prefix) as (λ (r : Ordering). r ≢ Less → ordering_then r (key_cmp key []) ≢ Less) [
@@ -72,7 +66,7 @@ meets_between (Exact exact ∷ parts) (text ∷ key) (other ∷ upper) pattern l
     elim (id_cmp text exact) as (λ (r : Ordering). id_cmp text exact ≡ r → ordering_then r (key_cmp key (floor_of parts)) ≢ Less → ordering_then r (key_cmp key upper) ≢ Greater → meets (Exact exact ∷ parts) (text ∷ key) ≡ true) [
       | Less ↦ λ e l h. absurd (l refl)
       | Equal ↦ λ e l h.
-          both (pointwise nat_eq text exact) (meets parts key) ((bytes_decides text exact).1 (slice_cmp-IsAntisymmetric nat_cmp-IsAntisymmetric text exact e))
+          both (pointwise nat_eq text exact) (meets parts key) ((bytes_decides text exact).1 (id_tied text exact e))
           (meets_between parts key upper (tail_pattern (Exact exact) parts pattern) (omega arith) l h (second (part_meets (Exact exact) other) (meets parts upper) is))
       | Greater ↦ λ e l h. absurd (h refl)
     ] refl low (subst (λ (t : List ℕ). ordering_then (id_cmp text t) (key_cmp key upper) ≢ Greater) same high)

@@ -5,7 +5,9 @@ use Rattle.std.specs.List.{filter, take_while}
 use Rattle.std.specs.Ordering.{is_gt, is_le, ordering_then, ordering_reverse}
 use Rattle.index_tables.specs.Order.{Entry, FallsAt, IsInOrder, entry_cmp, key_cmp}
 use Rattle.index_tables.proofs.TotalOrders.{key_total}
-use Rattle.query_range.specs.Answers.{id_cmp, is_between, is_from, is_to}
+use Rattle.u1_base.specs.Ids.{id_cmp}
+use Rattle.u1_base.proofs.Booleans.{none_true}
+use Rattle.query_range.specs.Answers.{is_between, is_from, is_to}
 use Rattle.query_range.specs.Floor.{floor_of}
 use Rattle.query_range.specs.Patterns.{IsPattern, meets}
 use Rattle.query_range.specs.Wanted.{StartsAt}
@@ -22,25 +24,21 @@ not_above p q less = by (key_cmp p.0 q.0) less
     by Equal h = λ e. absurd (cc)
     by Greater h = λ e. absurd (cc)
 
-refuted : (b : Bool) → (b ≡ true → ⊥) → b ≡ false
-refuted true h = absurd (h refl)
-refuted false h = refl
-
 module _ (parts : List Part) (ps : List Entry) (place : ℕ) where
   pub pattern_run : IsPattern parts → All (λ p. length p.0 ≡ length parts) ps → IsInOrder ps → FallsAt ps (floor_of parts) place → filter (λ p. meets parts p.0) ps ≡ take_while (λ p. meets parts p.0) (drop place ps)
   pattern_run pattern widths order falls =
       run (λ p. meets parts p.0) (λ p. meets parts p.0) ps place falls.within
-      (λ k d lt. refuted (meets parts (get_or ps k d).0) (λ is. floor_below parts (get_or ps k d).0 is (falls.before k d (omega arith) lt)))
+      (λ k d lt. none_true (meets parts (get_or ps k d).0) (λ is. floor_below parts (get_or ps k d).0 is (falls.before k d (omega arith) lt)))
       (λ k d low lt. refl)
       (λ i k d low lt in_ps is.
       meets_between parts (get_or ps i d).0 (get_or ps k d).0 pattern (widths i d (omega arith)) (falls.after i d low (omega arith)) (not_above (get_or ps i d) (get_or ps k d) (order i k d lt in_ps)) is)
 
-le_gt : (r : Ordering) → is_le r ≡ true → is_gt r ≡ false
+pub le_gt : (r : Ordering) → is_le r ≡ true → is_gt r ≡ false
 le_gt Less h = refl
 le_gt Equal h = refl
 le_gt Greater h = absurd (cc)
 
-gt_le : (r : Ordering) → is_gt r ≡ false → is_le r ≡ true
+pub gt_le : (r : Ordering) → is_gt r ≡ false → is_le r ≡ true
 gt_le Less h = refl
 gt_le Equal h = refl
 gt_le Greater h = absurd (cc)

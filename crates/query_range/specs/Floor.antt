@@ -1,4 +1,4 @@
--- Where the keys that meet a pattern begin.
+-- Where the keys that meet a pattern begin. Only private clauses speak of it.
 use Rattle.std.specs.Prelude.{ℕ, List, [], ◌∷◌}
 use Rattle.query_range.specs.declared.pattern.Part.{Part}
 use Rattle.query_range.specs.declared.pattern.Part.TheVariants.{Exact, Prefix, Any}

@@ -2,4 +2,4 @@ pub mod Answers
 pub mod Floor
 pub mod Patterns
 pub mod Wanted
-pub mod Marks
+pub mod Found

@@ -10,7 +10,7 @@ use u1_base::{Key, Keys, Memory, Steps, Texts};
 
 /// The keys of all pairs, in order, each once.
 ///
-/// Each pair that is looked at counts one step.
+/// Each pair counts one step.
 pub fn distinct_keys<L: Ledger>(
     alloc: Global,
     table: &IndexTable,
@@ -18,7 +18,7 @@ pub fn distinct_keys<L: Ledger>(
 ) -> Result<Keys, Memory>
     ensures found { IfOk result (AreKeys table.now.pairs) }
     ensures filtered { IfOk result (λ keys. keys ≡ keys_of table.now.pairs) }
-    ensures looks { steps.new ≤ steps.old + length table.now.pairs + 4 }
+    ensures looks { steps.new ≤ steps.old + length table.now.pairs }
 {
     let mut keys = Keys::new(alloc);
     let mut entries = table.walk();

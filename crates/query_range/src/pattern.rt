@@ -58,18 +58,18 @@ fn read_part(alloc: Global, value: &Text) -> Result<Part, Memory>
 {
     match value.as_str().strip_suffix('*') {
         None => Ok(Part::Exact(value.duplicate()?)),
-        Some(front) => starred_part(alloc, front),
+        Some(begin) => starred_part(alloc, begin),
     }
 }
 
 // The part of a value that has this before its last star.
-fn starred_part(alloc: Global, front: &str) -> Result<Part, Memory>
-    ensures { IfOk result (λ part. part ≡ before_star front.now) }
+fn starred_part(alloc: Global, begin: &str) -> Result<Part, Memory>
+    ensures { IfOk result (λ part. part ≡ before_star begin.now) }
 {
-    if front.len() == 0 {
+    if begin.len() == 0 {
         return Ok(Part::Any);
     }
-    Ok(Part::Prefix(Text::copy(alloc, front)?))
+    Ok(Part::Prefix(Text::copy(alloc, begin)?))
 }
 
 /// The parts of a query, one for each expression of the index. Behind a prefix or any, all parts are any.

@@ -2,7 +2,8 @@
 use Rattle.std.proofs.Common.{◌≢◌, ◌++◌, [], ◌∷◌, ℕ, List, AllPairs, not, filter, sym, subst, ◌∙◌, ap}
 use Rattle.index_tables.specs.Entries.{AreNew, entries_of, has}
 use Rattle.index_tables.specs.Order.{Entry}
-use Rattle.query_range.proofs.Alone.{new_after_drop, one_distinct}
+use Rattle.index_tables.proofs.Laws.{new_after_drop}
+use Rattle.query_range.proofs.Alone.{one_distinct}
 use Rattle.query_range.proofs.tests.put.Goals as goal
 
 pub add-requires-clause-distinct : goal.add-requires-clause-distinct
@@ -14,4 +15,4 @@ add-requires-clause-fresh c =
     let keys = c.push.new.self in
     subst (λ (ps : List Entry). AreNew ps (entries_of c.args.id.now keys))
     (sym (c.drop_pairs.ensures.pairs ∙ ap (λ (ks : List (List (List ℕ))). filter (λ p. not (has (entries_of c.args.id.now ks) p)) c.args.table.now.pairs) c.as_slice.ensures))
-    (new_after_drop c.args.table.now.pairs c.args.id.now keys)
+    (new_after_drop c.args.table.now.pairs (entries_of c.args.id.now keys))
