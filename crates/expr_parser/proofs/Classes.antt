@@ -1,21 +1,13 @@
 -- What the classes of characters exclude.
 use Rattle.std.proofs.Common.{◌≡◌, ℕ, ◌+◌, ◌-◌, ◌*◌, ◌<◌, ◌≤◌, Bool, true, false, ◌⊎◌, eqb, refl, subst, eqb-true, arith, inl, inr}
 use Rattle.std.proofs.lemmas.Bool.Decides.{nat_tests}
+use Rattle.u1_base.proofs.Booleans.{none_true}
 use Rattle.expr_parser.specs.Grammar.{is_white, is_part}
-use Rattle.expr_parser.specs.Descent.{goes_on}
-
--- a test that cannot pass
-pub fails_otherwise : (b : Bool) → (b ≡ true → ⊥) → b ≡ false
-fails_otherwise true h = absurd (h refl)
-fails_otherwise false h = refl
+use Rattle.expr_parser.specs.Machine.{goes_on}
 
 pub white_not_part : (c : ℕ) → is_white c ≡ true → is_part c ≡ false
 unfolding is_part
 white_not_part c white = rw white refl
-
-pub part_not_white : (c : ℕ) → is_part c ≡ true → is_white c ≡ false
-part_not_white c part =
-    fails_otherwise (is_white c) (λ white. let other = white_not_part c white in cc)
 
 -- the marks are no white space and no part of a field
 pub is_white-dot : is_white 46 ≡ false
@@ -58,7 +50,7 @@ is_part-a = refl
 -- white space is none of the marks
 pub white_not_mark : (mark c : ℕ) → is_white mark ≡ false → is_white c ≡ true → eqb c mark ≡ false
 white_not_mark mark c not_white white =
-    fails_otherwise (eqb c mark) (λ same. let e : c ≡ mark = eqb-true c mark same in let w : is_white mark ≡ true = subst (λ x. is_white x ≡ true) e white in cc)
+    none_true (eqb c mark) (λ same. let e : c ≡ mark = eqb-true c mark same in let w : is_white mark ≡ true = subst (λ x. is_white x ≡ true) e white in cc)
 
 pub digit_not_white : (c : ℕ) → 48 ≤ c → c ≤ 57 → is_white c ≡ false
 unfolding is_white
@@ -90,16 +82,16 @@ goes_on-bracket n = refl
 
 pub goes_on-white : (n c : ℕ) → is_white c ≡ true → goes_on n c ≡ false
 goes_on-white n c white =
-    fails_otherwise (goes_on n c) (λ e. let p = goes_on-parts n c e in let q = digit_not_white c p.low p.high in cc)
+    none_true (goes_on n c) (λ e. let p = goes_on-parts n c e in let q = digit_not_white c p.low p.high in cc)
 
 pub goes_on-outside : (n c : ℕ) → (c < 48) ⊎ ((48 ≤ c) × (57 < c)) → goes_on n c ≡ false
 goes_on-outside n c (inl low) =
-    fails_otherwise (goes_on n c) (λ e. let p = goes_on-parts n c e in omega (arith, p.low))
+    none_true (goes_on n c) (λ e. let p = goes_on-parts n c e in omega (arith, p.low))
 goes_on-outside n c (inr high) =
-    fails_otherwise (goes_on n c) (λ e. let p = goes_on-parts n c e in omega (arith, p.high, high.1))
+    none_true (goes_on n c) (λ e. let p = goes_on-parts n c e in omega (arith, p.high, high.1))
 
 pub goes_on-too_far : (n c m : ℕ) → m ≡ n → (m * 10 + (c - 48) < 1) ⊎ ((1 ≤ m * 10 + (c - 48)) × (128 < m * 10 + (c - 48))) → goes_on n c ≡ false
 goes_on-too_far n c m same (inl few) =
-    fails_otherwise (goes_on n c) (λ e. let p = goes_on-parts n c e in let q = p.some in omega arith)
+    none_true (goes_on n c) (λ e. let p = goes_on-parts n c e in let q = p.some in omega arith)
 goes_on-too_far n c m same (inr far) =
-    fails_otherwise (goes_on n c) (λ e. let p = goes_on-parts n c e in let q = p.few in let r = far.1 in omega arith)
+    none_true (goes_on n c) (λ e. let p = goes_on-parts n c e in let q = p.few in let r = far.1 in omega arith)

@@ -8,7 +8,8 @@ use Rattle.expr_parser.specs.declared.transform.Transform.{Transform}
 use Rattle.expr_parser.specs.declared.transform.Transform.TheVariants.{Lower, SplitWords, Number, Truth, Combine}
 use Rattle.expr_parser.specs.Forms.{Form, Forms, field, lower, split_words, number, truth, combine, no_forms, form, forms_of}
 use Rattle.expr_parser.specs.Grammar.{is_white, is_part, IsWhite, IsPart, ArePartsOfField, SpellsField, SpellsWidth, Around, Call, Pair, Spells, SpellsEach}
-use Rattle.expr_parser.specs.Descent.{Open, none, within, combined, State, begin, word, dot, behind, done, width, digits, spaced, step, run, named, listed, closed, Fails, goes_on}
+use Rattle.expr_parser.specs.Descent.{Fails}
+use Rattle.expr_parser.specs.Machine.{Open, none, within, combined, State, begin, word, dot, behind, done, width, digits, spaced, step, run, named, listed, closed, goes_on}
 use Rattle.expr_parser.proofs.Classes.{is_white-comma, is_white-close, is_white-open, is_part-open, is_part-dot, digit_not_white, goes_on-true, goes_on-bracket, goes_on-white}
 use Rattle.expr_parser.proofs.Machine.{goes, Stays, white_run, begin_stays, behind_stays, done_stays, width_stays, spaced_stays, Enters, begin_enters, dot_enters, enter_run, PastWord, past_word_run, white_past_word, Delimits, delimits_past_word, delimits_not_white, delimits_not_open, field_run}
 
@@ -18,9 +19,6 @@ word_run s K parts enters p w t part white past =
     enter_run s K parts enters p (w ++ t) part
     ∙ (past_word_run K parts (encode_utf8_all p) (w ++ t) (white_past_word w t white past)
     ∙ white_run (behind K parts (encode_utf8_all p)) (behind_stays K parts (encode_utf8_all p)) w t white)
-
-dot_past_part : (t : List ℕ) → Fails is_part (46 ∷ t)
-dot_past_part t = is_part-dot
 
 dot_step : (K : Open) (parts : List (List ℕ)) (part : List ℕ) → step (word K parts part) 46 ≡ Some (dot K (parts ++ part ∷ []))
 dot_step K parts part = rw is_part-dot refl

@@ -9,4 +9,5 @@ pub mod Steps
 pub mod Spelled
 pub mod SameForms
 pub mod Joined
-pub mod Laws
+pub mod ReadBack
+mod Examples

@@ -4,7 +4,8 @@ use Rattle.std.specs.List.{list_all}
 use Rattle.std.proofs.lemmas.Bool.{and_parts}
 use Rattle.expr_parser.specs.Forms.{Form, field}
 use Rattle.expr_parser.specs.Grammar.{is_white, is_part, IsWhite, IsPart}
-use Rattle.expr_parser.specs.Descent.{Open, State, begin, word, dot, behind, done, more, width, spaced, step, run, onward, front_of, rest_of, Fails}
+use Rattle.expr_parser.specs.Descent.{front_of, rest_of, Fails}
+use Rattle.expr_parser.specs.Machine.{Open, State, begin, word, dot, behind, done, more, width, spaced, step, run, onward}
 use Rattle.expr_parser.proofs.Classes.{white_not_part, is_white-comma, is_white-close, is_white-dot, is_part-comma, is_part-close, white_not_mark}
 
 -- a step that is taken, and one that is not
@@ -66,9 +67,6 @@ behind_stays K parts part c white = rw white refl
 
 pub done_stays : (K : Open) (f : Form) → Stays (done K f)
 done_stays K f c white = rw white refl
-
-pub more_stays : (K : Open) (fs : List Form) → Stays (more K fs)
-more_stays K fs c white = rw white refl
 
 pub width_stays : (K : Open) (f : Form) → Stays (width K f)
 width_stays K f c white = rw white refl

@@ -8,7 +8,8 @@ use Rattle.expr_parser.specs.declared.transform.Transform.{Transform}
 use Rattle.expr_parser.specs.declared.transform.Transform.TheVariants.{Lower, SplitWords, Number, Truth, Combine}
 use Rattle.expr_parser.specs.Forms.{Form, field}
 use Rattle.expr_parser.specs.Grammar.{is_white, is_part, IsPart, ArePartsOfField}
-use Rattle.expr_parser.specs.Descent.{Open, State, begin, word, dot, behind, done, step, result_of, at_end, run, named, Fails, front_of, rest_of}
+use Rattle.expr_parser.specs.Descent.{Fails, front_of, rest_of}
+use Rattle.expr_parser.specs.Machine.{Open, State, begin, word, dot, behind, done, step, result_of, at_end, run, named}
 use Rattle.expr_parser.proofs.Classes.{is_white-open}
 use Rattle.expr_parser.proofs.Machine.{goes, stops, front_rest, front_passes, rest_fails, length-rest_of, Stays, behind_stays, Enters, dot_enters, enter_run, PastWord, past_word_run, field_run}
 

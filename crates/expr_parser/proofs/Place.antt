@@ -6,7 +6,7 @@ use Rattle.expr_parser.specs.Forms.{Form, field, lower, split_words, number, tru
 use Rattle.expr_parser.specs.Grammar.{IsPart, Spells, Begins}
 use Rattle.expr_parser.specs.Faults.{IsPlace, IsWrongAt, SpellsOnly}
 use Rattle.expr_parser.specs.Limits.{longest}
-use Rattle.expr_parser.specs.Descent.{Open, none, within, combined, State, begin, word, dot, behind, done, more, width, digits, spaced, ready, step, result_of, at_end, onward, run}
+use Rattle.expr_parser.specs.Machine.{Open, none, within, combined, State, begin, word, dot, behind, done, more, width, digits, spaced, ready, step, result_of, at_end, onward, run}
 use Rattle.expr_parser.proofs.Classes.{is_white-close, is_part-a}
 use Rattle.expr_parser.proofs.Machine.{goes, stops, begin_enters, dot_enters, past_word_run, Delimits, delimits_past_word, delimits_not_white, delimits_not_open, field_run}
 use Rattle.expr_parser.proofs.Complete.{names_run, width_core, close_step, spaced_step, lower_close, split_words_close, truth_close, number_comma, list_close, read-spelled}

@@ -5,7 +5,8 @@ use Rattle.expr_parser.specs.declared.transform.Transform.{Transform}
 use Rattle.expr_parser.specs.declared.transform.Transform.TheVariants.{Lower, SplitWords, Number, Truth, Combine}
 use Rattle.expr_parser.specs.Forms.{Form, field, lower, split_words, number, truth, combine, forms_of}
 use Rattle.expr_parser.specs.Grammar.{is_white, is_part, IsWhite, IsPart, SpellsWidth, Around, Call, Pair, Spells, SpellsEach}
-use Rattle.expr_parser.specs.Descent.{Open, none, within, combined, State, begin, behind, done, width, digits, spaced, step, result_of, run, named, Fails, goes_on, front_of, rest_of}
+use Rattle.expr_parser.specs.Descent.{Fails, front_of, rest_of}
+use Rattle.expr_parser.specs.Machine.{Open, none, within, combined, State, begin, behind, done, width, digits, spaced, step, result_of, run, named, goes_on}
 use Rattle.expr_parser.proofs.Classes.{is_white-open, is_white-comma, is_white-close, GoesOn, goes_on-parts}
 use Rattle.expr_parser.proofs.Machine.{goes, front_rest, front_passes, rest_fails, length-rest_of, rest_run, begin_stays, done_stays, width_stays, spaced_stays, begin_enters}
 use Rattle.expr_parser.proofs.Complete.{Lists}

@@ -1,5 +1,5 @@
 -- The canonical spelling spells its form, in no more bytes than any other.
-use Rattle.std.proofs.Common.{◌≡◌, ℕ, ◌+◌, ◌^◌, ◌<◌, ◌≤◌, true, List, [], ◌∷◌, ◌++◌, map, length, length-append, codes, decimal, encode_utf8_all, IsAscii, chars, refl, sym, ◌∙◌, ap, subst, append_assoc, append-nil, arith, lt_of_le_of_lt, lit<}
+use Rattle.std.proofs.Common.{◌≡◌, ℕ, ◌+◌, ◌^◌, ◌<◌, ◌≤◌, true, List, [], ◌∷◌, ◌++◌, map, length, length-append, codes, decimal, encode_utf8_all, IsAscii, IsUtf8, chars, refl, sym, ◌∙◌, ap, subst, append_assoc, append-nil, arith, lt_of_le_of_lt, lit<}
 use Rattle.std.specs.List.{join_with_byte}
 use Rattle.std.specs.Str.{all_scalars}
 use Rattle.std.proofs.lemmas.Bool.{and_parts, and_from}
@@ -197,3 +197,8 @@ canonical-shortest f text utf8 spells =
     let c : Compact (Spells f) (canonical f) (chars text) = compact f (chars text) spells (scalars-chars text utf8) in
     let characters : c.text ≡ chars (canonical f) = sym (chars-encodes c.text c.scalar) ∙ ap chars c.is in
     (subst (Spells f) characters c.holds, subst (λ (x : List ℕ). length (canonical f) ≤ length x) (encodes-chars text utf8) c.short)
+
+pub IsUtf8-canonical : (f : Form) (text : List ℕ) → IsUtf8 text → Spells f (chars text) → IsUtf8 (canonical f)
+IsUtf8-canonical f text utf8 spells =
+    let c : Compact (Spells f) (canonical f) (chars text) = compact f (chars text) spells (scalars-chars text utf8) in
+    (c.text, (c.scalar, c.is))

@@ -9,7 +9,8 @@ use Rattle.expr_parser.specs.declared.transform.Transform.TheVariants.{Lower, Sp
 use Rattle.expr_parser.specs.Forms.{Form, lower, split_words, number, truth, combine, forms_of}
 use Rattle.expr_parser.specs.FormOf.{form_of}
 use Rattle.expr_parser.specs.Grammar.{is_white, is_part, IsPart}
-use Rattle.expr_parser.specs.Descent.{Open, none, within, combined, State, begin, word, dot, behind, done, more, width, digits, spaced, ready, step, run, Fails, Goes, Parses, ReadsPart, StartsPart, goes_on, front_of, rest_of}
+use Rattle.expr_parser.specs.Descent.{Fails, Goes, Parses, ReadsPart, StartsPart, front_of, rest_of}
+use Rattle.expr_parser.specs.Machine.{Open, none, within, combined, State, begin, word, dot, behind, done, more, width, digits, spaced, ready, step, run, goes_on}
 use Rattle.expr_parser.proofs.Classes.{is_part-dot, is_white-comma, digit_not_white, goes_on-parts}
 use Rattle.expr_parser.proofs.Machine.{goes, front_rest, front_passes, rest_fails, length-rest_of, rest_run, begin_stays, behind_stays, done_stays, width_stays, spaced_stays, Enters, begin_enters, dot_enters, enter_run, past_word_run}
 
@@ -56,15 +57,6 @@ rest_shorter_case c cs starts = rw starts (omega (arith, length-rest_of is_part 
 pub rest_shorter : (cs : List ℕ) → StartsPart cs → length (rest_of is_part cs) < length cs
 rest_shorter [] starts = absurd starts
 rest_shorter (c ∷ cs) starts = rest_shorter_case c cs starts
-
--- the first part of a field, white space before it
-pub first_part : (K : Open) (old : List ℕ) → StartsPart (rest_of is_white old) → run (begin K) old ≡ run (word K [] (encode_utf8_all (front_of is_part (rest_of is_white old)))) (rest_of is_part (rest_of is_white old))
-first_part K old starts =
-    rest_run (begin K) (begin_stays K) old ∙ part_enters (begin K) K [] (begin_enters K) (rest_of is_white old) starts
-
-pub first_shorter : (old : List ℕ) → StartsPart (rest_of is_white old) → length (rest_of is_part (rest_of is_white old)) < length old
-first_shorter old starts =
-    omega (arith, rest_shorter (rest_of is_white old) starts, length-rest_of is_white old)
 
 begin_stuck : (K : Open) (cs : List ℕ) → Fails is_white cs → Fails is_part cs → run (begin K) cs ≡ Err cs
 begin_stuck K [] black no_part = refl

@@ -60,12 +60,5 @@ first_char text rest c utf8 e =
 pub no_char : (text : List ℕ) → length text ≡ 0 → chars text ≡ []
 no_char text e = ap chars (nil_from_length text e) ∙ chars-nil
 
--- a character of a part that is passed
-pub past_part : (cs rest : List ℕ) (c : ℕ) → cs ≡ c ∷ rest → is_part c ≡ true → rest_of is_part cs ≡ rest_of is_part rest
-past_part cs rest c e h = ap (rest_of is_part) e ∙ rw h refl
-
-pub at_rest : (cs rest : List ℕ) (c : ℕ) → cs ≡ c ∷ rest → is_part c ≡ false → rest_of is_part cs ≡ cs
-at_rest cs rest c e h = ap (rest_of is_part) e ∙ (rw h refl ∙ sym e)
-
 pub nothing_left : (cs : List ℕ) → cs ≡ [] → rest_of is_part cs ≡ cs
 nothing_left cs e = ap (rest_of is_part) e ∙ sym e

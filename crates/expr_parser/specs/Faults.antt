@@ -1,6 +1,7 @@
 -- What reading a text answers.
-use Rattle.std.specs.Prelude.{◌≡◌, ℕ, ◌<◌, ◌≤◌, List, ◌++◌, length, Result, Ok, Err, MatchResult, encode_utf8_all}
-use Rattle.std.specs.Str.{IsUtf8, chars}
+use Rattle.std.specs.Prelude.{◌≡◌, ℕ, ◌<◌, ◌≤◌, List, ◌++◌, codes, length, Result, Ok, Err, encode_utf8_all}
+use Rattle.std.specs.Fmt.{decimal}
+use Rattle.std.specs.Str.{chars}
 use Rattle.expr_parser.specs.declared.expr.Expr.{Expr}
 use Rattle.expr_parser.specs.declared.fault.ParseFault.{ParseFault}
 use Rattle.expr_parser.specs.declared.fault.ParseFault.TheVariants.{TooLong, At, Memory}
@@ -36,6 +37,8 @@ ReadsExpr text (Err TooLong) = longest < length text
 ReadsExpr text (Err (At place)) = IsWrongAt place text
 ReadsExpr text (Err Memory) = Unit {0}
 
--- where a text that is not too long spells the form, reading this spelling gives the form, or there is no memory
-abbrev pub ReadsBack : Form → List ℕ → Type 0
-ReadsBack f spelling = (text : List ℕ) → IsUtf8 text → length text ≤ longest → Spells f (chars text) → (answer : Result Expr ParseFault) → ReadsExpr spelling answer → MatchResult answer (λ e. form_of e ≡ f) (λ fault. fault ≡ Memory)
+-- what a fault prints
+abbrev pub fault_text : ParseFault → List ℕ
+fault_text TooLong = codes "the expression has more than 512 bytes"
+fault_text (At place) = codes "the expression goes wrong at byte " ++ decimal place
+fault_text Memory = codes "out of memory"

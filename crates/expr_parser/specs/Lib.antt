@@ -5,4 +5,6 @@ pub mod Grammar
 pub mod Canonical
 pub mod Same
 pub mod Faults
+pub mod Machine
+pub mod Reading
 pub mod Descent

@@ -1,4 +1,4 @@
--- Equality of forms, as a test.
+-- Words of private clauses: equality of forms, as a test.
 use Rattle.std.specs.Prelude.{ℕ, ◌==◌, Bool, true, false, ◌&&◌, List}
 use Rattle.std.specs.Str.{bytes_eq}
 use Rattle.std.specs.Cmp.Lexicographic.{pointwise}

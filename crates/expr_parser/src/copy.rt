@@ -32,7 +32,7 @@ fn boxed(alloc: Global, expr: &Expr) -> Result<Box<Expr>, Memory>
 fn copied_all(alloc: Global, exprs: &Vec<Expr>) -> Result<Vec<Expr>, Memory>
     ensures { IfOk result (λ es. map form_of es.items ≡ map form_of exprs.now.items) }
 {
-    let mut copies = Vec::new(alloc);
+    let mut copies = Vec::with_capacity(alloc, exprs.len())?;
     for expr in exprs {
         let copy = copied(alloc, expr)?;
         copies.push(copy)?;

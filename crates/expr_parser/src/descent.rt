@@ -3,7 +3,8 @@ ghost use Rattle.std.specs.Prelude.{◌≡◌, ℕ, ◌<◌, ◌≤◌, [], ◌�
 ghost use Rattle.expr_parser.specs.Forms.{Form, combine, field, number};
 ghost use Rattle.expr_parser.specs.FormOf.{form_of, forms_of_all};
 ghost use Rattle.expr_parser.specs.Grammar.{is_part, is_white};
-ghost use Rattle.expr_parser.specs.Descent.{Fails, Goes, Open, Parses, ReadsPart, begin, behind, done, ready, run, within};
+ghost use Rattle.expr_parser.specs.Descent.{Fails, Goes, Parses, ReadsPart};
+ghost use Rattle.expr_parser.specs.Machine.{Open, begin, behind, done, ready, run, within};
 
 use crate::reader::Reader;
 use crate::transform::{Transform, transform_named};

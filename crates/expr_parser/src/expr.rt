@@ -32,16 +32,21 @@ pub enum Expr {
 pub type Exprs = Items<Expr>;
 
 impl Expr {
-    ghost use Rattle.std.specs.Prelude.{◌≡◌, ◌↔◌, IsTrue, IfOk};
+    ghost use Rattle.std.specs.Prelude.{◌≡◌, ◌≢◌, ◌↔◌, IsTrue, IfOk, IfErr, Some, None};
     ghost use Rattle.expr_parser.specs.FormOf.{form_of};
-    ghost use Rattle.expr_parser.specs.Faults.{ReadsBack, ReadsExpr};
+    ghost use Rattle.expr_parser.specs.Faults.{ReadsExpr};
     ghost use Rattle.expr_parser.specs.Canonical.{canonical, IsShortest};
+    ghost use Rattle.expr_parser.specs.Reading.{IsExpr, expr_in};
 
     /// Reads an expression from the whole of the text, which has at most 512 bytes.
     ///
     /// `At` carries the length in bytes of the longest front of the text that some expression begins with.
     pub fn read(alloc: Global, text: &str) -> Result<Expr, ParseFault>
-        ensures { ReadsExpr text.now result }
+        ensures reads { IfOk result (λ e. expr_in text.now ≡ Some (form_of e)) }
+        ensures expr { IfOk result (λ e. IsExpr (form_of e)) }
+        ensures refused { IfErr result
+            (λ fault. fault ≢ ParseFault.Memory → expr_in text.now ≡ None) }
+        ensures grammar { ReadsExpr text.now result }
     {
         if is_too_long(text) {
             return Err(ParseFault::TooLong);
@@ -56,11 +61,13 @@ impl Expr {
 
     /// The spelling without white space.
     ///
-    /// It is read as this expression, if this one was read, and is never longer than what was read for it.
+    /// It is read as this expression, if this one was read or copied from one that was, and is
+    /// never longer than what was read for it.
     pub fn text(&self, alloc: Global) -> Result<Text, Memory>
         ensures value { IfOk result (λ t. t ≡ canonical (form_of self.now)) }
         ensures shortest { IfOk result (λ t. IsShortest (form_of self.now) t) }
-        ensures reads_back { IfOk result (λ t. ReadsBack (form_of self.now) t) }
+        ensures reads_back { IfOk result
+            (λ t. IsExpr (form_of self.now) → expr_in t ≡ Some (form_of self.now)) }
     {
         let mut text = String::new(alloc);
         spell(self, &mut text)?;

@@ -1,4 +1,6 @@
 //! Why a text is no expression.
+use std::error::Error;
+use std::fmt;
 
 /// The length is tested first.
 #[derive(Clone, Copy, Debug, PartialEq, Eq)]
@@ -9,3 +11,20 @@ pub enum ParseFault {
     At(u64),
     Memory,
 }
+
+impl fmt::Display for ParseFault {
+    ghost use Rattle.std.specs.Prelude.{Some};
+    ghost use Rattle.expr_parser.specs.Faults.{fault_text};
+
+    ghost output = { λ fault. Some (fault_text fault) };
+
+    fn fmt<W: fmt::Write>(&self, f: &mut fmt::Formatter<W>) -> fmt::Result {
+        match self {
+            ParseFault::TooLong => f.write_str("the expression has more than 512 bytes"),
+            ParseFault::At(place) => write!(f, "the expression goes wrong at byte {place}"),
+            ParseFault::Memory => f.write_str("out of memory"),
+        }
+    }
+}
+
+impl Error for ParseFault {}

@@ -9,6 +9,7 @@ mod copy;
 mod descent;
 mod expr;
 mod fault;
+mod laws;
 mod path;
 mod reader;
 mod same;
@@ -19,4 +20,5 @@ mod transform;
 
 pub use expr::{Expr, Exprs};
 pub use fault::ParseFault;
+pub use laws::{law_exprs, law_index_texts};
 pub use path::Path;

@@ -2,7 +2,8 @@
 ghost use Rattle.std.specs.Prelude.{◌≡◌, ℕ, ◌+◌, ◌-◌, ◌*◌, ◌<◌, ◌≤◌, ◌==◌, [], ◌∷◌, true, false, MatchBool, MatchOption, length, encode_utf8_all};
 ghost use Rattle.std.specs.Str.{chars};
 ghost use Rattle.expr_parser.specs.Grammar.{is_part, is_white};
-ghost use Rattle.expr_parser.specs.Descent.{Fails, front_of, goes_on, rest_of};
+ghost use Rattle.expr_parser.specs.Descent.{Fails, front_of, rest_of};
+ghost use Rattle.expr_parser.specs.Machine.{goes_on};
 
 use std::marker::Model;
 

@@ -93,6 +93,22 @@ fn refuses_texts(rt: HostRuntime) -> Result<(), Fail> {
 }
 
 #[test]
+fn prints_the_fault(rt: HostRuntime) -> Result<(), Fail> {
+    let alloc = rt.alloc();
+    for (fault, want) in [
+        (
+            ParseFault::TooLong,
+            "the expression has more than 512 bytes",
+        ),
+        (ParseFault::At(11), "the expression goes wrong at byte 11"),
+        (ParseFault::Memory, "out of memory"),
+    ] {
+        assert_eq!(rt; format!(in alloc; "{fault}")?.as_str(), want);
+    }
+    Ok(())
+}
+
+#[test]
 fn keeps_the_limit(rt: HostRuntime) -> Result<(), Fail> {
     let alloc = rt.alloc();
     let longest = repeated(alloc, "a", 512, "")?;

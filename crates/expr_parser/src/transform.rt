@@ -1,6 +1,6 @@
 //! The words of the transforms.
 ghost use Rattle.std.specs.Prelude.{◌≡◌};
-ghost use Rattle.expr_parser.specs.Descent.{named};
+ghost use Rattle.expr_parser.specs.Machine.{named};
 
 #[derive(Clone, Copy, Debug, PartialEq, Eq)]
 pub(crate) enum Transform {

@@ -6,7 +6,8 @@ use Rattle.expr_parser.specs.declared.transform.Transform.TheVariants.{Combine, 
 use Rattle.expr_parser.specs.Forms.{combine, number}
 use Rattle.expr_parser.specs.FormOf.{form_of, forms_of_all}
 use Rattle.expr_parser.specs.Grammar.{is_white}
-use Rattle.expr_parser.specs.Descent.{Fails, Goes, begin, combined, done, ready, run, within}
+use Rattle.expr_parser.specs.Descent.{Fails, Goes}
+use Rattle.expr_parser.specs.Machine.{begin, combined, done, ready, run, within}
 use Rattle.expr_parser.proofs.Machine.{rest_fails, length-rest_of}
 use Rattle.expr_parser.proofs.Steps.{stops_alike, stops_behind, argument_begins, arguments_first, arguments_next, arguments_end, ready_close, ready_stuck}
 use Rattle.expr_parser.proofs.descent.+descent.Goals as goal

@@ -2,7 +2,8 @@ use Rattle.std.proofs.Common.{◌≡◌, ◌+◌, ◌*◌, ◌≤◌, length, ma
 use Rattle.expr_parser.specs.declared.transform.Transform.TheVariants.{Combine}
 use Rattle.expr_parser.specs.FormOf.{form_of}
 use Rattle.expr_parser.specs.Grammar.{is_white}
-use Rattle.expr_parser.specs.Descent.{Fails, Open, done, more, run, within}
+use Rattle.expr_parser.specs.Descent.{Fails}
+use Rattle.expr_parser.specs.Machine.{Open, done, more, run, within}
 use Rattle.expr_parser.proofs.descent.+descent.Given as goal
 
 abbrev pub decreases-applied : goal.decreases-applied

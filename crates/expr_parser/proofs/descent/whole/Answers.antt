@@ -1,7 +1,7 @@
 -- Nothing may be left behind the expression.
 use Rattle.std.proofs.Common.{◌∙◌}
 use Rattle.expr_parser.specs.FormOf.{form_of}
-use Rattle.expr_parser.specs.Descent.{none}
+use Rattle.expr_parser.specs.Machine.{none}
 use Rattle.expr_parser.proofs.Steps.{whole_text}
 use Rattle.expr_parser.proofs.descent.whole.Goals as goal
 

@@ -2,7 +2,8 @@ use Rattle.std.proofs.Common.{◌≡◌, ◌≤◌, length}
 use Rattle.expr_parser.specs.declared.transform.Transform.TheVariants.{Number}
 use Rattle.expr_parser.specs.Forms.{Form}
 use Rattle.expr_parser.specs.Grammar.{is_white}
-use Rattle.expr_parser.specs.Descent.{Fails, Open, done, run, within}
+use Rattle.expr_parser.specs.Descent.{Fails}
+use Rattle.expr_parser.specs.Machine.{Open, done, run, within}
 use Rattle.expr_parser.proofs.Steps.{counted}
 use Rattle.expr_parser.proofs.descent.width_behind.Given as goal
 

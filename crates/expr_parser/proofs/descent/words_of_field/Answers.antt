@@ -2,7 +2,7 @@
 use Rattle.std.proofs.Common.{[], ◌∷◌, ◌++◌, ap, ◌∙◌}
 use Rattle.std.proofs.lemmas.Result.{err_from_is_err_and}
 use Rattle.expr_parser.specs.declared.descent.Words.{Words}
-use Rattle.expr_parser.specs.Descent.{behind}
+use Rattle.expr_parser.specs.Machine.{behind}
 use Rattle.expr_parser.proofs.Steps.{first_missing, words_end, words_first, words_next, words_smaller}
 use Rattle.expr_parser.proofs.descent.words_of_field.Goals as goal
 

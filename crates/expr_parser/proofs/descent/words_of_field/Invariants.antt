@@ -2,7 +2,8 @@ use Rattle.std.proofs.Common.{◌≡◌, ◌<◌, length}
 use denote.Text.{Utf8}
 use denote.Shadow.{shadow}
 use Rattle.expr_parser.specs.Grammar.{is_part}
-use Rattle.expr_parser.specs.Descent.{Fails, Open, begin, run, word}
+use Rattle.expr_parser.specs.Descent.{Fails}
+use Rattle.expr_parser.specs.Machine.{Open, begin, run, word}
 use Rattle.expr_parser.proofs.descent.words_of_field.Given as goal
 
 abbrev pub invariant-loop-alloc : goal.invariant-loop-alloc
