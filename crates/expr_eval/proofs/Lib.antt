@@ -3,3 +3,4 @@ pub mod Places
 pub mod WordsTaken
 pub mod Products
 pub mod Apart
+pub mod Widths

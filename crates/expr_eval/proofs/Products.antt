@@ -4,12 +4,12 @@ use Rattle.std.specs.List.{flat_map, list_any}
 use Rattle.content.specs.Tree.{Tree}
 use Rattle.expr_parser.specs.declared.expr.Expr.{Expr}
 use Rattle.expr_parser.specs.FormOf.{form_of}
-use Rattle.expr_eval.specs.Lent.{lent}
+use Rattle.expr_eval.specs.Lent.{behind, lent}
 use Rattle.expr_eval.specs.Values.{texts_of}
 use Rattle.std.proofs.lemmas.Bool.{eqb-true, false≢true, or_cases}
 use Rattle.std.proofs.lemmas.List.{nil_from_length, length-take, take_at, take-append-le}
 use Rattle.std.proofs.lemmas.List.Concat.{flat_map-append}
-use Rattle.expr_eval.specs.Keys.{behind, key_texts, keys_of, most, tuples}
+use Rattle.expr_eval.specs.Keys.{key_texts, keys_of, most, tuples}
 
 abbrev Texts : Type 0
 Texts = List (List ℕ)
@@ -64,10 +64,6 @@ taken_enough most front xs ys lists keys done before enough =
 pub behind-nothing : (ts : List Texts) → map (λ (t : Texts). [] ++ t) ts ≡ ts
 behind-nothing [] = refl
 behind-nothing (t ∷ ts) = ap (λ (l : List Texts). t ∷ l) (behind-nothing ts)
-
--- where there are enough, what is left out changes nothing
-pub full_stays : (most : ℕ) (keys more : List Texts) → most ≤ length keys → length keys ≤ most → keys ≡ take most (keys ++ more)
-full_stays most keys more enough few = sym (take-append-le most keys more enough ∙ take_all most keys few)
 
 pub one_more : (most : ℕ) (keys : List Texts) (key : Texts) → length keys < most → keys ++ key ∷ [] ≡ take most (keys ++ key ∷ [])
 one_more most keys key room = sym (take_all most (keys ++ key ∷ []) (omega (arith, length-append keys (key ∷ []))))

@@ -1,5 +1,5 @@
 -- The keys of a content tree for a list of expressions.
-use Rattle.std.specs.Prelude.{ℕ, nat_le, List, [], ◌∷◌, ◌++◌, length, map, filter, flat_map, take}
+use Rattle.std.specs.Prelude.{ℕ, nat_le, List, [], ◌∷◌, length, map, filter, flat_map, take}
 use Rattle.content.specs.Tree.{Tree}
 use Rattle.expr_parser.specs.Forms.{Form}
 use Rattle.expr_eval.specs.Values.{texts_of}
@@ -22,10 +22,6 @@ abbrev pub tuples : List (List (List ℕ)) → List (List (List ℕ))
 tuples [] = [] ∷ []
 tuples (texts ∷ lists) = flat_map (λ text. map (λ tuple. text ∷ tuple) (tuples lists)) texts
 
--- these, each behind a front
-abbrev pub behind : List (List ℕ) → List (List (List ℕ)) → List (List (List ℕ))
-behind front lists = map (λ tuple. front ++ tuple) (tuples lists)
-
--- the keys: the first 4,096 of these, over the texts of the expressions
+-- the keys: the first 4,096 of these lists, over the texts of the expressions
 abbrev pub keys_of : List Form → Tree → List (List (List ℕ))
 keys_of forms tree = take most (tuples (map (λ f. key_texts (texts_of f tree)) forms))

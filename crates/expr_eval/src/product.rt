@@ -1,10 +1,11 @@
 //! The keys of a content: the product of the texts of several expressions.
 ghost use Rattle.std.specs.Prelude.{◌≡◌, ◌≢◌, ◌==◌, ◌+◌, ◌<◌, ◌≤◌, ◌++◌, ◌∷◌, [], IfOk, OnOk, length, map, take, filter, nat_le, vec_len};
-ghost use Rattle.std.specs.List.{AllPairs, list_any};
+ghost use Rattle.std.specs.List.{All, AllPairs, list_any};
 ghost use Rattle.content.specs.TreeOf.{tree_of};
 ghost use Rattle.expr_parser.specs.FormOf.{form_of};
-ghost use Rattle.expr_eval.specs.Keys.{behind, key_texts, keys_of, longest, most};
-ghost use Rattle.expr_eval.specs.Lent.{lent};
+ghost use Rattle.expr_parser.specs.Limits.{most_exprs};
+ghost use Rattle.expr_eval.specs.Keys.{key_texts, keys_of, longest, most};
+ghost use Rattle.expr_eval.specs.Lent.{behind, lent};
 ghost use Rattle.expr_eval.specs.Values.{texts_of};
 
 use crate::evaluate::values;
@@ -15,12 +16,14 @@ use std::alloc::Global;
 use u1_base::limits::{MOST_DOCUMENT_KEYS, MOST_KEY_TEXT_BYTES};
 use u1_base::{Key, Keys, Memory, Text, Texts};
 
-/// The keys of a content for one to eight expressions: one text of each expression, at most 1,024 bytes long, in every
-/// combination, of which the first 4,096 count. An expression without such a text leaves no key.
+/// The keys of a content for one to eight expressions: one text of each expression, at most 1,024
+/// bytes long, in every combination, of which the first 4,096 count. An expression without such a
+/// text leaves no key.
 pub fn keys(alloc: Global, exprs: &[Expr], root: &Json) -> Result<Keys, Memory>
     requires some { 1 ≤ length exprs.now }
-    requires few { length exprs.now ≤ 8 }
+    requires few { length exprs.now ≤ most_exprs }
     ensures value { IfOk result (λ keys. keys ≡ keys_of (map form_of exprs.now) (tree_of root.now)) }
+    ensures widths { IfOk result (λ keys. All (λ key. length key ≡ length exprs.now) keys) }
     ensures distinct { IfOk result (λ keys. AllPairs (λ key other. key ≢ other) keys) }
 {
     let given = texts_of_each(alloc, exprs, root)?;

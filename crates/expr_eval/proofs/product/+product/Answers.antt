@@ -1,8 +1,8 @@
 -- The front is a key where no list is left; else it is longer by each text of the next list in turn.
 use Rattle.std.proofs.Common.{◌≡◌, ◌≤◌, ◌+◌, ℕ, List, [], ◌∷◌, ◌++◌, Bor, Vec, Global, length, map, take, drop, get_or, refl, sym, ap, ◌∙◌, arith}
 use Rattle.std.proofs.lemmas.List.{map-append, nil_from_length, take-append-drop, take_more}
-use Rattle.expr_eval.specs.Keys.{behind, most}
-use Rattle.expr_eval.specs.Lent.{lent}
+use Rattle.expr_eval.specs.Keys.{most}
+use Rattle.expr_eval.specs.Lent.{behind, lent}
 use Rattle.expr_eval.proofs.Places.{lent-push}
 use Rattle.expr_eval.proofs.Products.{last_of_front, none_taken, popped, taken_enough, taken_few, taken_more}
 use Rattle.expr_eval.proofs.product.+product.Goals as goal

@@ -1,12 +1,15 @@
 -- What is made from the lists of the code is what the definition says, and has no doubles.
-use Rattle.std.proofs.Common.{◌≡◌, ◌≢◌, ℕ, List, ◌++◌, Bor, Vec, Global, map, take, sym, ap, ap₂, subst, ◌∙◌, arith}
-use Rattle.std.specs.List.{AllPairs}
+use Rattle.std.proofs.Common.{◌≡◌, ◌≢◌, ℕ, List, ◌++◌, length, Bor, Vec, Global, map, take, sym, ap, ap₂, subst, ◌∙◌, arith}
+use Rattle.std.proofs.lemmas.List.{length-map}
+use Rattle.std.proofs.lemmas.List.Elements.{All-nil}
+use Rattle.std.specs.List.{All, AllPairs}
 use Rattle.content.specs.TreeOf.{tree_of}
 use Rattle.expr_parser.specs.FormOf.{form_of}
-use Rattle.expr_eval.specs.Keys.{behind, key_texts, most}
-use Rattle.expr_eval.specs.Lent.{lent}
+use Rattle.expr_eval.specs.Keys.{key_texts, keys_of, most}
+use Rattle.expr_eval.specs.Lent.{behind, lent}
 use Rattle.expr_eval.specs.Values.{texts_of}
 use Rattle.expr_eval.proofs.Apart.{keys_of-apart}
+use Rattle.expr_eval.proofs.Widths.{keys_of-width}
 use Rattle.expr_eval.proofs.Products.{keys_made, lists_same, no_keys, tuples-empty}
 use Rattle.expr_eval.proofs.product.keys.Goals as goal
 
@@ -18,6 +21,9 @@ lists_of lists = map (λ (list : Vec (Bor (List ℕ)) Global). lent list.items) 
 
 abbrev AreApart : Keys → Type 0
 AreApart keys = AllPairs (λ (key other : List (List ℕ)). key ≢ other) keys
+
+abbrev HaveWidth : ℕ → Keys → Type 0
+HaveWidth n keys = All (λ (key : List (List ℕ)). length key ≡ n) keys
 
 pub returns-then-has_empty-clause-value : goal.returns-then-has_empty-clause-value
 returns-then-has_empty-clause-value c =
@@ -40,6 +46,19 @@ returns-clause-value c =
     c.in_ok-add_keys.ensures.keys
     ∙ (ap₂ (λ (keys : Keys) (front : List (Bor (List ℕ))). take most (keys ++ behind (lent front) lists)) c.new-keys.ensures c.in_ok-front.ensures.items
     ∙ keys_made tree exprs lists all)
+
+pub returns-then-has_empty-clause-widths : goal.returns-then-has_empty-clause-widths
+returns-then-has_empty-clause-widths c =
+    let n = length c.args.exprs.now in
+    subst (HaveWidth n) (sym c.new-keys.ensures) (All-nil (λ (key : List (List ℕ)). length key ≡ n))
+
+pub returns-clause-widths : goal.returns-clause-widths
+returns-clause-widths c =
+    let exprs = c.args.exprs.now in
+    let forms = map form_of exprs in
+    let tree = tree_of c.args.root.now in
+    subst (HaveWidth (length exprs)) (sym (returns-clause-value c))
+    (subst (λ (n : ℕ). HaveWidth n (keys_of forms tree)) (length-map exprs form_of) (keys_of-width forms tree))
 
 pub returns-clause-distinct : goal.returns-clause-distinct
 returns-clause-distinct c =
