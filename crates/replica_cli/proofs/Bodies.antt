@@ -1,6 +1,9 @@
 -- The body of an entry that creates a document is short: its fields are, and its content is within the limit.
 use Rattle.std.proofs.Common.{◌≡◌, ℕ, ◌^◌, ◌<◌, ◌≤◌, List, ◌++◌, codes, length, length-append, arith, refl, sym, subst, true, false, Result, Ok, Err, IfOk}
 use Rattle.std.specs.Prelude.{◌==◌}
+use Rattle.u1_base.specs.Ids.{IsId, longest}
+use Rattle.u1_base.specs.declared.ids.Form.{Form}
+use Rattle.u1_base.proofs.IdFacts.{id_facts}
 use Rattle.replica_cli.proofs.Lengths.{length-text_field, length-u32_bytes, length-u64_bytes}
 use Rattle.replica_cli.specs.Body.{edit_body, first_clock}
 
@@ -29,3 +32,7 @@ short_as {n = n} e short = subst (λ (zs : List ℕ). length zs ≤ n) (sym e) s
 pub answered : {E : Type 0} (r : Result (List ℕ) E) (P : List ℕ → Type 0) (xs : List ℕ) → P xs → IfOk r (λ ys. ys ≡ xs) → IfOk r P
 answered (Ok ys) P xs p e = subst P (sym e) p
 answered (Err f) P xs p e = tt
+
+-- so is one that equals an id
+pub short_id : (form : Form) {xs id : List ℕ} → xs ≡ id → IsId form id → length xs ≤ longest form
+short_id form {id = id} e is = short_as e (id_facts form id is).1

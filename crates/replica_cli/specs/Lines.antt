@@ -33,7 +33,7 @@ refusal_name NoDatabase = codes "no-database"
 refusal_name DatabaseExists = codes "database-exists"
 refusal_name NotBuilt = codes "not-built"
 
--- the last line of an outcome; Done, a failed output and want of memory have none
+-- the last line of an outcome; Done, a failed output and out of memory have none
 abbrev pub outcome_line : Outcome → List ℕ
 outcome_line Done = []
 outcome_line (Usage Words) = codes "usage\n"

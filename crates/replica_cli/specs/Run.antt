@@ -1,9 +1,10 @@
 -- What the top call promises, in layers: what was seen before and after, how the run ended and why, what each command
 -- does, and what was printed.
-use Rattle.std.specs.Prelude.{◌≡◌, ◌≢◌, ◌⊎◌, ℕ, ◌<◌, ◌≤◌, List, [], ◌∷◌, length, Option, Some, None, IfSome}
-use Rattle.u1_base.specs.Causes.{Rose, Tells}
-use Rattle.link.specs.Streams.{Gives}
-use Rattle.journal.specs.Image.{Head, ReadsAs, image}
+use Rattle.std.specs.Prelude.{◌≡◌, ◌≢◌, ◌⊎◌, ℕ, ◌<◌, ◌≤◌, Bool, IsTrue, List, [], ◌∷◌, length, Some, None}
+use Rattle.u1_base.specs.Causes.{Rose}
+use Rattle.link.specs.Streams.{Output, Takes}
+use Rattle.disk_model.specs.Device.{Device}
+use Rattle.journal.specs.Image.{Head, ReadsAs, ReadsWithOrWithout, image}
 use Rattle.journal.specs.Damage.{DamagedAt}
 use Rattle.content.specs.Tree.{Tree}
 use Rattle.content.specs.Canonical.{canonical, data_of}
@@ -11,10 +12,11 @@ use Rattle.content.specs.Faults.{fault_of, value_of}
 use Rattle.replica_cli.specs.Body.{created_body}
 use Rattle.replica_cli.specs.Lines.{create_line, init_line}
 use Rattle.replica_cli.specs.Printed.{Prints, printed_text}
-use Rattle.replica_cli.specs.Seen.{Known, Output, Seen}
+use Rattle.replica_cli.specs.Seen.{MayLeave, Seen, Unchanged}
 use Rattle.replica_cli.specs.Words.{IsCommand, IsUsage}
 use Rattle.replica_cli.specs.declared.outcome.Outcome.{Outcome}
-use Rattle.replica_cli.specs.declared.outcome.Outcome.TheVariants.{Done, Usage, BadContent, Refused, Damaged, StoreFull, DiskFault, SourceFault, Memory}
+use Rattle.replica_cli.specs.declared.outcome.Outcome.TheVariants.{Done, Usage, BadContent, Refused, Damaged}
+use Rattle.replica_cli.specs.declared.outcome.Outcome.TheVariants.{StoreFull, DiskFault, SourceFault, Memory}
 use Rattle.replica_cli.specs.declared.outcome.Refusal.TheVariants.{NoDatabase, DatabaseExists, NotBuilt}
 use Rattle.replica_cli.specs.declared.outcome.UsageKind.{UsageKind}
 use Rattle.replica_cli.specs.declared.words.Command.{Command}
@@ -37,29 +39,33 @@ pub record IsContentOf (given : List ℕ) (tree : Tree) : Type 0 where
 abbrev pub created : ℕ → ℕ → List ℕ → Head → Tree → List ℕ
 created format seed id head tree = created_body format seed id head.uid (canonical tree)
 
+-- the store of one entry, the one that `create` appends
+abbrev pub IsCreated : ℕ → ℕ → List ℕ → Head → Tree → List ℕ → Type 0
+IsCreated format seed id head tree file = ReadsAs format head (created format seed id head tree ∷ []) file
+
 -- the header of a new store: its limit is 2^40 bytes
 abbrev pub new_head : List ℕ → List ℕ → Head
 new_head name uid = record { name = name; uid = uid; limit = 1099511627776 }
 
 -- what each command does, where it ends as Done
 
-pub record Initializes (name uid stored : List ℕ) (after : Option (List ℕ)) (text : List ℕ) : Type 0 where
+pub record Initializes (tells : Bool) (name uid stored : List ℕ) (after : Device) (text : List ℕ) : Type 0 where
   pub was_empty : stored ≡ []
-  pub holds : Tells after (image 2 (new_head name uid) [])
+  pub holds : IsTrue tells → after.seen ≡ image 2 (new_head name uid) []
   pub prints : text ≡ init_line name uid
 
-pub record Creates (seed : ℕ) (id stored given : List ℕ) (after : Option (List ℕ)) (text : List ℕ) : Type 0 where
+pub record Creates (tells : Bool) (seed : ℕ) (id stored given : List ℕ) (after : Device) (text : List ℕ) : Type 0 where
   pub format : ℕ
   pub head : Head
   pub tree : Tree
   pub was_empty : IsEmptyStore format head stored
   pub content : IsContentOf given tree
   pub fits : length (image format head (created format seed id head tree ∷ [])) ≤ head.limit
-  pub holds : IfSome after (ReadsAs format head (created format seed id head tree ∷ []))
+  pub holds : IsTrue tells → IsCreated format seed id head tree after.seen
   pub prints : text ≡ create_line id head.uid
 
 -- how a run ended, and why. The causes of one command exclude each other and cover all that may come, so each line says
--- exactly where its outcome comes; want of memory alone is free.
+-- exactly where its outcome comes; running out of memory alone is free.
 
 -- the image is there and has no entry yet
 abbrev pub IsReady : List ℕ → Type 0
@@ -67,7 +73,8 @@ IsReady stored = (format : ℕ) × (head : Head) × IsEmptyStore format head sto
 
 -- the image has an entry
 abbrev pub HasEntry : List ℕ → Type 0
-HasEntry stored = (format : ℕ) × (head : Head) × (bodies : List (List ℕ)) × ReadsAs format head bodies stored × (bodies ≢ [])
+HasEntry stored =
+    (format : ℕ) × (head : Head) × (bodies : List (List ℕ)) × ReadsAs format head bodies stored × (bodies ≢ [])
 
 -- with the entry the image would have `need` bytes, more than its limit
 pub record Overfills (seed : ℕ) (id stored given : List ℕ) (need limit : ℕ) : Type 0 where
@@ -80,60 +87,86 @@ pub record Overfills (seed : ℕ) (id stored given : List ℕ) (need limit : ℕ
   pub limits : limit ≡ head.limit
   pub over : limit < need
 
--- the outcomes of `init`
-abbrev pub InitEnds : List ℕ → List ℕ → List ℕ → Known → Known → Outcome → List ℕ → Type 0
-InitEnds name uid stored before after (Refused DatabaseExists) text = (stored ≢ []) × (after.bytes ≡ before.bytes)
-InitEnds name uid stored before after Done text = Initializes name uid stored after.bytes text
-InitEnds name uid stored before after DiskFault text = Rose before.faults after.faults
-InitEnds name uid stored before after Memory text = Unit {0}
-InitEnds name uid stored before after _ text = ⊥
+-- the outcomes of `init`; it leaves another store than an empty one as it was
+abbrev pub InitEnds : Bool → List ℕ → List ℕ → List ℕ → Device → Device → Outcome → List ℕ → Type 0
+InitEnds tells name uid stored before after (Refused DatabaseExists) text = (stored ≢ []) × Unchanged tells before after
+InitEnds tells name uid stored before after Done text = Initializes tells name uid stored after text
+InitEnds tells name uid stored before after DiskFault text =
+    Rose before.faults after.faults × ((stored ≡ []) ⊎ Unchanged tells before after)
+InitEnds tells name uid stored before after Memory text = Unchanged tells before after
+InitEnds tells name uid stored before after _ text = ⊥
 
--- the outcomes of `create`, in the order in which they are tested; the input is read only where the image has no entry
-abbrev pub CreateEnds : ℕ → List ℕ → List ℕ → List ℕ → Seen → Seen → Outcome → List ℕ → Type 0
-CreateEnds seed id stored given before after (Refused NoDatabase) text =
-    (stored ≡ []) × (after.disk.bytes ≡ before.disk.bytes) × (after.input ≡ before.input)
-CreateEnds seed id stored given before after (Damaged place) text =
-    DamagedAt place stored × IfSome before.disk.bytes (λ bytes. bytes ≢ []) × (after.disk.bytes ≡ before.disk.bytes) × (after.input ≡ before.input)
-CreateEnds seed id stored given before after (Refused NotBuilt) text =
-    HasEntry stored × (after.disk.bytes ≡ before.disk.bytes) × (after.input ≡ before.input)
-CreateEnds seed id stored given before after SourceFault text =
-    IsReady stored × Rose before.input.faults after.input.faults × (after.disk.bytes ≡ before.disk.bytes)
-CreateEnds seed id stored given before after (BadContent fault) text =
-    IsReady stored × (fault_of given ≡ Some fault) × (after.disk.bytes ≡ before.disk.bytes)
-CreateEnds seed id stored given before after (StoreFull need limit) text =
-    Overfills seed id stored given need limit × (after.disk.bytes ≡ before.disk.bytes)
-CreateEnds seed id stored given before after Done text = Creates seed id stored given after.disk.bytes text
-CreateEnds seed id stored given before after DiskFault text = Rose before.disk.faults after.disk.faults
-CreateEnds seed id stored given before after Memory text = Unit {0}
-CreateEnds seed id stored given before after _ text = ⊥
+-- the outcomes of `create`, in the order in which they are tested; the input is read only where the image has no entry,
+-- and then all that it gives, unless the run breaks off
+abbrev pub CreateEnds : Bool → ℕ → List ℕ → List ℕ → List ℕ → List ℕ → Seen → Seen → Outcome → List ℕ → Type 0
+CreateEnds tells seed id stored given read before after (Refused NoDatabase) text =
+    (stored ≡ []) × Unchanged tells before.disk after.disk × (after.input ≡ before.input)
+CreateEnds tells seed id stored given read before after (Damaged place) text =
+    DamagedAt place stored × (IsTrue tells → before.disk.seen ≢ [])
+    × Unchanged tells before.disk after.disk × (after.input ≡ before.input)
+CreateEnds tells seed id stored given read before after (Refused NotBuilt) text =
+    HasEntry stored × Unchanged tells before.disk after.disk × (after.input ≡ before.input)
+CreateEnds tells seed id stored given read before after SourceFault text =
+    IsReady stored × Rose before.input.faults after.input.faults × Unchanged tells before.disk after.disk
+CreateEnds tells seed id stored given read before after (BadContent fault) text =
+    IsReady stored × (fault_of given ≡ Some fault) × (read ≡ given) × Unchanged tells before.disk after.disk
+CreateEnds tells seed id stored given read before after (StoreFull need limit) text =
+    Overfills seed id stored given need limit × (read ≡ given) × Unchanged tells before.disk after.disk
+CreateEnds tells seed id stored given read before after Done text =
+    Creates tells seed id stored given after.disk text × (read ≡ given)
+CreateEnds tells seed id stored given read before after DiskFault text =
+    Rose before.disk.faults after.disk.faults × ((after.input ≡ before.input) ⊎ (read ≡ given))
+CreateEnds tells seed id stored given read before after Memory text = Unchanged tells before.disk after.disk
+CreateEnds tells seed id stored given read before after _ text = ⊥
 
 -- `init` leaves the input alone
-abbrev pub CommandEnds : Command → ℕ → List ℕ → List ℕ → Seen → Seen → Outcome → List ℕ → Type 0
-CommandEnds (Init name uid) seed stored given before after outcome text =
-    InitEnds name uid stored before.disk after.disk outcome text × (after.input ≡ before.input)
-CommandEnds (Create id) seed stored given before after outcome text = CreateEnds seed id stored given before after outcome text
+abbrev pub CommandEnds : Bool → Command → ℕ → List ℕ → List ℕ → List ℕ → Seen → Seen → Outcome → List ℕ → Type 0
+CommandEnds tells (Init name uid) seed stored given read before after outcome text =
+    InitEnds tells name uid stored before.disk after.disk outcome text × (after.input ≡ before.input)
+CommandEnds tells (Create id) seed stored given read before after outcome text =
+    CreateEnds tells seed id stored given read before after outcome text
+
+-- a store without entries was there, and a content: the file is that store, or the same with the document
+pub record WithOrWithout (seed : ℕ) (id stored given file : List ℕ) : Type 0 where
+  pub format : ℕ
+  pub head : Head
+  pub tree : Tree
+  pub was_empty : IsEmptyStore format head stored
+  pub content : IsContentOf given tree
+  pub is : ReadsWithOrWithout (created format seed id head tree) format head [] file
+
+-- what a crash may leave of the store while a command is at work, beside what it might have left before: of `init`
+-- anything, but only in the place of an empty store; of `create` the store as it reads, or with its document
+abbrev pub WayOf : Command → ℕ → List ℕ → List ℕ → List ℕ → Type 0
+WayOf (Init name uid) seed stored given file = stored ≡ []
+WayOf (Create id) seed stored given file = WithOrWithout seed id stored given file
 
 -- wrong words, a command, or no memory to read the words; nothing is touched but by a command
-abbrev pub Ends : List (List ℕ) → ℕ → List ℕ → List ℕ → Seen → Seen → Outcome → List ℕ → Type 0
-Ends words seed stored given before after outcome text =
+abbrev pub Ends : Bool → List (List ℕ) → ℕ → List ℕ → List ℕ → List ℕ → Seen → Seen → Outcome → List ℕ → Type 0
+Ends tells words seed stored given read before after outcome text =
     ((kind : UsageKind) × (outcome ≡ Usage kind) × IsUsage words kind × (after ≡ before))
-    ⊎ ((command : Command) × IsCommand words command × CommandEnds command seed stored given before after outcome text)
+    ⊎ ((command : Command) × IsCommand words command
+    × CommandEnds tells command seed stored given read before after outcome text
+    × MayLeave tells (WayOf command seed stored given) before.disk after.disk)
     ⊎ ((outcome ≡ Memory) × (after ≡ before))
 
--- what the disk held and what the input gave, up to one byte more than a content may have: they are what is told, where
--- it is told
-pub record Decides (words : List (List ℕ)) (seed : ℕ) (before after : Seen) (outcome : Outcome) (text : List ℕ) : Type 0 where
+-- what the disk held, what the input could give, up to one byte more than a content may have, and what was read of
+-- that: they are what is told, where it is told; just what was read is gone from the input
+pub record Decides (tells : Bool) (words : List (List ℕ)) (seed : ℕ) (before after : Seen)
+    (outcome : Outcome) (text : List ℕ) : Type 0 where
   pub stored : List ℕ
   pub given : List ℕ
-  pub stored_told : Tells before.disk.bytes stored
-  pub given_told : Gives before.input.bytes most_input given
+  pub read : List ℕ
+  pub stored_told : IsTrue tells → before.disk.seen ≡ stored
+  pub takes : Takes most_input given read before.input after.input
   pub disk_later : before.disk.faults ≤ after.disk.faults
-  pub input_later : before.input.faults ≤ after.input.faults
-  pub ends : Ends words seed stored given before after outcome text
+  pub ends : Ends tells words seed stored given read before after outcome text
 
 -- the run: a decision, and its text on the output
-pub record Runs (words : List (List ℕ)) (seed : ℕ) (before after : Seen) (out_before out_after : Output) (outcome : Outcome) : Type 0 where
+pub record Runs (tells : Bool) (words : List (List ℕ)) (seed : ℕ) (before after : Seen)
+    (out_before out_after : Output) (outcome : Outcome) : Type 0 where
   pub decided : Outcome
   pub text : List ℕ
-  pub decides : Decides words seed before after decided text
+  pub decides : Decides tells words seed before after decided text
   pub prints : Prints (printed_text decided text) out_before out_after decided outcome
+  pub output_later : out_before.faults ≤ out_after.faults

@@ -1,32 +1,22 @@
--- What a contract knows of the disk, the input and the output at a moment.
-use Rattle.std.specs.Prelude.{ℕ, Bool, true, false, List, Option, Some, None}
+-- What a contract knows of the disk and of the input at a moment.
+use Rattle.std.specs.Prelude.{◌≡◌, ◌⊎◌, ℕ, Bool, IsTrue, List}
+use Rattle.disk_model.specs.Device.{Device}
+use Rattle.disk_model.specs.Disk.{IsCrashImage}
+use Rattle.disk_model.specs.Moments.{LeavesOnly}
+use Rattle.link.specs.Streams.{Input}
 
--- of one object: the bytes that it holds, has left or has taken, where it tells them, and how often it failed
-pub record Known : Type 0 where
-  pub bytes : Option (List ℕ)
-  pub faults : ℕ
-
--- of the output: the same, and whether some of what it took may still be held back
-pub record Output : Type 0 where
-  pub bytes : Option (List ℕ)
-  pub faults : ℕ
-  pub held : Bool
-
--- of the disk and the input
 pub record Seen : Type 0 where
-  pub disk : Known
-  pub input : Known
+  pub disk : Device
+  pub input : Input
 
--- what a disk tells, if disks of its type tell anything
-abbrev pub told : Bool → List ℕ → Option (List ℕ)
-told true bytes = Some bytes
-told false bytes = None
+-- the disk holds what it held, if disks of its type tell what they hold
+abbrev pub Unchanged : Bool → Device → Device → Type 0
+Unchanged tells before after = IsTrue tells → after.seen ≡ before.seen
 
--- a disk that holds these bytes
-abbrev pub disk_of : Bool → List ℕ → ℕ → Known
-disk_of tells bytes faults = record { bytes = told tells bytes; faults = faults }
+-- what a crash might have left at that moment, or a file that has P
+abbrev pub MayBe : Device → (List ℕ → Type 0) → List ℕ → Type 0
+MayBe before P file = IsCrashImage before.now file ⊎ P file
 
--- a disk and an input with these bytes and counts
-abbrev pub seen_of : Bool → List ℕ → ℕ → Option (List ℕ) → ℕ → Seen
-seen_of tells bytes faults left read_faults =
-    record { disk = disk_of tells bytes faults; input = record { bytes = left; faults = read_faults } }
+-- a crash at any moment since leaves what it might have left at the start, or a file that has P
+abbrev pub MayLeave : Bool → (List ℕ → Type 0) → Device → Device → Type 0
+MayLeave tells P before after = IsTrue tells → LeavesOnly before after (MayBe before P)

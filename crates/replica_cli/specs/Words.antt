@@ -1,5 +1,7 @@
 -- Which words are a command, and what is wrong with others.
-use Rattle.std.specs.Prelude.{◌≡◌, ℕ, ◌&&◌, ◌==◌, nat_lt, Bool, List, [], ◌∷◌, codes, length, drop, slice_index, Result, Ok, Err, ◌⊎◌, false}
+use Rattle.std.specs.Prelude.{◌≡◌, ◌⊎◌, ℕ, ◌&&◌, ◌==◌, nat_lt, Bool, false, List, [], ◌∷◌, ◌++◌, codes, length, drop}
+use Rattle.std.specs.Prelude.{slice_index, Result, Ok, Err}
+use Rattle.std.specs.Fmt.{decimal}
 use Rattle.std.specs.List.{list_any}
 use Rattle.u1_base.specs.Ids.{IsId}
 use Rattle.u1_base.specs.declared.ids.Form.TheVariants as form_of
@@ -50,3 +52,9 @@ abbrev pub ReadsWords : List (List ℕ) → Result Command WordsFault → Type 0
 ReadsWords words (Ok command) = IsCommand words command
 ReadsWords words (Err (Usage kind)) = IsUsage words kind
 ReadsWords words (Err Memory) = Unit {0}
+
+-- what the reader's fault says of itself
+abbrev pub words_fault_text : WordsFault → List ℕ
+words_fault_text (Usage usage.Words) = codes "the words are not a command"
+words_fault_text (Usage (usage.Value place)) = codes "word " ++ decimal place ++ codes " is not a valid value"
+words_fault_text Memory = codes "out of memory"

@@ -1,18 +1,20 @@
 //! `create`: creates a document from the content on the input.
 ghost use Rattle.std.specs.Prelude.{◌≡◌, ◌≢◌, ◌≤◌, ◌<◌, ◌^◌, ℕ, List, [], IsTrue, IfOk, IsErrOf, length, string_bytes};
-ghost use Rattle.u1_base.specs.Causes.{Rose};
-ghost use Rattle.link.specs.Streams.{Gives};
+ghost use Rattle.u1_base.specs.Causes.{HasCauseOf};
 ghost use Rattle.journal.specs.Image.{IsHeader, ReadsAs};
 ghost use Rattle.journal.specs.Journal.{Holds, IsExtent};
-ghost use Rattle.journal.specs.Opening.{head_of};
-ghost use Rattle.replica_cli.specs.Commands.{AppendDecides, CreateDecides, CreateDecidesOn, ReadsInput, given_up_end, unappended_outcome, unopened_outcome, unread_outcome};
+ghost use Rattle.disk_model.specs.Device.{file_of};
+ghost use Rattle.replica_cli.specs.Commands.{AppendDecides, CreateDecides, CreateDecidesOn};
+ghost use Rattle.replica_cli.specs.Commands.{ReadsContent, ReadsInput};
+ghost use Rattle.replica_cli.specs.Commands.{given_up_end, unappended_outcome};
+ghost use Rattle.replica_cli.specs.Commands.{unopened_outcome, unread_outcome};
 ghost use Rattle.replica_cli.specs.Lines.{create_line};
-ghost use Rattle.replica_cli.specs.Run.{created, most_input};
-ghost use Rattle.replica_cli.specs.Seen.{disk_of, seen_of};
+ghost use Rattle.replica_cli.specs.Run.{created};
 
 use crate::body::spell_created;
+use crate::decision::Decision;
 use crate::lines::create_text;
-use crate::{Decision, Outcome, Refusal};
+use crate::{Outcome, Refusal};
 use content::{Content, ContentFault};
 use disk_model::Disk;
 use journal::{AppendFault, Header, Journal, OpenFault, Opened, open_image};
@@ -21,12 +23,12 @@ use std::alloc::Global;
 use u1_base::limits::MOST_CONTENT_BYTES;
 use u1_base::{Bytes, DocId, Memory};
 
-/// Why the input gave no content.
+// Why the input gave no content.
 #[derive(Clone, Copy, Debug, PartialEq, Eq)]
-pub enum InputEnd {
-    /// A read failed.
+enum InputEnd {
+    // A read failed.
     Source,
-    /// It is no content.
+    // It is not a valid content.
     Bad(ContentFault),
     Memory,
 }
@@ -39,9 +41,9 @@ pub fn create<D: Disk, S: Source>(
     disk: &mut D,
     input: &mut S,
 ) -> Decision
-    ensures { CreateDecides seed id.now
-        (seen_of D.tells (D.seen disk.old) (D.faults disk.old) (S.left input.old) (S.read_faults input.old))
-        (seen_of D.tells (D.seen disk.new) (D.faults disk.new) (S.left input.new) (S.read_faults input.new))
+    ensures { CreateDecides D.tells seed id.now
+        (record { disk = D.known disk.old; input = S.known input.old })
+        (record { disk = D.known disk.new; input = S.known input.new })
         result.outcome (string_bytes result.text) }
 {
     match disk.length() {
@@ -65,10 +67,10 @@ fn create_in_image<D: Disk, S: Source>(
     disk: &mut D,
     input: &mut S,
 ) -> Decision
-    requires { IsTrue D.tells → D.seen disk.old ≢ [] }
-    ensures { CreateDecides seed id.now
-        (seen_of D.tells (D.seen disk.old) (D.faults disk.old) (S.left input.old) (S.read_faults input.old))
-        (seen_of D.tells (D.seen disk.new) (D.faults disk.new) (S.left input.new) (S.read_faults input.new))
+    requires { IsTrue D.tells → (D.known disk.old).seen ≢ [] }
+    ensures { CreateDecides D.tells seed id.now
+        (record { disk = D.known disk.old; input = S.known input.old })
+        (record { disk = D.known disk.new; input = S.known input.new })
         result.outcome (string_bytes result.text) }
 {
     match open_image(alloc, disk) {
@@ -99,13 +101,14 @@ fn create_in_opened<D: Disk, S: Source>(
     opened: Opened,
     input: &mut S,
 ) -> Decision
-    requires holds { IsTrue D.tells → Holds D.seen D.now disk.old opened.journal opened.format (head_of opened.header) opened.bodies }
-    requires header { IsHeader opened.format (head_of opened.header) }
-    requires extent { IsExtent opened.format (head_of opened.header) opened.bodies opened.journal }
-    ensures { (stored : List ℕ) → ReadsAs opened.format (head_of opened.header) opened.bodies stored
-        → CreateDecidesOn seed id.now stored
-        (seen_of D.tells (D.seen disk.old) (D.faults disk.old) (S.left input.old) (S.read_faults input.old))
-        (seen_of D.tells (D.seen disk.new) (D.faults disk.new) (S.left input.new) (S.read_faults input.new))
+    requires holds { IsTrue D.tells
+        → Holds opened.journal opened.format opened.header opened.bodies (file_of (D.known disk.old)) }
+    requires header { IsHeader opened.format opened.header }
+    requires extent { IsExtent opened.format opened.header opened.bodies opened.journal }
+    ensures { (stored : List ℕ) → ReadsAs opened.format opened.header opened.bodies stored
+        → CreateDecidesOn D.tells seed id.now stored
+        (record { disk = D.known disk.old; input = S.known input.old })
+        (record { disk = D.known disk.new; input = S.known input.new })
         result.outcome (string_bytes result.text) }
 {
     let Opened {
@@ -150,9 +153,9 @@ fn unread(end: InputEnd) -> Outcome
 
 // Reads the input to its end, or to one byte more than a content may have, as a content.
 fn read_content<S: Source>(alloc: Global, input: &mut S) -> Result<Content, InputEnd>
-    ensures reads { (given : List ℕ) × Gives (S.left input.old) most_input given × ReadsInput given result }
-    ensures failed { IsErrOf result InputEnd.Source → Rose (S.read_faults input.old) (S.read_faults input.new) }
-    ensures later { S.read_faults input.old ≤ S.read_faults input.new }
+    ensures reads { ReadsContent (S.known input.old) (S.known input.new) result }
+    ensures cause { HasCauseOf InputEnd.Source
+        (S.known input.old).faults (S.known input.new).faults result }
 {
     match read_at_most(alloc, input, MOST_CONTENT_BYTES as usize + 1) {
         Ok(bytes) => content_of(alloc, bytes.as_slice()),
@@ -170,7 +173,7 @@ fn given_up(fault: InputFault) -> InputEnd
 }
 
 fn content_of(alloc: Global, bytes: &[u8]) -> Result<Content, InputEnd>
-    ensures reads { ReadsInput bytes.now result }
+    ensures reads { ReadsInput bytes.now bytes.now result }
     ensures no_fault { ¬ (IsErrOf result InputEnd.Source) }
 {
     match Content::read(alloc, bytes) {
@@ -191,12 +194,12 @@ fn append_created<D: Disk>(
     journal: &mut Journal,
     content: &Content,
 ) -> Decision
-    requires holds { IsTrue D.tells → Holds D.seen D.now disk.old journal.old format (head_of header.now) [] }
-    requires header { IsHeader format (head_of header.now) }
-    requires extent { IsExtent format (head_of header.now) [] journal.old }
-    ensures { AppendDecides seed id.now format (head_of header.now) content.now
-        (disk_of D.tells (D.seen disk.old) (D.faults disk.old))
-        (disk_of D.tells (D.seen disk.new) (D.faults disk.new))
+    requires holds { IsTrue D.tells
+        → Holds journal.old format header.now [] (file_of (D.known disk.old)) }
+    requires header { IsHeader format header.now }
+    requires extent { IsExtent format header.now [] journal.old }
+    ensures { AppendDecides D.tells seed id.now format header.now content.now
+        (D.known disk.old) (D.known disk.new)
         result.outcome (string_bytes result.text) }
 {
     let Ok((body, text)) = prepare(alloc, seed, id, format, header, content) else {
@@ -236,7 +239,8 @@ fn prepare(
     header: &Header,
     content: &Content,
 ) -> Result<(Bytes, String), Memory>
-    ensures body { IfOk result (λ made. made.0 ≡ created format seed id.now (head_of header.now) content.now) }
+    ensures body { IfOk result (λ made.
+        made.0 ≡ created format seed id.now header.now content.now) }
     ensures some { IfOk result (λ made. 1 ≤ length made.0) }
     ensures short { IfOk result (λ made. length made.0 < 2 ^ 32) }
     ensures text { IfOk result (λ made. string_bytes made.1 ≡ create_line id.now header.now.uid) }

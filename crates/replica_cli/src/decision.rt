@@ -1,5 +1,5 @@
 //! What a command decided, and how it is printed.
-ghost use Rattle.std.specs.Prelude.{◌≡◌, ℕ, string_bytes, take, IfOk};
+ghost use Rattle.std.specs.Prelude.{◌≡◌, ◌≤◌, string_bytes, IfOk};
 ghost use Rattle.replica_cli.specs.Printed.{Prints, printed_text};
 
 use crate::Outcome;
@@ -17,10 +17,10 @@ pub struct Decision {
 
 /// Prints the decision's text, and says how the run ends.
 pub fn answer<K: Sink>(alloc: Global, decision: Decision, out: &mut K) -> Outcome
-    ensures { Prints (printed_text decision.outcome (string_bytes decision.text))
-        (record { bytes = K.taken out.old; faults = K.write_faults out.old; held = K.held out.old })
-        (record { bytes = K.taken out.new; faults = K.write_faults out.new; held = K.held out.new })
+    ensures prints { Prints (printed_text decision.outcome (string_bytes decision.text))
+        (K.known out.old) (K.known out.new)
         decision.outcome result }
+    ensures later { (K.known out.old).faults ≤ (K.known out.new).faults }
 {
     let Decision { outcome, text } = decision;
     let line = match text_of(alloc, &outcome, text) {

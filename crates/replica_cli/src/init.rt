@@ -1,13 +1,12 @@
 //! `init`: makes a store.
-ghost use Rattle.std.specs.Prelude.{◌≡◌, [], IfOk, string_bytes};
+ghost use Rattle.std.specs.Prelude.{◌≡◌, [], IsTrue, IfOk, string_bytes};
 ghost use Rattle.replica_cli.specs.Commands.{InitDecides};
-ghost use Rattle.journal.specs.Opening.{head_of};
 ghost use Rattle.replica_cli.specs.Lines.{init_line};
 ghost use Rattle.replica_cli.specs.Run.{new_head};
-ghost use Rattle.replica_cli.specs.Seen.{disk_of};
 
+use crate::decision::Decision;
 use crate::lines::init_text;
-use crate::{Decision, Outcome, Refusal};
+use crate::{Outcome, Refusal};
 use disk_model::Disk;
 use journal::{Bodies, Header, ImageFault, write_image};
 use std::alloc::Global;
@@ -16,9 +15,8 @@ use u1_base::{DbName, Memory, ReplicaUid};
 
 /// Writes the empty image of this database and replica over an empty disk.
 pub fn init<D: Disk>(alloc: Global, name: &DbName, uid: &ReplicaUid, disk: &mut D) -> Decision
-    ensures { InitDecides name.now uid.now
-        (disk_of D.tells (D.seen disk.old) (D.faults disk.old))
-        (disk_of D.tells (D.seen disk.new) (D.faults disk.new))
+    ensures { InitDecides D.tells name.now uid.now
+        (D.known disk.old) (D.known disk.new)
         result.outcome (string_bytes result.text) }
 {
     match disk.length() {
@@ -36,9 +34,9 @@ pub fn init<D: Disk>(alloc: Global, name: &DbName, uid: &ReplicaUid, disk: &mut 
 
 // Writes the image over a disk that is empty.
 fn write_store<D: Disk>(alloc: Global, name: &DbName, uid: &ReplicaUid, disk: &mut D) -> Decision
-    ensures { InitDecides name.now uid.now
-        (disk_of D.tells [] (D.faults disk.old))
-        (disk_of D.tells (D.seen disk.new) (D.faults disk.new))
+    requires { IsTrue D.tells → (D.known disk.old).seen ≡ [] }
+    ensures { InitDecides D.tells name.now uid.now
+        (D.known disk.old) (D.known disk.new)
         result.outcome (string_bytes result.text) }
 {
     let Ok((header, text)) = prepare(alloc, name, uid) else {
@@ -65,7 +63,7 @@ fn write_store<D: Disk>(alloc: Global, name: &DbName, uid: &ReplicaUid, disk: &m
 
 // The header of the new image, and the line of the command.
 fn prepare(alloc: Global, name: &DbName, uid: &ReplicaUid) -> Result<(Header, String), Memory>
-    ensures header { IfOk result (λ made. head_of made.0 ≡ new_head name.now uid.now) }
+    ensures header { IfOk result (λ made. made.0 ≡ new_head name.now uid.now) }
     ensures text { IfOk result (λ made. string_bytes made.1 ≡ init_line name.now uid.now) }
 {
     let header = Header {

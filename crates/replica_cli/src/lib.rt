@@ -13,8 +13,7 @@ mod outcome;
 mod top;
 mod words;
 
-pub use create::InputEnd;
-pub use decision::Decision;
+pub use lines::outcome_text;
 pub use outcome::{Outcome, Refusal, UsageKind, outcome_status};
 pub use top::run;
 pub use words::{Command, WordsFault, read_words};

@@ -1,15 +1,14 @@
 //! The top call.
 ghost use Rattle.std.specs.Prelude.{◌≡◌, string_bytes};
 ghost use Rattle.replica_cli.specs.Run.{Decides, Runs};
-ghost use Rattle.replica_cli.specs.Seen.{seen_of};
 ghost use Rattle.replica_cli.specs.Verbs.{unspoken_outcome};
 ghost use Rattle.replica_cli.specs.Words.{IsCommand};
 
 use crate::create::create;
-use crate::decision::answer;
+use crate::decision::{Decision, answer};
 use crate::init::init;
 use crate::words::read_words;
-use crate::{Command, Decision, Outcome, WordsFault};
+use crate::{Command, Outcome, WordsFault};
 use disk_model::Disk;
 use link::{Sink, Source};
 use std::alloc::Global;
@@ -27,11 +26,10 @@ pub fn run<D: Disk, S: Source, K: Sink>(
     input: &mut S,
     out: &mut K,
 ) -> (Outcome, D)
-    ensures { Runs words.now seed
-        (seen_of D.tells (D.seen disk) (D.faults disk) (S.left input.old) (S.read_faults input.old))
-        (seen_of D.tells (D.seen result.1) (D.faults result.1) (S.left input.new) (S.read_faults input.new))
-        (record { bytes = K.taken out.old; faults = K.write_faults out.old; held = K.held out.old })
-        (record { bytes = K.taken out.new; faults = K.write_faults out.new; held = K.held out.new })
+    ensures { Runs D.tells words.now seed
+        (record { disk = D.known disk; input = S.known input.old })
+        (record { disk = D.known result.1; input = S.known input.new })
+        (K.known out.old) (K.known out.new)
         result.0 }
 {
     let mut disk = disk;
@@ -48,9 +46,9 @@ fn decide<D: Disk, S: Source>(
     disk: &mut D,
     input: &mut S,
 ) -> Decision
-    ensures { Decides words.now seed
-        (seen_of D.tells (D.seen disk.old) (D.faults disk.old) (S.left input.old) (S.read_faults input.old))
-        (seen_of D.tells (D.seen disk.new) (D.faults disk.new) (S.left input.new) (S.read_faults input.new))
+    ensures { Decides D.tells words.now seed
+        (record { disk = D.known disk.old; input = S.known input.old })
+        (record { disk = D.known disk.new; input = S.known input.new })
         result.outcome (string_bytes result.text) }
 {
     match read_words(alloc, words) {
@@ -81,9 +79,9 @@ fn carry_out<D: Disk, S: Source>(
     input: &mut S,
 ) -> Decision
     requires { IsCommand words.now command.now }
-    ensures { Decides words.now seed
-        (seen_of D.tells (D.seen disk.old) (D.faults disk.old) (S.left input.old) (S.read_faults input.old))
-        (seen_of D.tells (D.seen disk.new) (D.faults disk.new) (S.left input.new) (S.read_faults input.new))
+    ensures { Decides D.tells words.now seed
+        (record { disk = D.known disk.old; input = S.known input.old })
+        (record { disk = D.known disk.new; input = S.known input.new })
         result.outcome (string_bytes result.text) }
 {
     match command {

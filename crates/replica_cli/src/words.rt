@@ -9,6 +9,8 @@ ghost use Rattle.replica_cli.specs.Verbs.{IsRefusal, IsVerb, IsVerbWord, word_at
 
 use crate::UsageKind;
 use std::alloc::Global;
+use std::error::Error;
+use std::fmt;
 use u1_base::{DbName, DocId, IdFault, ReplicaUid, Text};
 
 /// One command with its operands.
@@ -26,6 +28,25 @@ pub enum WordsFault {
     Usage(UsageKind),
     Memory,
 }
+
+impl fmt::Display for WordsFault {
+    ghost use Rattle.std.specs.Prelude.{Some};
+    ghost use Rattle.replica_cli.specs.Words.{words_fault_text};
+
+    ghost output = { λ fault. Some (words_fault_text fault) };
+
+    fn fmt<W: fmt::Write>(&self, f: &mut fmt::Formatter<W>) -> fmt::Result {
+        match self {
+            WordsFault::Usage(UsageKind::Words) => f.write_str("the words are not a command"),
+            WordsFault::Usage(UsageKind::Value(place)) => {
+                write!(f, "word {place} is not a valid value")
+            }
+            WordsFault::Memory => f.write_str("out of memory"),
+        }
+    }
+}
+
+impl Error for WordsFault {}
 
 // The commands by their words alone.
 #[derive(Clone, Copy, Debug, PartialEq, Eq)]

@@ -8,5 +8,6 @@ use Rattle.replica_cli.proofs.words.read_create.Goals as goal
 
 pub returns-in-Err : goal.returns-in-Err
 returns-in-Err c =
-    refused_operand c.args.words.now form_of.Document c.word.result.now 2 c.in-Err.fault _ c.in-Err.ensures c.refused.ensures
+    refused_operand c.args.words.now form_of.Document c.word.result.now 2 _
     (λ no. (create (word_at c.args.words.now 2), c.requires, (refl, rw (← c.word.ensures) no)))
+    c.in-Err.fault c.in-Err.ensures.0 c.refused.ensures
