@@ -6,7 +6,7 @@ use std::alloc::Global;
 use std::process::Abort;
 use std::test::Fail;
 
-const CHOICES: [Choice; 5] = [
+pub const CHOICES: [Choice; 5] = [
     Choice::Nothing,
     Choice::Whole,
     Choice::FirstHalf,

@@ -1,8 +1,9 @@
 -- The pair was dropped, so that it is new.
-use Rattle.std.proofs.Common.{◌≢◌, ◌++◌, [], ◌∷◌, ℕ, List, AllPairs, not, filter, sym, subst, ◌∙◌, ap}
-use Rattle.index_tables.specs.Entries.{AreNew, entries_of, has}
+use Rattle.std.proofs.Common.{◌≢◌, ◌++◌, [], ◌∷◌, ℕ, List, AllPairs, sym, subst, ◌∙◌, ap}
+use Rattle.index_tables.specs.Entries.{AreNew, entries_of}
 use Rattle.index_tables.specs.Order.{Entry}
-use Rattle.query_range.proofs.Alone.{new_after_drop, one_distinct}
+use Rattle.index_tables.proofs.Laws.{new_after_drop}
+use Rattle.query_range.proofs.Alone.{one_distinct}
 use Rattle.speed.proofs.index.put.Goals as goal
 
 pub add-requires-clause-distinct : goal.add-requires-clause-distinct
@@ -11,7 +12,6 @@ add-requires-clause-distinct c =
 
 pub add-requires-clause-fresh : goal.add-requires-clause-fresh
 add-requires-clause-fresh c =
-    let keys = c.push.new.self in
-    subst (λ (ps : List Entry). AreNew ps (entries_of c.args.id.now keys))
-    (sym (c.drop_pairs.ensures.pairs ∙ ap (λ (ks : List (List (List ℕ))). filter (λ p. not (has (entries_of c.args.id.now ks) p)) c.args.table.now.pairs) c.as_slice.ensures))
-    (new_after_drop c.args.table.now.pairs c.args.id.now keys)
+    subst (λ (keys : List (List (List ℕ))). AreNew c.drop_pairs.new.self.pairs (entries_of c.args.id.now keys)) c.as_slice.ensures
+    (subst (λ (ps : List Entry). AreNew ps (entries_of c.args.id.now c.as_slice.result.now)) (sym c.drop_pairs.ensures.pairs)
+    (new_after_drop c.args.table.now.pairs (entries_of c.args.id.now c.as_slice.result.now)))
