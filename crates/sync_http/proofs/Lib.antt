@@ -1,0 +1,4 @@
+pub mod Numerals
+pub mod Naming
+pub mod Hears
+pub mod Joining
