@@ -225,7 +225,7 @@ fn reads_what_it_wrote(rt: HostRuntime) -> Result<(), Fail> {
     let bytes = request(alloc, Verb::Post, 148)?;
     assert_eq!(rt;
         told(alloc, bytes.as_slice())?.as_str(),
-        "Post db a 148 in 140"
+        "Post db a 148 in 133"
     );
     Ok(())
 }
