@@ -218,13 +218,12 @@ impl<R: Files<File = File> + Clock + Alloc + Drop> RealFile<R> {
     fn make(&self) -> Result<Opened, FileFault> {
         let path = self.path.as_str();
         let folder = folder_of(path);
-        match fs::create_dir(&self.rt, folder) {
-            Err(error) if error.kind() != ErrorKind::AlreadyExists => {
-                return FileFault::of(FileCall::MakeFolder, Err(error));
-            }
-            _ => {}
-        }
-        FileFault::of(FileCall::SyncName, sync_folder_of(&self.rt, folder))?;
+        let stood = match fs::create_dir(&self.rt, folder) {
+            Ok(()) => false,
+            Err(error) if error.kind() == ErrorKind::AlreadyExists => true,
+            Err(error) => return FileFault::of(FileCall::MakeFolder, Err(error)),
+        };
+        FileFault::of(FileCall::SyncName, settle_name(&self.rt, folder, stood))?;
         let made = OpenOptions::new()
             .read(true)
             .write(true)
@@ -282,6 +281,16 @@ fn folder_of(path: &str) -> &str {
     match Path::new(path).parent() {
         Some(folder) if !folder.as_str().is_empty() => folder.as_str(),
         _ => ".",
+    }
+}
+
+// Syncs the name of a folder. One that stood before may lie in a folder that the user may not read,
+// and so cannot sync: its name is then taken as it stands.
+fn settle_name<R: Files<File = File> + Alloc>(rt: &R, folder: &str, stood: bool) -> io::Result<()> {
+    match sync_folder_of(rt, folder) {
+        Ok(()) => Ok(()),
+        Err(error) if stood && error.kind() == ErrorKind::PermissionDenied => Ok(()),
+        Err(error) => Err(error),
     }
 }
 
