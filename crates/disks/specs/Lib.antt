@@ -1,0 +1,6 @@
+pub mod Trio
+pub mod Joint
+pub mod Moments
+pub mod Disks
+pub mod Laws
+pub mod RootLast
