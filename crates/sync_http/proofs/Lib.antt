@@ -2,3 +2,10 @@ pub mod Numerals
 pub mod Naming
 pub mod Hears
 pub mod Joining
+pub mod Objects
+pub mod TreesBack
+pub mod PositionsBack
+pub mod BodiesBack
+pub mod Phrases
+pub mod HeadBytes
+pub mod HeadsBack

@@ -8,7 +8,7 @@ use Rattle.std.proofs.lemmas.Str.Parse.{IsNumeralModel, numerals_by_value, parse
 use Rattle.std.proofs.lemmas.Bool.{le-ltb, lt-ltb, leb-true, and_parts, cases_lt}
 use Rattle.sync_http.specs.Fields.{is_numeral, number_in}
 
-own_numerals : IsNumeralModel (λ ds. list_all is_ascii_digit ds ≡ true) (digits_value 10)
+pub own_numerals : IsNumeralModel (λ ds. list_all is_ascii_digit ds ≡ true) (digits_value 10)
 own_numerals = numerals_by_value (λ ds. list_all is_ascii_digit ds ≡ true) (search rules)
 
 all_digits : (ds : List ℕ) → is_numeral ds ≡ true → list_all is_ascii_digit ds ≡ true
@@ -33,7 +33,7 @@ numerals_are_text ds e = IsUtf8-from_ascii ds (digits_ascii ds (all_digits ds e)
 pub no_number : (ds : List ℕ) → is_numeral ds ≡ false → number_in ds ≡ None
 no_number ds e = rw e refl
 
-number_at : (ds : List ℕ) (b : Bool) → is_numeral ds ≡ true → ltb (digits_value 10 ds) (2 ^ 63) ≡ b → number_in ds ≡ (if b then Some (digits_value 10 ds) else None)
+pub number_at : (ds : List ℕ) (b : Bool) → is_numeral ds ≡ true → ltb (digits_value 10 ds) (2 ^ 63) ≡ b → number_in ds ≡ (if b then Some (digits_value 10 ds) else None)
 number_at ds b is less = ap₂ (λ x y. if x && y then Some (digits_value 10 ds) else None) is less
 
 the_value : {E : Type 0} (ds : List ℕ) (r : Result ℕ E) (n : ℕ) → r ≡ Ok n → is_numeral ds ≡ true → ParsesUnsigned 64 10 ds r → n ≡ digits_value 10 ds

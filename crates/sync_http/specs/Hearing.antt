@@ -1,5 +1,5 @@
 -- What the first bytes of a connection are.
-use Rattle.std.specs.Prelude.{◌≡◌, ℕ, ◌<◌, ◌≤◌, ◌⊎◌, List, length, take, Result, Ok, Err}
+use Rattle.std.specs.Prelude.{◌≡◌, ℕ, ◌<◌, ◌≤◌, ◌⊎◌, nat_lt, if◌then◌else◌, List, length, take, Result, Ok, Err}
 use Rattle.httparse.specs.Grammar as grammar
 use Rattle.httparse.specs.Spans.{RequestExceeds, ResponseExceeds}
 use Rattle.sync_http.specs.Heads.{request_of, reply_of}
@@ -9,6 +9,10 @@ use Rattle.sync_http.specs.declared.heads.RequestHead.{RequestHead}
 use Rattle.sync_http.specs.declared.heads.ReplyHead.{ReplyHead}
 use Rattle.sync_http.specs.declared.fault.WireFault.{WireFault}
 use Rattle.sync_http.specs.declared.fault.WireFault.TheVariants.{TooLarge, BadHead, BadPath, BadMethod, Chunked, NoLength, Memory}
+
+-- the value that a whole head says, or why it says none
+abbrev pub Said : Type 0 → Type 0
+Said T = Result T WireFault
 
 -- the longest head, in bytes, and the most fields
 abbrev pub most_bytes : ℕ
@@ -41,19 +45,6 @@ pub record IsOpenRequest (bytes : List ℕ) : Type 0 where
 abbrev pub IsNoRequest : List ℕ → Type 0
 IsNoRequest bytes = grammar.NeverHasRequest bytes ⊎ RequestExceeds most_fields bytes
 
--- what is answered to bytes, and when. The cases exclude each other, but where a target is still unfinished: of that it
--- may be seen only later that no head can come of it
-abbrev pub HearsRequest : List ℕ → Result (Heard RequestHead) WireFault → Type 0
-HearsRequest bytes (Ok NotYet) = (length bytes < most_bytes) × IsOpenRequest bytes
-HearsRequest bytes (Ok (Head head n)) = SaysRequest bytes (Ok head) n
-HearsRequest bytes (Err TooLarge) = (most_bytes ≤ length bytes) × IsOpenRequest (front bytes)
-HearsRequest bytes (Err BadHead) = IsNoRequest (front bytes) ⊎ ((n : ℕ) × SaysRequest bytes (Err BadHead) n)
-HearsRequest bytes (Err BadPath) = (n : ℕ) × SaysRequest bytes (Err BadPath) n
-HearsRequest bytes (Err BadMethod) = (n : ℕ) × SaysRequest bytes (Err BadMethod) n
-HearsRequest bytes (Err Chunked) = (n : ℕ) × SaysRequest bytes (Err Chunked) n
-HearsRequest bytes (Err NoLength) = (n : ℕ) × SaysRequest bytes (Err NoLength) n
-HearsRequest bytes (Err Memory) = Unit {0}
-
 -- ---- replies
 
 pub record SaysReply (bytes : List ℕ) (said : Result ReplyHead WireFault) (taken : ℕ) : Type 0 where
@@ -71,13 +62,43 @@ pub record IsOpenReply (bytes : List ℕ) : Type 0 where
 abbrev pub IsNoReply : List ℕ → Type 0
 IsNoReply bytes = grammar.NeverHasResponse bytes ⊎ ResponseExceeds most_fields bytes
 
+-- ---- the answer
+
+-- what is answered to a whole head that says this
+abbrev pub heard : {T : Type 0} → Result T WireFault → ℕ → Result (Heard T) WireFault
+heard (Ok head) n = Ok (Head head n)
+heard (Err fault) n = Err fault
+
+-- what is answered where more bytes may make a head
+abbrev pub unfinished : {T : Type 0} → List ℕ → Result (Heard T) WireFault
+unfinished bytes = if nat_lt (length bytes) most_bytes then Ok NotYet else Err TooLarge
+
+-- what is answered to bytes of which this is known: what a whole head at their front says (with its length), that it is
+-- still open, or that there is none. The cases exclude each other, but where a target is still unfinished: of that it may
+-- be seen only later that no head can come of it
+abbrev pub Hears : {T : Type 0} → (Result T WireFault → ℕ → Type 0) → (List ℕ → Type 0) → (List ℕ → Type 0) → List ℕ → Result (Heard T) WireFault → Type 0
+Hears says is_open is_none bytes (Ok NotYet) = (length bytes < most_bytes) × is_open bytes
+Hears says is_open is_none bytes (Ok (Head head n)) = says (Ok head) n
+Hears says is_open is_none bytes (Err TooLarge) = (most_bytes ≤ length bytes) × is_open (front bytes)
+Hears says is_open is_none bytes (Err BadHead) = is_none (front bytes) ⊎ ((n : ℕ) × says (Err BadHead) n)
+Hears says is_open is_none bytes (Err BadPath) = (n : ℕ) × says (Err BadPath) n
+Hears says is_open is_none bytes (Err BadMethod) = (n : ℕ) × says (Err BadMethod) n
+Hears says is_open is_none bytes (Err Chunked) = (n : ℕ) × says (Err Chunked) n
+Hears says is_open is_none bytes (Err NoLength) = (n : ℕ) × says (Err NoLength) n
+Hears says is_open is_none bytes (Err Memory) = Unit {0}
+
+abbrev pub HearsRequest : List ℕ → Result (Heard RequestHead) WireFault → Type 0
+HearsRequest bytes = Hears (SaysRequest bytes) IsOpenRequest IsNoRequest bytes
+
 abbrev pub HearsReply : List ℕ → Result (Heard ReplyHead) WireFault → Type 0
-HearsReply bytes (Ok NotYet) = (length bytes < most_bytes) × IsOpenReply bytes
-HearsReply bytes (Ok (Head head n)) = SaysReply bytes (Ok head) n
-HearsReply bytes (Err TooLarge) = (most_bytes ≤ length bytes) × IsOpenReply (front bytes)
-HearsReply bytes (Err BadHead) = IsNoReply (front bytes) ⊎ ((n : ℕ) × SaysReply bytes (Err BadHead) n)
-HearsReply bytes (Err BadPath) = ⊥
-HearsReply bytes (Err BadMethod) = ⊥
-HearsReply bytes (Err Chunked) = (n : ℕ) × SaysReply bytes (Err Chunked) n
-HearsReply bytes (Err NoLength) = (n : ℕ) × SaysReply bytes (Err NoLength) n
-HearsReply bytes (Err Memory) = Unit {0}
+HearsReply bytes = Hears (SaysReply bytes) IsOpenReply IsNoReply bytes
+
+-- a reply has no path and no method, and reading it takes no memory
+abbrev pub IsReplyFault : WireFault → Type 0
+IsReplyFault TooLarge = Unit {0}
+IsReplyFault BadHead = Unit {0}
+IsReplyFault BadPath = ⊥
+IsReplyFault BadMethod = ⊥
+IsReplyFault Chunked = Unit {0}
+IsReplyFault NoLength = Unit {0}
+IsReplyFault Memory = ⊥

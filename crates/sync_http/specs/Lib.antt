@@ -6,3 +6,7 @@ pub mod Heads
 pub mod Hearing
 pub mod Parts
 pub mod Written
+pub mod Chained
+pub mod Positions
+pub mod Bodies
+pub mod Laws

@@ -3,7 +3,7 @@ use Rattle.std.specs.Prelude.{◌≡◌, Result, Ok, Err}
 use Rattle.sync_http.specs.declared.fault.WireFault.{WireFault}
 use Rattle.sync_http.specs.declared.fault.WireFault.TheVariants.{TooLarge, BadHead, BadPath, BadMethod, Chunked, NoLength, Memory}
 
--- this is answered of a whole request, or memory ran out
+-- this is answered of a whole head, or memory ran out
 abbrev pub Answers : {T : Type 0} → Result T WireFault → Result T WireFault → Type 0
 Answers said (Ok x) = said ≡ Ok x
 Answers said (Err TooLarge) = ⊥
@@ -13,14 +13,3 @@ Answers said (Err BadMethod) = said ≡ Err BadMethod
 Answers said (Err Chunked) = said ≡ Err Chunked
 Answers said (Err NoLength) = said ≡ Err NoLength
 Answers said (Err Memory) = Unit {0}
-
--- this is answered of a whole reply
-abbrev pub AnswersReply : {T : Type 0} → Result T WireFault → Result T WireFault → Type 0
-AnswersReply said (Ok x) = said ≡ Ok x
-AnswersReply said (Err TooLarge) = ⊥
-AnswersReply said (Err BadHead) = said ≡ Err BadHead
-AnswersReply said (Err BadPath) = ⊥
-AnswersReply said (Err BadMethod) = ⊥
-AnswersReply said (Err Chunked) = said ≡ Err Chunked
-AnswersReply said (Err NoLength) = said ≡ Err NoLength
-AnswersReply said (Err Memory) = ⊥

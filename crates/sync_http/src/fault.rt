@@ -38,3 +38,24 @@ impl From<Memory> for WireFault {
         WireFault::Memory
     }
 }
+
+/// Why a body says nothing.
+#[derive(Clone, Copy, Debug, PartialEq, Eq, Error)]
+pub enum BodyFault {
+    /// It is not one JSON object with the members that it must have.
+    #[error("not the body of this message")]
+    Bad,
+    #[error("out of memory")]
+    Memory,
+}
+
+impl From<Memory> for BodyFault {
+    ghost use Rattle.std.specs.Prelude.{◌≡◌};
+    ghost use Rattle.sync_http.specs.declared.fault.BodyFault.TheVariants as fault;
+
+    ghost from_gives = { λ _ e. e ≡ fault.Memory };
+
+    fn from(_memory: Memory) -> BodyFault {
+        BodyFault::Memory
+    }
+}

@@ -1,9 +1,12 @@
 //! Heads are read with `httparse`, in the first 16,384 bytes.
-ghost use Rattle.std.specs.Prelude.{◌≡◌, IsUtf8, map, take};
+ghost use Rattle.std.specs.Prelude.{◌≡◌, ◌⊎◌, ℕ, Err, IfErr, IsUtf8, map, take};
 ghost use Rattle.httparse.specs.Spans.{IsRequestWithin, IsResponseWithin, header_bytes, span_bytes};
 ghost use Rattle.sync_http.specs.Heads.{body_after, reply_said, request_said, verb_in};
-ghost use Rattle.sync_http.specs.Hearing.{HearsReply, HearsRequest, front};
-ghost use Rattle.sync_http.specs.Parts.{Answers, AnswersReply};
+ghost use Rattle.sync_http.specs.Hearing.{HearsReply, HearsRequest, IsReplyFault, Said, SaysReply, SaysRequest, front, heard, unfinished};
+ghost use Rattle.sync_http.specs.Parts.{Answers};
+ghost use Rattle.sync_http.specs.declared.fault.WireFault.TheVariants.{Memory};
+ghost use Rattle.sync_http.specs.declared.heads.ReplyHead.{ReplyHead as ReplyHeadValue};
+ghost use Rattle.sync_http.specs.declared.heads.RequestHead.{RequestHead as RequestHeadValue};
 
 use crate::fields::{content_length, is_encoded};
 use crate::target::target_at;
@@ -18,26 +21,40 @@ use u1_base::limits::{MOST_HEAD_BYTES, MOST_HEADERS};
 /// Reads the head of a request from the first bytes of a connection (RFC 9112). Only the method, the target,
 /// Content-Length and Transfer-Encoding matter.
 pub fn read_request(alloc: Global, bytes: &[u8]) -> Result<Heard<RequestHead>, WireFault>
-    ensures { HearsRequest bytes.now result }
+    ensures hears { HearsRequest bytes.now result }
+    ensures whole { (said : Said RequestHeadValue) (n : ℕ) → SaysRequest bytes.now said n
+        → (result ≡ heard said n) ⊎ (result ≡ Err Memory) }
 {
     let front = front_of(bytes);
     let mut headers = [EMPTY_HEADER_SPAN; MOST_HEADERS];
     match parse_request(front, &mut headers) {
         Ok(Status::Complete(spans)) => {
-            let length = spans.len as u64;
-            match request_at(alloc, front, &headers, spans) {
-                Ok(head) => Ok(Heard::Head { head, length }),
-                Err(fault) => Err(fault),
-            }
+            let said = request_at(alloc, front, &headers, spans);
+            heard(said, spans.len as u64)
         }
-        Ok(Status::Partial) => {
-            if bytes.len() < MOST_HEAD_BYTES {
-                Ok(Heard::NotYet)
-            } else {
-                Err(WireFault::TooLarge)
-            }
-        }
+        Ok(Status::Partial) => unfinished(bytes),
         Err(_) => Err(WireFault::BadHead),
+    }
+}
+
+// What is answered to a whole head that says this.
+fn heard<T>(said: Result<T, WireFault>, length: u64) -> Result<Heard<T>, WireFault>
+    ensures { result ≡ heard said length }
+{
+    match said {
+        Ok(head) => Ok(Heard::Head { head, length }),
+        Err(fault) => Err(fault),
+    }
+}
+
+// What is answered where more bytes may make a head.
+fn unfinished<T>(bytes: &[u8]) -> Result<Heard<T>, WireFault>
+    ensures { result ≡ unfinished bytes.now }
+{
+    if bytes.len() < MOST_HEAD_BYTES {
+        Ok(Heard::NotYet)
+    } else {
+        Err(WireFault::TooLarge)
     }
 }
 
@@ -109,27 +126,20 @@ fn body_after(verb: Verb, length: Option<u64>) -> Option<u64>
     }
 }
 
-/// Reads the head of a reply from the first bytes that came back.
+/// Reads the head of a reply from the first bytes that came back. It takes no memory.
 pub fn read_reply(bytes: &[u8]) -> Result<Heard<ReplyHead>, WireFault>
-    ensures { HearsReply bytes.now result }
+    ensures hears { HearsReply bytes.now result }
+    ensures whole { (said : Said ReplyHeadValue) (n : ℕ) → SaysReply bytes.now said n → result ≡ heard said n }
+    ensures kinds { IfErr result IsReplyFault }
 {
     let front = front_of(bytes);
     let mut headers = [EMPTY_HEADER_SPAN; MOST_HEADERS];
     match parse_response(front, &mut headers) {
         Ok(Status::Complete(spans)) => {
-            let length = spans.len as u64;
-            match reply_at(front, &headers, spans) {
-                Ok(head) => Ok(Heard::Head { head, length }),
-                Err(fault) => Err(fault),
-            }
+            let said = reply_at(front, &headers, spans);
+            heard(said, spans.len as u64)
         }
-        Ok(Status::Partial) => {
-            if bytes.len() < MOST_HEAD_BYTES {
-                Ok(Heard::NotYet)
-            } else {
-                Err(WireFault::TooLarge)
-            }
-        }
+        Ok(Status::Partial) => unfinished(bytes),
         Err(_) => Err(WireFault::BadHead),
     }
 }
@@ -141,7 +151,8 @@ fn reply_at(
     spans: ResponseSpans,
 ) -> Result<ReplyHead, WireFault>
     requires { IsResponseWithin bytes.now headers.now spans }
-    ensures { AnswersReply (reply_said (map (header_bytes bytes.now) (take spans.headers headers.now)) spans.code) result }
+    ensures says { Answers (reply_said (map (header_bytes bytes.now) (take spans.headers headers.now)) spans.code) result }
+    ensures kinds { IfErr result IsReplyFault }
 {
     let fields = &headers[..spans.headers];
     let Some(length) = content_length(bytes, fields) else {

@@ -4,11 +4,11 @@ ghost use Rattle.u1_base.specs.Ids.{id_in};
 ghost use Rattle.u1_base.specs.declared.ids.Form.TheVariants.{Name, Replica};
 ghost use Rattle.sync_http.specs.Heads.{target_in, target_with};
 
-use crate::names::name_of;
+use crate::names::{name_of, uid_of};
 use crate::slashes::cut;
 use std::alloc::Global;
 use std::str;
-use u1_base::{DbName, IdFault, Memory, ReplicaUid};
+use u1_base::{DbName, Memory, ReplicaUid};
 
 /// The database and the replica that a target names.
 #[derive(Drop)]
@@ -53,14 +53,4 @@ fn target_named(alloc: Global, db: &str, uid: &str) -> Result<Option<Target>, Me
         return Ok(None);
     };
     Ok(Some(Target { db, source }))
-}
-
-fn uid_of(alloc: Global, text: &str) -> Result<Option<ReplicaUid>, Memory>
-    ensures { IfOk result (λ uid. uid ≡ id_in Replica text.now) }
-{
-    match ReplicaUid::read(alloc, text) {
-        Ok(uid) => Ok(Some(uid)),
-        Err(IdFault::Memory) => Err(Memory),
-        Err(_) => Ok(None),
-    }
 }

@@ -1,0 +1,49 @@
+-- What holds of all messages: what is written is read as itself.
+use Rattle.std.specs.Prelude.{◌≡◌, ℕ, ◌^◌, ◌<◌, ◌≤◌, true, Bool, List, ◌++◌, length, Some, IsSome, Ok}
+use Rattle.std.specs.List.{list_all}
+use Rattle.http.specs.StatusCode.{IsStatusCode, reason_phrase}
+use Rattle.httparse.specs.Grammar.{is_value_byte, print_request, print_response}
+use Rattle.u1_base.specs.Ids.{IsId}
+use Rattle.u1_base.specs.Places.{Place}
+use Rattle.u1_base.specs.declared.ids.Form.TheVariants.{Name, Replica}
+use Rattle.sync_http.specs.Positions.{IsPosition}
+use Rattle.sync_http.specs.Bodies.{IsInfo, told_in, told_text, info_in, info_text}
+use Rattle.sync_http.specs.Hearing.{most_bytes, SaysRequest, SaysReply}
+use Rattle.sync_http.specs.Written.{request_written, reply_written}
+use Rattle.sync_http.specs.declared.address.Address.{Address}
+use Rattle.sync_http.specs.declared.heads.Verb.TheVariants.{Get}
+use Rattle.sync_http.specs.declared.heads.RequestHead.{RequestHead}
+use Rattle.sync_http.specs.declared.heads.ReplyHead.{ReplyHead}
+use Rattle.sync_http.specs.declared.info.Info.{Info}
+
+-- ---- heads
+
+-- the request may be written: its parts are ids, the host has no control byte, and the head is not too long
+pub record CanAsk (to : Address) (head : RequestHead) : Type 0 where
+  pub db : IsId Name head.db
+  pub source : IsId Replica head.source
+  pub host : list_all is_value_byte to.host ≡ true
+  pub port : to.port < 2 ^ 16
+  pub body : head.body < 2 ^ 63
+  pub none : head.verb ≡ Get → head.body ≡ 0
+  pub short : length (print_request (request_written to head)) ≤ most_bytes
+
+-- the reply may be written: `http` has a phrase for its status
+pub record CanReply (head : ReplyHead) : Type 0 where
+  pub status : IsStatusCode head.status
+  pub phrase : IsSome (reason_phrase head.status)
+  pub body : head.body < 2 ^ 63
+
+-- the bytes of a head that was written begin with it and no other, whatever follows
+pub record HeadsReadBack : Type 0 where
+  pub request : (to : Address) (head : RequestHead) (more : List ℕ) → CanAsk to head
+      → SaysRequest (print_request (request_written to head) ++ more) (Ok head) (length (print_request (request_written to head)))
+  pub reply : (head : ReplyHead) (stream : Bool) (more : List ℕ) → CanReply head
+      → SaysReply (print_response (reply_written head stream) ++ more) (Ok head) (length (print_response (reply_written head stream)))
+
+-- ---- bodies
+
+-- a told position, and what a target says
+pub record BodiesReadBack : Type 0 where
+  pub told : (p : Place) → IsPosition p → told_in (told_text p) ≡ Some p
+  pub info : (info : Info) → IsInfo info → info_in (info_text info) ≡ Some info
