@@ -1,5 +1,5 @@
 // Put before the C library by LD_PRELOAD: the call for memory whose number is in FAIL_MALLOC, from 1, finds none. So a
-// program that is run once for each number shows what it answers to want of memory at each place.
+// program that is run once for each number shows what it answers at each place where memory can run out.
 #include <errno.h>
 #include <stddef.h>
 #include <stdlib.h>
