@@ -1,0 +1,11 @@
+-- The table is that of the first documents.
+use Rattle.std.proofs.Common.{◌≡◌, take}
+use Rattle.index_tables.specs.Documents.{IsTableOf}
+use Rattle.replica_state.specs.Keyed.{keyed}
+use Rattle.replica_state.proofs.build.build.Given as goal
+
+abbrev pub invariant-loop-place : goal.invariant-loop-place
+invariant-loop-place l = record {
+  walk : l.walk ≡ l.docs.pairs;
+  table : IsTableOf (keyed l.exprs.texts (take l.place l.docs.pairs)) l.table.pairs;
+}

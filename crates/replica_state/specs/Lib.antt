@@ -1,0 +1,9 @@
+pub mod Exprs
+pub mod Keyed
+pub mod Held
+pub mod Steps
+pub mod Prepared
+pub mod Lent
+pub mod Sets
+pub mod Named
+pub mod Accepted
