@@ -4,7 +4,7 @@ ghost use Rattle.std.specs.Prelude.{◌≡◌, ◌≤◌, IsSome, OnErr};
 ghost use Rattle.u1_base.specs.Causes.{HasCause, Rose};
 ghost use Rattle.disk_model.specs.Counts.{called};
 ghost use Rattle.disk_model.specs.Device.{opaque};
-ghost use Rattle.disk_model.specs.FileDisk.{file_known};
+ghost use Rattle.disk_model.specs.FileDisk.{file_fault, file_known, file_path};
 
 use crate::file_fault::FileFault;
 use crate::real_file::RealFile;
@@ -31,7 +31,7 @@ pub struct FileDisk<R: Files<File = File> + Clock + Alloc + Drop> {
 impl<R: Files<File = File> + Clock + Alloc + Drop> FileDisk<R> {
     pub fn new(rt: R, path: Text) -> FileDisk<R>
         ensures known { file_known result ≡ opaque 0 0 }
-        ensures path { result.real.path ≡ path }
+        ensures path { file_path result ≡ path }
     {
         FileDisk {
             real: RealFile::new(rt, path),
@@ -43,14 +43,14 @@ impl<R: Files<File = File> + Clock + Alloc + Drop> FileDisk<R> {
 
     /// The path that it was given.
     pub fn path(&self) -> &str
-        ensures { result.now ≡ self.now.real.path }
+        ensures { result.now ≡ file_path self.now }
     {
         self.real.path()
     }
 
     /// Why its last failed call failed.
     pub fn fault(&self) -> Option<FileFault>
-        ensures { result ≡ self.now.fault }
+        ensures { result ≡ file_fault self.now }
     {
         self.fault
     }
@@ -70,7 +70,8 @@ impl<R: Files<File = File> + Clock + Alloc + Drop> FileDisk<R> {
     }
 
     fn answer<T: Drop>(&mut self, done: Result<T, FileFault>) -> Result<T, DiskFailed>
-        ensures same { self.new ≡ record self.old { fault = self.new.fault; faults = self.new.faults } }
+        ensures same { self.new
+            ≡ record self.old { fault = self.new.fault; faults = self.new.faults } }
         ensures cause { HasCause self.old.faults self.new.faults result }
         ensures why { OnErr result (IsSome self.new.fault) }
     {

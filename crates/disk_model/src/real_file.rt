@@ -223,7 +223,13 @@ impl<R: Files<File = File> + Clock + Alloc + Drop> RealFile<R> {
             Err(error) if error.kind() == ErrorKind::AlreadyExists => true,
             Err(error) => return FileFault::of(FileCall::MakeFolder, Err(error)),
         };
-        FileFault::of(FileCall::SyncName, settle_name(&self.rt, folder, stood))?;
+        if let Err(error) = settle_name(&self.rt, folder, stood) {
+            // so that the next try does not find a folder whose name is not settled
+            if !stood {
+                let _ = fs::remove_dir(&self.rt, folder);
+            }
+            return FileFault::of(FileCall::SyncName, Err(error));
+        }
         let made = OpenOptions::new()
             .read(true)
             .write(true)

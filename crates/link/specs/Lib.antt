@@ -2,3 +2,4 @@ pub mod Streams
 pub mod Memory
 pub mod Pieces
 pub mod Faults
+pub mod StdIo

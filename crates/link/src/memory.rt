@@ -91,9 +91,9 @@ impl Model for MemSink {
 }
 
 impl MemSink {
-    /// An empty sink. Its calls are counted from 0, and those whose numbers stand in `failing` fail;
-    /// such a `put` takes the first half of its piece, or nothing where memory runs out. Another
-    /// `put` fails only where memory runs out, and takes nothing then.
+    /// An empty sink. Its calls are counted from 0, and those whose numbers stand in `failing`
+    /// fail; such a `put` takes the first half of its piece, or nothing where memory runs out.
+    /// Another `put` fails only where memory runs out, and takes nothing then.
     pub fn new(alloc: Global, failing: Numbers) -> MemSink
         ensures { result ≡ record { bytes = []; calls = 0; failing = failing; faults = 0 } }
     {
@@ -124,7 +124,8 @@ impl Sink for MemSink {
 
     fn put(&mut self, piece: &[u8]) -> Result<(), WriteFailed>
         ensures ok { OnOk result (Appends (Some self.old.bytes) (Some self.new.bytes) piece.now) }
-        ensures err { OnErr result (AppendsFront (Some self.old.bytes) (Some self.new.bytes) piece.now) }
+        ensures err { OnErr result
+            (AppendsFront (Some self.old.bytes) (Some self.new.bytes) piece.now) }
         ensures cause { HasCause self.old.faults self.new.faults result }
         ensures keeps { ⊤ }
         ensures failed { OnErr result (FailedPut self.old self.new piece.now) }
@@ -196,7 +197,8 @@ impl Source for MemConn {
 
     fn read(&mut self, into: &mut [u8]) -> Result<usize, ReadFailed>
         ensures within { IfOk result (λ n. n ≤ length into.new) }
-        ensures bytes { ReadConsumes (Some self.old.source.bytes) (Some self.new.source.bytes) result into.new }
+        ensures bytes { ReadConsumes (Some self.old.source.bytes)
+            (Some self.new.source.bytes) result into.new }
         ensures cause { HasCause self.old.source.faults self.new.source.faults result }
         ensures keeps { self.new.sink ≡ self.old.sink }
         ensures fails { IsErr result ↔ Contains self.old.source.failing self.old.source.calls }
@@ -215,8 +217,10 @@ impl Sink for MemConn {
     ghost put_keeps = { λ a b. b.source ≡ a.source };
 
     fn put(&mut self, piece: &[u8]) -> Result<(), WriteFailed>
-        ensures ok { OnOk result (Appends (Some self.old.sink.bytes) (Some self.new.sink.bytes) piece.now) }
-        ensures err { OnErr result (AppendsFront (Some self.old.sink.bytes) (Some self.new.sink.bytes) piece.now) }
+        ensures ok { OnOk result
+            (Appends (Some self.old.sink.bytes) (Some self.new.sink.bytes) piece.now) }
+        ensures err { OnErr result
+            (AppendsFront (Some self.old.sink.bytes) (Some self.new.sink.bytes) piece.now) }
         ensures cause { HasCause self.old.sink.faults self.new.sink.faults result }
         ensures keeps { self.new.source ≡ self.old.source }
         ensures failed { OnErr result (FailedPut self.old.sink self.new.sink piece.now) }

@@ -35,7 +35,8 @@ pub trait Sink {
     /// Takes the whole piece. After a failure a front of it was taken.
     fn put(&mut self, piece: &[u8]) -> Result<(), WriteFailed>
         ensures ok { OnOk result (Appends (known self.old).taken (known self.new).taken piece.now) }
-        ensures err { OnErr result (AppendsFront (known self.old).taken (known self.new).taken piece.now) }
+        ensures err { OnErr result
+            (AppendsFront (known self.old).taken (known self.new).taken piece.now) }
         ensures cause { HasCause (known self.old).faults (known self.new).faults result }
         ensures keeps { put_keeps self.old self.new };
 

@@ -1,7 +1,9 @@
 //! The adapters to readers and writers of std.
-ghost use Rattle.std.specs.Prelude.{◌≡◌, ◌≤◌, ◌+◌, ◌-◌, ◌^◌, false, true, None, IsSome, List, ℕ, IfOk, OnOk, OnErr, length, min, take, ⊤};
+ghost use Rattle.std.specs.Prelude.{◌≡◌, ◌≤◌, ◌+◌, ◌-◌, ◌^◌, false, true, None, IsSome};
+ghost use Rattle.std.specs.Prelude.{List, ℕ, IfOk, OnOk, OnErr, length, min, take, ⊤};
 ghost use Rattle.std.specs.Io.KnownBytes.{Appends, Keeps, ReadConsumes};
 ghost use Rattle.u1_base.specs.Causes.{HasCause};
+ghost use Rattle.link.specs.StdIo.{sink_fault, sink_known, source_fault, source_known};
 
 use crate::retried::{read_on, write_on};
 use crate::{ReadFailed, Sink, Source, WriteFailed};
@@ -19,7 +21,9 @@ pub struct StdSource<R: Read + Drop> {
 
 impl<R: Read + Drop> StdSource<R> {
     pub fn new(inner: R) -> StdSource<R>
-        ensures { result ≡ record { inner = inner; faults = 0; fault = None } }
+        ensures known { source_known R.remaining result
+            ≡ record { left = R.remaining inner; faults = 0 } }
+        ensures fault { source_fault result ≡ None }
     {
         StdSource {
             inner,
@@ -30,7 +34,7 @@ impl<R: Read + Drop> StdSource<R> {
 
     /// Why its last failed read failed.
     pub fn fault(&self) -> Option<io::Error>
-        ensures { result ≡ self.now.fault }
+        ensures { result ≡ source_fault self.now }
     {
         self.fault
     }
@@ -38,18 +42,20 @@ impl<R: Read + Drop> StdSource<R> {
 
 impl<R: Read + Drop> Source for StdSource<R> {
     ghost use Rattle.std.specs.Prelude.{⊤};
+    ghost use Rattle.link.specs.StdIo.{source_known};
 
-    ghost known = { λ s. record { left = R.remaining s.inner; faults = s.faults } };
+    ghost known = { source_known R.remaining };
 
     ghost read_keeps = { λ _ _. ⊤ };
 
     fn read(&mut self, into: &mut [u8]) -> Result<usize, ReadFailed>
         ensures within { IfOk result (λ n. n ≤ length into.new) }
-        ensures bytes { ReadConsumes (R.remaining self.old.inner) (R.remaining self.new.inner)
-            result into.new }
-        ensures cause { HasCause self.old.faults self.new.faults result }
+        ensures bytes { ReadConsumes (source_known R.remaining self.old).left
+            (source_known R.remaining self.new).left result into.new }
+        ensures cause { HasCause (source_known R.remaining self.old).faults
+            (source_known R.remaining self.new).faults result }
         ensures keeps { ⊤ }
-        ensures why { OnErr result (IsSome self.new.fault) }
+        ensures why { OnErr result (IsSome (source_fault self.new)) }
     {
         match read_on(&mut self.inner, into) {
             Ok(count) => Ok(count),
@@ -78,7 +84,9 @@ pub struct StdSink<W: Write + Drop> {
 
 impl<W: Write + Drop> StdSink<W> {
     pub fn new(inner: W) -> StdSink<W>
-        ensures { result ≡ record { inner = inner; faults = 0; fault = None; holds_back = true } }
+        ensures known { sink_known W.contents result
+            ≡ record { taken = W.contents inner; held = true; faults = 0 } }
+        ensures fault { sink_fault result ≡ None }
     {
         StdSink {
             inner,
@@ -90,7 +98,7 @@ impl<W: Write + Drop> StdSink<W> {
 
     /// Why its last failed call failed.
     pub fn fault(&self) -> Option<io::Error>
-        ensures { result ≡ self.now.fault }
+        ensures { result ≡ sink_fault self.now }
     {
         self.fault
     }
@@ -98,18 +106,22 @@ impl<W: Write + Drop> StdSink<W> {
 
 impl<W: Write + Drop> Sink for StdSink<W> {
     ghost use Rattle.std.specs.Prelude.{⊤};
+    ghost use Rattle.link.specs.StdIo.{sink_known};
 
-    ghost known = { λ s. record { taken = W.contents s.inner; held = s.holds_back; faults = s.faults } };
+    ghost known = { sink_known W.contents };
 
     ghost put_keeps = { λ _ _. ⊤ };
 
     fn put(&mut self, piece: &[u8]) -> Result<(), WriteFailed>
-        ensures ok { OnOk result (Appends (W.contents self.old.inner) (W.contents self.new.inner) piece.now) }
-        ensures err { OnErr result ((k : ℕ) × Appends (W.contents self.old.inner) (W.contents self.new.inner) (take k piece.now)) }
-        ensures cause { HasCause self.old.faults self.new.faults result }
+        ensures ok { OnOk result (Appends (sink_known W.contents self.old).taken
+            (sink_known W.contents self.new).taken piece.now) }
+        ensures err { OnErr result ((k : ℕ) × Appends (sink_known W.contents self.old).taken
+            (sink_known W.contents self.new).taken (take k piece.now)) }
+        ensures cause { HasCause (sink_known W.contents self.old).faults
+            (sink_known W.contents self.new).faults result }
         ensures keeps { ⊤ }
-        ensures noted { self.new.holds_back ≡ true }
-        ensures why { OnErr result (IsSome self.new.fault) }
+        ensures noted { (sink_known W.contents self.new).held ≡ true }
+        ensures why { OnErr result (IsSome (sink_fault self.new)) }
     {
         self.holds_back = true;
         let mut done = 0;
@@ -125,12 +137,15 @@ impl<W: Write + Drop> Sink for StdSink<W> {
     }
 
     fn flush(&mut self) -> Result<(), WriteFailed>
-        ensures handed_on { OnOk result (self.new.holds_back ≡ false) }
-        ensures same { Keeps (W.contents self.old.inner) (W.contents self.new.inner) }
-        ensures cause { HasCause self.old.faults self.new.faults result }
+        ensures handed_on { OnOk result ((sink_known W.contents self.new).held ≡ false) }
+        ensures same { Keeps (sink_known W.contents self.old).taken
+            (sink_known W.contents self.new).taken }
+        ensures cause { HasCause (sink_known W.contents self.old).faults
+            (sink_known W.contents self.new).faults result }
         ensures keeps { ⊤ }
-        ensures note_stays { OnErr result (self.new.holds_back ≡ self.old.holds_back) }
-        ensures why { OnErr result (IsSome self.new.fault) }
+        ensures note_stays { OnErr result ((sink_known W.contents self.new).held
+            ≡ (sink_known W.contents self.old).held) }
+        ensures why { OnErr result (IsSome (sink_fault self.new)) }
     {
         if let Err(error) = self.inner.flush() {
             self.faults = self.faults.saturating_add(1);
@@ -146,7 +161,8 @@ impl<W: Write + Drop> Sink for StdSink<W> {
 // and then notes why.
 fn write_some<W: Write>(writer: &mut W, piece: &[u8], fault: &mut Option<io::Error>) -> usize
     ensures within { result ≤ length piece.now }
-    ensures appended { Appends (W.contents writer.old) (W.contents writer.new) (take result piece.now) }
+    ensures appended { Appends (W.contents writer.old) (W.contents writer.new)
+        (take result piece.now) }
     ensures why { result ≡ 0 → IsSome fault.new }
 {
     match write_on(writer, piece) {
