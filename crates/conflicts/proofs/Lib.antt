@@ -10,11 +10,13 @@ pub mod Makings
 pub mod Trees
 pub mod WellFormed
 pub mod Worked
+pub mod ClockOrder
 pub mod Loops
 pub mod Unrefused
 pub mod Walks
 pub mod Rows
 pub mod Fitting
-pub mod Unfitting
-pub mod Receiving
-pub mod Marked
+pub mod Accepted
+pub mod OverCurrent
+pub mod LastMarked
+pub mod LeftByReceipts

@@ -3,8 +3,10 @@ pub mod Pruning
 pub mod Document
 pub mod Kept
 pub mod Making
+pub mod Faults
 pub mod Decision
 pub mod Walk
+pub mod Names
 pub mod State
 pub mod Laws
 pub mod Acceptances

@@ -9,6 +9,8 @@ use crate::made::{first_clock, made_of};
 use crate::{Accept, DocSet, Making};
 use content::Content;
 use std::alloc::Global;
+use std::error::Error;
+use std::fmt;
 use u1_base::{Memory, ReplicaUid};
 use vector_rev::{Clock, Clocks};
 
@@ -27,6 +29,26 @@ pub enum EditFault {
     ClockFull,
     Memory,
 }
+
+impl fmt::Display for EditFault {
+    ghost use Rattle.std.specs.Prelude.{Some};
+    ghost use Rattle.conflicts.specs.Faults.{edit_fault_text};
+
+    ghost output = { λ fault. Some (edit_fault_text fault) };
+
+    fn fmt<W: fmt::Write>(&self, f: &mut fmt::Formatter<W>) -> fmt::Result {
+        match self {
+            EditFault::NoDocument => f.write_str("there is no such document"),
+            EditFault::Conflicted => f.write_str("the document is in conflict"),
+            EditFault::RevisionConflict(_) => f.write_str("another revision is the current one"),
+            EditFault::AlreadyDeleted => f.write_str("the document is deleted already"),
+            EditFault::ClockFull => f.write_str("the clock is full"),
+            EditFault::Memory => f.write_str("out of memory"),
+        }
+    }
+}
+
+impl Error for EditFault {}
 
 impl From<Memory> for EditFault {
     ghost use Rattle.std.specs.Prelude.{◌≡◌};

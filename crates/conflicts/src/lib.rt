@@ -14,6 +14,7 @@ mod made;
 mod member;
 mod merges;
 mod moves;
+mod names;
 mod receipts;
 mod resolutions;
 mod set;

@@ -1,18 +1,19 @@
 //! What a resolution of a conflict makes.
 ghost use Rattle.std.specs.Prelude.{◌≡◌, ◌⊎◌, ◌+◌, ◌<◌, ◌≤◌, ◌++◌, ◌==◌, [], ◌∷◌, cond, Ok, Err, IfOk, OnOk, Some, find, length, option_copied};
-ghost use Rattle.std.specs.List.{list_any};
 ghost use Rattle.std.specs.Option.{ok_or};
 ghost use Rattle.vector_rev.specs.Clock.{count_of, dominates};
-ghost use Rattle.vector_rev.specs.Compare.{same};
 ghost use Rattle.conflicts.specs.Kept.{current, current_first, document};
 ghost use Rattle.conflicts.specs.Walk.{seen};
 ghost use Rattle.conflicts.specs.Making.{greatest, leader, named_in, resolution_of, resolved, resolved_over, revs};
 
 use crate::apply::is_newer;
 use crate::made::{greatest_in, made_of};
+use crate::names::{Names, stands_in};
 use crate::{Accept, DocSet, Making, Member};
 use content::Content;
 use std::alloc::Global;
+use std::error::Error;
+use std::fmt;
 use u1_base::{Memory, ReplicaUid};
 use vector_rev::{Clock, Clocks};
 
@@ -31,6 +32,28 @@ pub enum ResolveFault {
     ClockFull,
     Memory,
 }
+
+impl fmt::Display for ResolveFault {
+    ghost use Rattle.std.specs.Prelude.{Some};
+    ghost use Rattle.conflicts.specs.Faults.{resolve_fault_text};
+
+    ghost output = { λ fault. Some (resolve_fault_text fault) };
+
+    fn fmt<W: fmt::Write>(&self, f: &mut fmt::Formatter<W>) -> fmt::Result {
+        match self {
+            ResolveFault::NoDocument => f.write_str("there is no such document"),
+            ResolveFault::NotConflicted => f.write_str("the document is not in conflict"),
+            ResolveFault::NothingNamed => f.write_str("no named revision is in the conflict"),
+            ResolveFault::Unnamed(_) => f.write_str(
+                "a revision with the greatest own counter has to be named",
+            ),
+            ResolveFault::ClockFull => f.write_str("the clock is full"),
+            ResolveFault::Memory => f.write_str("out of memory"),
+        }
+    }
+}
+
+impl Error for ResolveFault {}
 
 impl From<Memory> for ResolveFault {
     ghost use Rattle.std.specs.Prelude.{◌≡◌};
@@ -99,10 +122,17 @@ fn resolve_over(
 fn named_of(alloc: Global, set: &DocSet, named: &[Clock]) -> Result<Vec<Clock>, Memory>
     ensures { IfOk result (λ v. v.items ≡ revs (named_in named.now (current_first set.now))) }
 {
+    let names = Names::of(alloc, named)?;
+    named_members(alloc, set, &names)
+}
+
+fn named_members(alloc: Global, set: &DocSet, names: &Names) -> Result<Vec<Clock>, Memory>
+    ensures { IfOk result (λ v. v.items ≡ revs (named_in names.now.all.now (current_first set.now))) }
+{
     let mut parents = Vec::new(alloc);
-    push_named(&mut parents, set.current(), named)?;
+    push_named(&mut parents, set.current(), names)?;
     for place in 0..set.members().len() {
-        push_other(&mut parents, set, place, named)?;
+        push_other(&mut parents, set, place, names)?;
     }
     Ok(parents)
 }
@@ -112,23 +142,23 @@ fn push_other(
     into: &mut Vec<Clock>,
     set: &DocSet,
     place: usize,
-    named: &[Clock],
+    names: &Names,
 ) -> Result<(), Memory>
     requires { place < length set.now.members }
-    ensures { OnOk result (into.old.items ≡ revs (named_in named.now (seen set.now place)) → into.new.items ≡ revs (named_in named.now (seen set.now (place + 1)))) }
+    ensures { OnOk result (into.old.items ≡ revs (named_in names.now.all.now (seen set.now place)) → into.new.items ≡ revs (named_in names.now.all.now (seen set.now (place + 1)))) }
 {
     if place == set.place() {
         return Ok(());
     }
-    push_named(into, &set.members()[place], named)?;
+    push_named(into, &set.members()[place], names)?;
     Ok(())
 }
 
 // Adds the member's clock at the end, if it is named.
-fn push_named(into: &mut Vec<Clock>, member: &Member, named: &[Clock]) -> Result<(), Memory>
-    ensures { OnOk result (into.new.items ≡ into.old.items ++ revs (named_in named.now (member.now ∷ []))) }
+fn push_named(into: &mut Vec<Clock>, member: &Member, names: &Names) -> Result<(), Memory>
+    ensures { OnOk result (into.new.items ≡ into.old.items ++ revs (named_in names.now.all.now (member.now ∷ []))) }
 {
-    push_if(into, &member.rev, stands_in(&member.rev, named))?;
+    push_if(into, &member.rev, names.has(&member.rev))?;
     Ok(())
 }
 
@@ -140,12 +170,6 @@ fn push_if(into: &mut Vec<Clock>, rev: &Clock, wanted: bool) -> Result<(), Memor
     }
     into.push(rev.copy()?)?;
     Ok(())
-}
-
-fn stands_in(rev: &Clock, clocks: &[Clock]) -> bool
-    ensures { result ≡ list_any (λ c. same c rev.now) clocks.now }
-{
-    clocks.iter().any(|clock| *clock == *rev)
 }
 
 // The greatest own counter among the members.

@@ -1,6 +1,6 @@
--- Step by step.
-use Rattle.conflicts.proofs.Marked.{last_is_current}
+-- By the mark of each.
+use Rattle.conflicts.proofs.LastMarked.{law}
 use Rattle.conflicts.proofs.laws.law_current.Goals as goal
 
 pub returns : goal.returns
-returns c = last_is_current
+returns c = law

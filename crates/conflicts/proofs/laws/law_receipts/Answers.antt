@@ -1,6 +1,6 @@
--- Row by row.
-use Rattle.conflicts.proofs.Receiving.{decides_receives}
+-- Line by line of the table.
+use Rattle.conflicts.proofs.LeftByReceipts.{law}
 use Rattle.conflicts.proofs.laws.law_receipts.Goals as goal
 
 pub returns : goal.returns
-returns c = decides_receives
+returns c = law

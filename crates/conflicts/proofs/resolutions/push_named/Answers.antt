@@ -4,4 +4,4 @@ use Rattle.conflicts.proofs.resolutions.push_named.Goals as goal
 
 pub returns : goal.returns
 returns c =
-    named_if c.args.named.now c.args.member.now c.stands_in.result _ _ c.stands_in.ensures c.in_ok-push_if.ensures
+    named_if c.args.names.now.all.now c.args.member.now c.has.result _ _ c.has.ensures c.in_ok-push_if.ensures
