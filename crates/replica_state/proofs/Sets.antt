@@ -6,16 +6,16 @@ use Rattle.conflicts.specs.Acceptances.{marked}
 use Rattle.conflicts.specs.Document.{FitsDocument, document_after}
 use Rattle.conflicts.specs.Kept.{Kept, document}
 use Rattle.conflicts.specs.declared.accept.Accept.{Accept}
-use Rattle.conflicts.proofs.Unfitting.{dominated_changes_nothing, marked_fits, unmarked_is_marked}
+use Rattle.conflicts.proofs.OverCurrent.{law}
 use Rattle.conflicts.proofs.WellFormed.{kept-IsDocument}
 
 -- where a member is newer, nothing changes
 pub nothing_new : (k : Option Kept) (a : Accept) → list_any (λ m. dominates m.rev a.rev) (document k).members ≡ true → document_after (document k) a ≡ document k
-nothing_new k a newer = dominated_changes_nothing (document k) a (kept-IsDocument k) newer
+nothing_new k a newer = law.dominated (document k) a (kept-IsDocument k) newer
 
 -- where none is, the mark makes it fit and changes nothing else
 pub mark_fits : (k : Option Kept) (a : Accept) → list_any (λ m. dominates m.rev a.rev) (document k).members ≡ false → FitsDocument (document k) (marked a)
-mark_fits k a none = marked_fits (document k) a none
+mark_fits k a none = law.marked_fits (document k) a none
 
 pub mark_same : (k : Option Kept) (a : Accept) → list_any (λ m. dominates m.rev a.rev) (document k).members ≡ false → ¬ (FitsDocument (document k) a) → document_after (document k) (marked a) ≡ document_after (document k) a
-mark_same k a none unfit = sym (unmarked_is_marked (document k) a (kept-IsDocument k) none unfit)
+mark_same k a none unfit = sym (law.unmarked (document k) a (kept-IsDocument k) none unfit)
