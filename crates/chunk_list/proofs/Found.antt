@@ -6,64 +6,65 @@ use Rattle.std.specs.Global.{Vec}
 use Rattle.std.specs.Vec.{vec_items, vec_len}
 use Rattle.std.specs.List.{HoldsAt}
 use Rattle.chunk_list.specs.Chunks.{start_at, joined, AreLaidOut}
-use Rattle.chunk_list.proofs.Places.{used_ends}
-use Rattle.chunk_list.proofs.Pieces.{start_at-first, start_at-next, start_at-inside, get_or-joined}
+use Rattle.chunk_list.proofs.Pieces.{start_at-end, start_at-first, start_at-next, start_at-inside, get_or-joined}
 
-module _ {T : Type 0} (chunks : List (Vec T)) (starts : List ℕ) (used : ℕ) (s : AreLaidOut chunks starts used) where
-  -- what holds at a place of a chunk holds there in the list
-  holds_joined : (P : T → Type 0) (i j : ℕ) (c : Vec T) → i < length chunks → c ≡ get_or chunks i c → j < vec_len c → HoldsAt P c.items j → HoldsAt P (joined chunks) (start_at vec_items chunks i + j)
-  holds_joined P i j c within is inside holds = λ d.
-      let fits : j < length (vec_items (get_or chunks i c)) = omega (arith, ap vec_len is, (get_or chunks i c).ok.0) in
-      subst P (ap (λ (v : Vec T). get_or (vec_items v) j d) is ∙ get_or-joined vec_items chunks i j c d within fits) (holds d)
+-- what holds at a place of a chunk holds there in the list
+holds_joined : {T : Type 0} (chunks : List (Vec T)) (P : T → Type 0) (i j : ℕ) (c : Vec T) → i < length chunks → c ≡ get_or chunks i c → j < vec_len c → HoldsAt P c.items j → HoldsAt P (joined chunks) (start_at vec_items chunks i + j)
+holds_joined chunks P i j c within is inside holds = λ d.
+    let fits : j < length (vec_items (get_or chunks i c)) = omega (arith, ap vec_len is, (get_or chunks i c).ok.0) in
+    subst P (ap (λ (v : Vec _). get_or (vec_items v) j d) is ∙ get_or-joined vec_items chunks i j c d within fits) (holds d)
 
-  module _ (at start r known : ℕ) (c : Vec T) (within : at < used) (start_is : start ≡ get_or starts at start) (is : c ≡ get_or chunks at c)
-      (known_is : known ≡ min at 1) (low : known ≤ r) (high : r ≤ vec_len c) where
-    at_chunk : at < length chunks
-    at_chunk = omega (arith, s.chunks_are.within)
+-- a search ended at a place r of a chunk, of which the first `known` items pass
+pub record IsSearched {T : Type 0} (chunks : List (Vec T)) (starts : List ℕ) (at start r known : ℕ) (c : Vec T) : Type 0 where
+  pub laid_out : AreLaidOut chunks starts
+  pub within : at < length chunks
+  pub start_is : start ≡ get_or starts at start
+  pub is : c ≡ get_or chunks at c
+  pub known_is : known ≡ min at 1
+  pub low : known ≤ r
+  pub high : r ≤ vec_len c
 
-    begin_is : start ≡ start_at vec_items chunks at
-    begin_is = get_or_read starts at start (omega (arith, at_chunk, s.starts_are.enough)) start_is 0 ∙ s.starts_are.begins at within
+module _ {T : Type 0} {chunks : List (Vec T)} {starts : List ℕ} {at start r known : ℕ} {c : Vec T} (s : IsSearched chunks starts at start r known c) where
+  pub begin_is : start ≡ start_at vec_items chunks at
+  begin_is = get_or_read starts at start (omega (arith, s.within, s.laid_out.starts_are.as_many)) s.start_is 0 ∙ s.laid_out.starts_are.begins at s.within
 
-    same_len : vec_len c ≡ length (vec_items (get_or chunks at c))
-    same_len = ap vec_len is ∙ (get_or chunks at c).ok.0
+  same_len : vec_len c ≡ length (vec_items (get_or chunks at c))
+  same_len = ap vec_len s.is ∙ (get_or chunks at c).ok.0
 
-    pub found_within : start + r ≤ length (joined chunks)
-    found_within = omega (arith, begin_is, same_len, start_at-inside vec_items chunks at c at_chunk)
+  pub found_within : start + r ≤ length (joined chunks)
+  found_within = omega (arith, begin_is, same_len, s.high, start_at-inside vec_items chunks at c s.within)
 
-    pub chunk_within : vec_len c ≤ length (joined chunks)
-    chunk_within = omega (arith, same_len, start_at-inside vec_items chunks at c at_chunk)
+  pub chunk_within : vec_len c ≤ length (joined chunks)
+  chunk_within = omega (arith, same_len, start_at-inside vec_items chunks at c s.within)
 
-    pub found_before : (P : T → Type 0) → (0 < at → HoldsAt (λ v. HoldsAt P (vec_items v) 0) chunks at) → (known < r → HoldsAt P (vec_items c) (r - 1)) → 0 < start + r → HoldsAt P (joined chunks) (start + r - 1)
-    found_before P here before some =
-        let positive : 0 < r = elim (cases_lt 0 at) [
-          | inl later ↦ omega (arith, known_is)
-          | inr first ↦
-              let zero_at : at ≡ 0 = omega arith in
-              omega (arith, begin_is, ap (start_at vec_items chunks) zero_at, start_at-first vec_items chunks)
-        ] in
-        let last : HoldsAt P (vec_items c) (r - 1) = elim (cases_lt known r) [
-          | inl more ↦ before more
-          | inr all ↦
-              let later : 0 < at = elim (cases_lt 0 at) [ inl l ↦ l | inr first ↦ absurd (omega (arith, known_is)) ] in
-              let first : 0 ≡ r - 1 = omega (arith, known_is) in
-              subst (HoldsAt P (vec_items c)) first (subst (λ (v : Vec T). HoldsAt P (vec_items v) 0) (sym is) (here later c))
-        ] in
-        subst (HoldsAt P (joined chunks)) (omega (arith, begin_is)) (holds_joined P at (r - 1) c at_chunk is (omega arith) last)
+  pub found_before : (P : T → Type 0) → (0 < at → HoldsAt (λ v. HoldsAt P (vec_items v) 0) chunks at) → (known < r → HoldsAt P (vec_items c) (r - 1)) → 0 < start + r → HoldsAt P (joined chunks) (start + r - 1)
+  found_before P here before some =
+      let positive : 0 < r = elim (cases_lt 0 at) [
+        | inl later ↦ omega (arith, s.known_is, s.low)
+        | inr first ↦
+            let zero_at : at ≡ 0 = omega arith in
+            omega (arith, begin_is, ap (start_at vec_items chunks) zero_at, start_at-first vec_items chunks)
+      ] in
+      let last : HoldsAt P (vec_items c) (r - 1) = elim (cases_lt known r) [
+        | inl more ↦ before more
+        | inr all ↦
+            let later : 0 < at = elim (cases_lt 0 at) [ inl l ↦ l | inr first ↦ absurd (omega (arith, s.known_is, s.low, positive)) ] in
+            let first : 0 ≡ r - 1 = omega (arith, s.known_is, s.low) in
+            subst (HoldsAt P (vec_items c)) first (subst (λ (v : Vec T). HoldsAt P (vec_items v) 0) (sym s.is) (here later c))
+      ] in
+      subst (HoldsAt P (joined chunks)) (omega (arith, begin_is)) (holds_joined chunks P at (r - 1) c s.within s.is (omega (arith, s.high)) last)
 
-    pub found_after : (Q : T → Type 0) → (at + 1 < used → HoldsAt (λ v. HoldsAt Q (vec_items v) 0) chunks (at + 1)) → (r < length (vec_items c) → HoldsAt Q (vec_items c) r) → start + r < length (joined chunks) → HoldsAt Q (joined chunks) (start + r)
-    found_after Q next after less =
-        elim (cases_lt r (vec_len c)) [
-          | inl inside ↦ subst (HoldsAt Q (joined chunks)) (omega (arith, begin_is)) (holds_joined Q at r c at_chunk is inside (after (omega (arith, c.ok.0))))
-          | inr all ↦
-              let ends : start_at vec_items chunks (at + 1) ≡ start + r = rw add-one (omega (arith, start_at-next vec_items chunks at c at_chunk, begin_is, same_len)) in
-              let more : at + 1 < used = elim (cases_lt (at + 1) used) [
-                | inl m ↦ m
-                | inr last ↦
-                    let e : at + 1 ≡ used = omega arith in
-                    absurd (omega (arith, ap (start_at vec_items chunks) e, used_ends chunks used s.chunks_are))
-              ] in
-              let d : Vec T = get_or chunks (at + 1) c in
-              let full : 0 < vec_len d = s.chunks_are.held (at + 1) c (omega arith) more in
-              let there : at + 1 < length chunks = omega (arith, s.chunks_are.within) in
-              subst (HoldsAt Q (joined chunks)) (omega arith) (holds_joined Q (at + 1) 0 d there (get_or_default chunks (at + 1) c d there) full (next more c))
-        ]
+  pub found_after : (Q : T → Type 0) → (at + 1 < length chunks → HoldsAt (λ v. HoldsAt Q (vec_items v) 0) chunks (at + 1)) → (r < length (vec_items c) → HoldsAt Q (vec_items c) r) → start + r < length (joined chunks) → HoldsAt Q (joined chunks) (start + r)
+  found_after Q next after less =
+      elim (cases_lt r (vec_len c)) [
+        | inl inside ↦ subst (HoldsAt Q (joined chunks)) (omega (arith, begin_is)) (holds_joined chunks Q at r c s.within s.is inside (after (omega (arith, c.ok.0))))
+        | inr all ↦
+            let ends : start_at vec_items chunks (at + 1) ≡ start + r = rw add-one (omega (arith, start_at-next vec_items chunks at c s.within, begin_is, same_len, s.high)) in
+            let more : at + 1 < length chunks = elim (cases_lt (at + 1) (length chunks)) [
+              | inl m ↦ m
+              | inr last ↦ absurd (omega (arith, ends, start_at-end vec_items chunks (at + 1) (omega (arith, s.within))))
+            ] in
+            let d : Vec T = get_or chunks (at + 1) c in
+            let full : 0 < vec_len d = s.laid_out.chunks_are.held (at + 1) c (omega arith) more in
+            subst (HoldsAt Q (joined chunks)) (omega arith) (holds_joined chunks Q (at + 1) 0 d more (get_or_default chunks (at + 1) c d more) full (next more c))
+      ]

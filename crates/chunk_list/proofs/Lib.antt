@@ -2,7 +2,6 @@ pub mod Edits
 pub mod Found
 pub mod Halves
 pub mod Parted
-pub mod Passed
 pub mod Pieces
 pub mod Places
 pub mod Sorted

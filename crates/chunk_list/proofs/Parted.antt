@@ -1,5 +1,5 @@
 -- Items moved between two chunks that stand side by side.
-use Rattle.std.proofs.Common.{◌≡◌, ℕ, ◌+◌, ◌<◌, List, [], ◌∷◌, ◌++◌, length, get_or, set, reverse, suc, sym, subst, ◌∙◌, ap, arith, add-one, append_assoc, length-append, inl, inr, get_or-set_same, get_or-set_other}
+use Rattle.std.proofs.Common.{◌≡◌, ℕ, ◌+◌, ◌<◌, List, [], ◌∷◌, ◌++◌, length, get_or, set, reverse, suc, sym, subst, ◌∙◌, ap, arith, add-one, append_assoc, inl, inr, get_or-set_same, get_or-set_other}
 use Rattle.std.proofs.lemmas.Bool.{cases_eq}
 use Rattle.std.proofs.lemmas.List.{get_or_read, length-set, reverse-append}
 use Rattle.std.specs.Global.{Vec}
@@ -14,13 +14,10 @@ moved_up lower upper x = ap (λ (l : List _). lower ++ l) (reverse-append upper 
 
 module _ {T : Type 0} (chunks : List (Vec T)) (at count : ℕ) (hole lower upper a b : Vec T) (within : at + 1 < length chunks) (all : Each IsWide chunks)
     (a_is : a ≡ get_or chunks at a) (b_is : b ≡ get_or chunks (at + 1) b) (items : vec_items lower ++ vec_items upper ≡ vec_items a ++ vec_items b)
-    (lower_len : vec_len lower ≡ count) (lower_capacity : vec_capacity lower ≡ vec_capacity a) (upper_capacity : vec_capacity upper ≡ vec_capacity b)
+    (lower_len : vec_len lower ≡ count) (both : vec_len lower + vec_len upper ≡ vec_len a + vec_len b) (lower_capacity : vec_capacity lower ≡ vec_capacity a) (upper_capacity : vec_capacity upper ≡ vec_capacity b)
   where
     abbrev new : List (Vec T)
     new = set (set (set chunks (at + 1) hole) at lower) (at + 1) upper
-
-    both : vec_len lower + vec_len upper ≡ vec_len a + vec_len b
-    both = omega (arith, ap length items, length-append (vec_items lower) (vec_items upper), length-append (vec_items a) (vec_items b), lower.ok.0, upper.ok.0, a.ok.0, b.ok.0)
 
     long : length new ≡ length chunks
     long = length-set (set (set chunks (at + 1) hole) at lower) (at + 1) upper ∙ length-set (set chunks (at + 1) hole) at lower ∙ length-set chunks (at + 1) hole

@@ -56,39 +56,35 @@ module _ {X T : Type 0} (f : X → List T) where
       get_or-joined xs i j d e (omega arith) inside ∙ sym (get_or-append-add (f x) (flat_map f xs) (start_at f xs i + j) e)
       ∙ ap (λ (n : ℕ). get_or (f x ++ flat_map f xs) n e) (omega arith)
 
+  -- an edit at a place of one piece is that edit of the whole, where it is one of either part of two lists that are joined
+  module _ (E : List T → ℕ → List T) (W : ℕ → ℕ → Type 0) (left : (xs ys : List T) (p : ℕ) → W p (length xs) → E (xs ++ ys) p ≡ E xs p ++ ys)
+      (right : (xs ys : List T) (p : ℕ) → E (xs ++ ys) (length xs + p) ≡ xs ++ E ys p)
+    where
+      edit-joined : (xs : List X) (i p : ℕ) (c d : X) → i < length xs → W p (length (f (get_or xs i d))) → f c ≡ E (f (get_or xs i d)) p → flat_map f (set xs i c) ≡ E (flat_map f xs) (start_at f xs i + p)
+      edit-joined [] i p c d lt inside is = absurd (omega arith)
+      edit-joined (y ∷ xs) zero p c d lt inside is =
+          ap (λ (l : List T). l ++ flat_map f xs) is ∙ sym (left (f y) (flat_map f xs) p inside) ∙ ap (E (f y ++ flat_map f xs)) (omega arith)
+      edit-joined (y ∷ xs) (suc i) p c d lt inside is =
+          ap (λ (l : List T). f y ++ l) (edit-joined xs i p c d (omega arith) inside is) ∙ sym (right (f y) (flat_map f xs) (start_at f xs i + p)) ∙ ap (E (f y ++ flat_map f xs)) (omega arith)
+
   -- one piece with an item more, an item less, or another item
   pub insert-joined : (xs : List X) (i p : ℕ) (c d : X) (x : T) → i < length xs → p ≤ length (f (get_or xs i d)) → f c ≡ insert (f (get_or xs i d)) p x
       → flat_map f (set xs i c) ≡ insert (flat_map f xs) (start_at f xs i + p) x
-  insert-joined [] i p c d x lt inside is = absurd (omega arith)
-  insert-joined (y ∷ xs) zero p c d x lt inside is =
-      ap (λ (l : List T). l ++ flat_map f xs) is ∙ sym (insert-append_left (f y) (flat_map f xs) p x inside)
-      ∙ ap (λ (n : ℕ). insert (f y ++ flat_map f xs) n x) (omega arith)
-  insert-joined (y ∷ xs) (suc i) p c d x lt inside is =
-      ap (λ (l : List T). f y ++ l) (insert-joined xs i p c d x (omega arith) inside is)
-      ∙ ap (λ (n : ℕ). f y ++ insert (flat_map f xs) n x) (omega arith)
-      ∙ sym (insert-append_right (f y) (flat_map f xs) (length (f y)) (length (f y) + start_at f xs i + p) x refl (omega arith))
+  insert-joined xs i p c d x =
+      edit-joined (λ l n. insert l n x) (λ n m. n ≤ m) (λ a b n. insert-append_left a b n x)
+      (λ a b n. insert-append_right a b (length a) (length a + n) x refl (omega arith) ∙ ap (λ (m : ℕ). a ++ insert b m x) (omega arith)) xs i p c d
 
   pub remove-joined : (xs : List X) (i p : ℕ) (c d : X) → i < length xs → p < length (f (get_or xs i d)) → f c ≡ remove (f (get_or xs i d)) p
       → flat_map f (set xs i c) ≡ remove (flat_map f xs) (start_at f xs i + p)
-  remove-joined [] i p c d lt inside is = absurd (omega arith)
-  remove-joined (y ∷ xs) zero p c d lt inside is =
-      ap (λ (l : List T). l ++ flat_map f xs) is ∙ sym (remove-append_left (f y) (flat_map f xs) p inside)
-      ∙ ap (λ (n : ℕ). remove (f y ++ flat_map f xs) n) (omega arith)
-  remove-joined (y ∷ xs) (suc i) p c d lt inside is =
-      ap (λ (l : List T). f y ++ l) (remove-joined xs i p c d (omega arith) inside is)
-      ∙ ap (λ (n : ℕ). f y ++ remove (flat_map f xs) n) (omega arith)
-      ∙ sym (remove-append_right (f y) (flat_map f xs) (length (f y)) (length (f y) + start_at f xs i + p) refl (omega arith))
+  remove-joined =
+      edit-joined remove (λ n m. n < m) remove-append_left
+      (λ a b n. remove-append_right a b (length a) (length a + n) refl (omega arith) ∙ ap (λ (m : ℕ). a ++ remove b m) (omega arith))
 
   pub set-joined : (xs : List X) (i p : ℕ) (c d : X) (x : T) → i < length xs → p < length (f (get_or xs i d)) → f c ≡ set (f (get_or xs i d)) p x
       → flat_map f (set xs i c) ≡ set (flat_map f xs) (start_at f xs i + p) x
-  set-joined [] i p c d x lt inside is = absurd (omega arith)
-  set-joined (y ∷ xs) zero p c d x lt inside is =
-      ap (λ (l : List T). l ++ flat_map f xs) is ∙ sym (set-append_left (f y) (flat_map f xs) p x inside)
-      ∙ ap (λ (n : ℕ). set (f y ++ flat_map f xs) n x) (omega arith)
-  set-joined (y ∷ xs) (suc i) p c d x lt inside is =
-      ap (λ (l : List T). f y ++ l) (set-joined xs i p c d x (omega arith) inside is)
-      ∙ ap (λ (n : ℕ). f y ++ set (flat_map f xs) n x) (omega arith)
-      ∙ sym (set-append_right (f y) (flat_map f xs) (length (f y)) (length (f y) + start_at f xs i + p) x refl (omega arith))
+  set-joined xs i p c d x =
+      edit-joined (λ l n. set l n x) (λ n m. n < m) (λ a b n. set-append_left a b n x)
+      (λ a b n. set-append_right a b (length a) (length a + n) x refl (omega arith) ∙ ap (λ (m : ℕ). a ++ set b m x) (omega arith)) xs i p c d
 
   -- one piece changed: those up to it begin where they did, and the later ones as much later as it is longer
   pub start_at-set_low : (xs : List X) (i k : ℕ) (c : X) → k ≤ i → start_at f (set xs i c) k ≡ start_at f xs k
@@ -112,51 +108,29 @@ module _ {X T : Type 0} (f : X → List T) where
       sym (append_assoc (f lower) (f upper) (flat_map f xs)) ∙ ap (λ (l : List T). l ++ flat_map f xs) e ∙ append_assoc (f x) (f y) (flat_map f xs)
   parted-joined (x ∷ y ∷ xs) (suc i) hole lower upper d lt e = ap (λ (l : List T). f x ++ l) (parted-joined (y ∷ xs) i hole lower upper d (omega arith) e)
 
-  -- an empty piece more or less
+  -- a piece cut in two
+  pub cut-joined : (xs : List X) (i : ℕ) (lower upper d : X) → i < length xs → f lower ++ f upper ≡ f (get_or xs i d) → flat_map f (insert (set xs i lower) (suc i) upper) ≡ flat_map f xs
+  cut-joined [] i lower upper d lt e = absurd (omega arith)
+  cut-joined (x ∷ xs) zero lower upper d lt e = sym (append_assoc (f lower) (f upper) (flat_map f xs)) ∙ ap (λ (l : List T). l ++ flat_map f xs) e
+  cut-joined (x ∷ xs) (suc i) lower upper d lt e = ap (λ (l : List T). f x ++ l) (cut-joined xs i lower upper d (omega arith) e)
+
+  -- an empty piece taken out
   pub gone-joined : (xs : List X) (i : ℕ) (d : X) → i < length xs → f (get_or xs i d) ≡ [] → flat_map f (remove xs i) ≡ flat_map f xs
   gone-joined [] i d lt e = absurd (omega arith)
   gone-joined (x ∷ xs) zero d lt e = ap (λ (l : List T). l ++ flat_map f xs) (sym e)
   gone-joined (x ∷ xs) (suc i) d lt e = ap (λ (l : List T). f x ++ l) (gone-joined xs i d (omega arith) e)
 
-  pub empty-joined : (xs : List X) (i : ℕ) (c : X) → f c ≡ [] → flat_map f (insert xs i c) ≡ flat_map f xs
-  empty-joined [] zero c e = ap (λ (l : List T). l ++ []) e
-  empty-joined [] (suc i) c e = ap (λ (l : List T). l ++ []) e
-  empty-joined (x ∷ xs) zero c e = ap (λ (l : List T). l ++ flat_map f (x ∷ xs)) e
-  empty-joined (x ∷ xs) (suc i) c e = ap (λ (l : List T). f x ++ l) (empty-joined xs i c e)
-
-  pub last-joined : (xs : List X) (c : X) → f c ≡ [] → flat_map f (xs ++ c ∷ []) ≡ flat_map f xs
-  last-joined [] c e = ap (λ (l : List T). l ++ []) e
-  last-joined (x ∷ xs) c e = ap (λ (l : List T). f x ++ l) (last-joined xs c e)
-
-  pub start_at-append : (xs ys : List X) (k : ℕ) → k ≤ length xs → start_at f (xs ++ ys) k ≡ start_at f xs k
-  start_at-append [] ys zero le = start_at-first ys
-  start_at-append [] ys (suc k) le = absurd (omega arith)
-  start_at-append (x ∷ xs) ys zero le = refl
-  start_at-append (x ∷ xs) ys (suc k) le = ap (λ (n : ℕ). length (f x) + n) (start_at-append xs ys k (omega arith))
-
-  -- behind pieces that are followed by empty ones the whole ends
-  pub start_at-used : (xs : List X) (n : ℕ) → n ≤ length xs → ((k : ℕ) (d : X) → n ≤ k → k < length xs → length (f (get_or xs k d)) ≡ 0) → start_at f xs n ≡ length (flat_map f xs)
-  start_at-used [] n le none = refl
-  start_at-used (x ∷ xs) zero le none =
-      omega (arith, none 0 x (omega arith) (omega arith), length-append (f x) (flat_map f xs), start_at-first xs, start_at-used xs 0 (omega arith) (λ k d _ lt. none (suc k) d (omega arith) (omega arith)))
-  start_at-used (x ∷ xs) (suc n) le none = omega (arith, length-append (f x) (flat_map f xs), start_at-used xs n (omega arith) (λ k d from lt. none (suc k) d (omega arith) (omega arith)))
-
-  -- pieces that are not empty are no more than the items, and one more may be empty
-  full-pieces : (xs : List X) (n : ℕ) → n ≤ length xs → ((k : ℕ) (d : X) → k < n → 0 < length (f (get_or xs k d))) → n ≤ length (flat_map f xs)
-  full-pieces xs zero le some = omega arith
-  full-pieces [] (suc n) le some = absurd (omega arith)
-  full-pieces (x ∷ xs) (suc n) le some = omega (arith, some 0 x (omega arith), length-append (f x) (flat_map f xs), full-pieces xs n (omega arith) (λ k d lt. some (suc k) d (omega arith)))
-
-  pub length-pieces : (xs : List X) (n : ℕ) → n ≤ length xs → ((k : ℕ) (d : X) → 0 < k → k < n → 0 < length (f (get_or xs k d))) → n ≤ length (flat_map f xs) + 1
-  length-pieces xs zero le some = omega arith
-  length-pieces [] (suc n) le some = absurd (omega arith)
-  length-pieces (x ∷ xs) (suc n) le some = omega (arith, length-append (f x) (flat_map f xs), full-pieces xs n (omega arith) (λ k d lt. some (suc k) d (omega arith) (omega arith)))
-
-  -- pieces that all have so many items, and one of them one more
-  length-full : (xs : List X) (n : ℕ) → ((k : ℕ) (d : X) → k < length xs → n ≤ length (f (get_or xs k d))) → length xs * n ≤ length (flat_map f xs)
+  -- pieces that all have so many items
+  pub length-full : (xs : List X) (n : ℕ) → ((k : ℕ) (d : X) → k < length xs → n ≤ length (f (get_or xs k d))) → length xs * n ≤ length (flat_map f xs)
   length-full [] n all = omega arith
   length-full (x ∷ xs) n all = omega (arith, all 0 x (omega arith), length-append (f x) (flat_map f xs), length-full xs n (λ k d lt. all (suc k) d (omega arith)))
 
+  -- pieces that are not empty are no more than the items, and one more may be empty
+  pub length-pieces : (xs : List X) → ((k : ℕ) (d : X) → 0 < k → k < length xs → 0 < length (f (get_or xs k d))) → length xs ≤ length (flat_map f xs) + 1
+  length-pieces [] some = omega arith
+  length-pieces (x ∷ xs) some = omega (arith, length-append (f x) (flat_map f xs), length-full xs 1 (λ k d lt. omega (arith, some (suc k) d (omega arith) (omega arith))))
+
+  -- pieces that all have so many items, and one of them one more
   pub length-over : (xs : List X) (n i : ℕ) → ((k : ℕ) (d : X) → k < length xs → n ≤ length (f (get_or xs k d))) → i < length xs → ((d : X) → n < length (f (get_or xs i d)))
       → length xs * n < length (flat_map f xs)
   length-over [] n i all lt more = absurd (omega arith)

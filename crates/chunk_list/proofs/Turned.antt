@@ -1,219 +1,145 @@
--- A spare chunk brought in, a chunk in use set aside, and spare chunks added or given back.
-use Rattle.std.proofs.Common.{◌≡◌, ℕ, ◌+◌, ◌-◌, ◌<◌, ◌≤◌, List, [], ◌∷◌, ◌++◌, length, get_or, refl, sym, subst, ◌∙◌, ap, arith, length-append, inl, inr}
+-- A chunk cut in two, an empty chunk taken out, and items given to a chunk beside.
+use Rattle.std.proofs.Common.{◌≡◌, ℕ, ◌+◌, ◌-◌, ◌<◌, ◌≤◌, List, [], ◌∷◌, ◌++◌, length, get_or, set, refl, sym, subst, ◌∙◌, ap, arith, inl, inr, length-append, get_or-set_same, get_or-set_other}
 use Rattle.std.proofs.lemmas.Bool.{cases_lt, cases_eq}
-use Rattle.std.proofs.lemmas.List.{get_or_append_left, nil_from_length}
+use Rattle.std.proofs.lemmas.List.{get_or_append_left, length-set, nil_from_length}
 use Rattle.std.proofs.lemmas.List.Edits.{length-insert, get_or-insert_below, get_or-insert_at, get_or-insert_above, length-remove, get_or-remove_below, get_or-remove_above}
 use Rattle.std.proofs.Math.Seq.{get_or-append_seam}
 use Rattle.std.specs.Global.{Vec}
-use Rattle.std.specs.Vec.{vec_items, vec_len}
-use Rattle.std.specs.List.{remove}
-use Rattle.chunk_list.specs.Chunks.{joined, full, AreChunks, Each, IsChunk, IsWide}
-use Rattle.chunk_list.specs.Edits.{AreChunksBut, IsBroughtIn, IsGrown, IsOver, IsPassed, IsSetAside}
-use Rattle.chunk_list.proofs.Passed.{passed_each, passed_else}
-use Rattle.chunk_list.proofs.Pieces.{empty-joined, gone-joined, last-joined, start_at-append}
+use Rattle.std.specs.Vec.{vec_items, vec_len, vec_capacity}
+use Rattle.std.specs.List.{insert, remove}
+use Rattle.chunk_list.specs.Chunks.{full, joined, start_at, AreChunks, AreChunksBut, AreLaidOut, Each, IsSpare, IsWide}
+use Rattle.chunk_list.specs.Edits.{IsGiven}
+use Rattle.chunk_list.proofs.Pieces.{gone-joined}
 
--- a chunk at a seam
-at_last : {X : Type 0} (xs : List X) (x d : X) (k : ℕ) → k ≡ length xs → get_or (xs ++ x ∷ []) k d ≡ x
-at_last xs x d k e = ap (λ (n : ℕ). get_or (xs ++ x ∷ []) n d) e ∙ get_or-append_seam xs x [] d
+-- a list with an item behind it
+module _ {X : Type 0} (P : X → Type 0) (xs : List X) (x : X) where
+  at_end : (k : ℕ) (d : X) → k ≡ length xs → get_or (xs ++ x ∷ []) k d ≡ x
+  at_end k d e = ap (λ (n : ℕ). get_or (xs ++ x ∷ []) n d) e ∙ get_or-append_seam xs x [] d
 
--- a spare chunk brought in behind the one that has an item too many, and half of the items given to it
-module _ {T : Type 0} (old mid new : List (Vec T)) (used at : ℕ) (o : IsOver old used at) (spare : used < length old) (b : IsBroughtIn old (at + 1) mid) where
-  long_rest : length b.rest + 1 ≡ length old
-  long_rest = omega (arith, ap length b.before, length-append b.rest (b.spare ∷ []))
+  pub each_rest : Each P (xs ++ x ∷ []) → Each P xs
+  each_rest all = λ k d lt. subst P (get_or_append_left xs (x ∷ []) d k lt) (all k d (omega (arith, length-append xs (x ∷ []))))
 
-  fits : at + 1 ≤ length b.rest
-  fits = omega (arith, long_rest, o.at_used)
+  pub each_last : Each P (xs ++ x ∷ []) → P x
+  each_last all = subst P (at_end (length xs) x refl) (all (length xs) x (omega (arith, length-append xs (x ∷ []))))
 
-  pub brought_long : length mid ≡ length old
-  brought_long = omega (arith, ap length b.after, length-insert b.rest (at + 1) b.spare fits, long_rest)
+  pub each_more : Each P xs → P x → Each P (xs ++ x ∷ [])
+  each_more all one = λ k d lt. elim (cases_lt k (length xs)) [
+    | inl before ↦ subst P (sym (get_or_append_left xs (x ∷ []) d k before)) (all k d before)
+    | inr at ↦ subst P (sym (at_end k d (omega (arith, length-append xs (x ∷ []))))) one
+  ]
 
-  was : (k : ℕ) (d : Vec T) → k < length b.rest → get_or old k d ≡ get_or b.rest k d
-  was k d lt = ap (λ (l : List (Vec T)). get_or l k d) b.before ∙ get_or_append_left b.rest (b.spare ∷ []) d k lt
+-- the chunk at `at` has given some of its items to one that came in behind it
+module _ {T : Type 0} (old : List (Vec T)) (at : ℕ) (b : AreChunksBut old at) (lower upper : Vec T) where
+  abbrev mid : List (Vec T)
+  mid = set old at lower
 
-  was_last : (d : Vec T) → get_or old (length b.rest) d ≡ b.spare
-  was_last d = ap (λ (l : List (Vec T)). get_or l (length b.rest) d) b.before ∙ at_last b.rest b.spare d (length b.rest) refl
+  fits : at + 1 ≤ length mid
+  fits = omega (arith, b.within, length-set old at lower)
 
-  spare_empty : vec_len b.spare ≡ 0
-  spare_empty = omega (arith, ap vec_len (was_last b.spare), o.spare (length b.rest) b.spare (omega (arith, long_rest)) (omega (arith, long_rest)))
+  is_lower : (d : Vec T) → get_or (insert mid (at + 1) upper) at d ≡ lower
+  is_lower d = get_or-insert_below mid (at + 1) upper d at (omega arith) fits ∙ get_or-set_same old at lower d b.within
 
-  pub brought_same : joined mid ≡ joined old
-  brought_same =
-      let none : vec_items b.spare ≡ [] = nil_from_length (vec_items b.spare) (omega (arith, spare_empty, b.spare.ok.0)) in
-      ap joined b.after ∙ empty-joined vec_items b.rest (at + 1) b.spare none ∙ sym (last-joined vec_items b.rest b.spare none) ∙ ap joined (sym b.before)
-
-  pub brought_at : (d : Vec T) → get_or mid at d ≡ get_or old at d
-  brought_at d = ap (λ (l : List (Vec T)). get_or l at d) b.after ∙ get_or-insert_below b.rest (at + 1) b.spare d at (omega arith) fits ∙ sym (was at d (omega (arith, fits)))
-
-  brought_here : (d : Vec T) → get_or mid (at + 1) d ≡ b.spare
-  brought_here d = ap (λ (l : List (Vec T)). get_or l (at + 1) d) b.after ∙ get_or-insert_at b.rest (at + 1) b.spare d fits
-
-  pub brought_none : (d : Vec T) → vec_len (get_or mid (at + 1) d) ≡ 0
-  brought_none d = omega (arith, ap vec_len (brought_here d), spare_empty)
-
-  -- each chunk but the one brought in was there before
-  brought_back : (k : ℕ) (d : Vec T) → k < length old → (k ≡ at + 1 → ⊥)
-      → (j : ℕ) × (j < length old) × ((k ≡ at → ⊥) → j ≡ at → ⊥) × (0 < k → 0 < j) × (k < used + 1 → j < used) × (used + 1 ≤ k → used ≤ j) × (get_or mid k d ≡ get_or old j d)
-  brought_back k d lt ne = elim (cases_lt k (at + 1)) [
-    | inl low ↦ (
-      k,
-      lt,
-      λ other. other,
-      λ some. some,
-      λ in_n. omega (arith, o.at_used),
-      λ out. omega arith,
-      ap (λ (l : List (Vec T)). get_or l k d) b.after ∙ get_or-insert_below b.rest (at + 1) b.spare d k low fits ∙ sym (was k d (omega (arith, fits))),
-    )
+  -- each other chunk was there before
+  was : (k : ℕ) (d : Vec T) → k < length (insert mid (at + 1) upper) → (k ≡ at → ⊥) → (k ≡ at + 1 → ⊥)
+      → (j : ℕ) × (j < length old) × (j ≡ at → ⊥) × (0 < k → 0 < j) × (get_or (insert mid (at + 1) upper) k d ≡ get_or old j d)
+  was k d lt ne ne_next = elim (cases_lt k (at + 1)) [
+    | inl low ↦ (k, omega (arith, b.within), ne, λ more. more, get_or-insert_below mid (at + 1) upper d k low fits ∙ get_or-set_other old at k lower d ne)
     | inr high ↦
         let back : k - 1 + 1 ≡ k = omega arith in (
           k - 1,
-          omega arith,
-          λ other e. omega arith,
-          λ some. omega arith,
-          λ in_n. omega arith,
-          λ out. omega arith,
-          ap (λ (m : ℕ). get_or mid m d) (sym back) ∙ ap (λ (l : List (Vec T)). get_or l (k - 1 + 1) d) b.after
-              ∙ get_or-insert_above b.rest (at + 1) b.spare d (k - 1) (omega arith) fits ∙ sym (was (k - 1) d (omega (arith, long_rest))),
+          omega (arith, length-insert mid (at + 1) upper fits, length-set old at lower),
+          λ e. omega arith,
+          λ more. omega arith,
+          ap (λ (m : ℕ). get_or (insert mid (at + 1) upper) m d) (sym back) ∙ get_or-insert_above mid (at + 1) upper d (k - 1) (omega arith) fits
+              ∙ get_or-set_other old at (k - 1) lower d (λ e. omega arith),
         )
   ]
 
-  pub brought_wide : Each IsWide mid
-  brought_wide = λ k d lt. elim (cases_eq k (at + 1)) [
-    | inl e ↦ subst (λ (m : ℕ). IsWide (get_or mid m d)) (sym e) (subst IsWide (sym (brought_here d ∙ sym (was_last d))) (o.wide (length b.rest) d (omega (arith, long_rest))))
-    | inr ne ↦
-        let j = brought_back k d (omega (arith, brought_long)) ne in
-        subst IsWide (sym j.6) (o.wide j.0 d j.1)
+  -- what holds of both, and of each other chunk, holds of each
+  all_cut : (P : Vec T → Type 0) (k : ℕ) (d : Vec T) → k < length (insert mid (at + 1) upper) → P lower → P upper → ((j : ℕ) → j < length old → (j ≡ at → ⊥) → (0 < k → 0 < j) → P (get_or old j d))
+      → P (get_or (insert mid (at + 1) upper) k d)
+  all_cut P k d lt at_lower at_upper others = elim (cases_eq k at) [
+    | inl e ↦ subst (λ (m : ℕ). P (get_or (insert mid (at + 1) upper) m d)) (sym e) (subst P (sym (is_lower d)) at_lower)
+    | inr ne ↦ elim (cases_eq k (at + 1)) [
+      | inl e ↦ subst (λ (m : ℕ). P (get_or (insert mid (at + 1) upper) m d)) (sym e) (subst P (sym (get_or-insert_at mid (at + 1) upper d fits)) at_upper)
+      | inr ne_next ↦
+          let j = was k d lt ne ne_next in subst P (sym j.4) (others j.0 j.1 j.2 j.3)
+    ]
   ]
 
-  pub cut_chunks : (count : ℕ) → 0 < count → count ≤ full → IsPassed mid at (at + 1) count new → AreChunks new (used + 1)
-  cut_chunks count some few p =
-      let apart : at + 1 ≡ at → ⊥ = λ e. omega arith in
+  pub cut_chunks : full < vec_capacity lower → full < vec_capacity upper → (0 < vec_len lower) × (vec_len lower ≤ full) → (0 < vec_len upper) × (vec_len upper ≤ full) → AreChunks (insert (set old at lower) (at + 1) upper)
+  cut_chunks wide_lower wide_upper in_lower in_upper = record {
+    wide = λ k d lt. all_cut (λ v. full < vec_capacity v) k d lt wide_lower wide_upper (λ j less ne some. b.wide j d less);
+    short = λ k d lt. all_cut (λ v. vec_len v ≤ full) k d lt in_lower.1 in_upper.1 (λ j less ne some. b.short j d less ne);
+    held = λ k d more lt. all_cut (λ v. 0 < vec_len v) k d lt in_lower.0 in_upper.0 (λ j less ne some. b.held j d (some more) less ne);
+  }
+
+-- the chunk at `at`, which is not the first, taken out
+pub out_chunks : {T : Type 0} (old new : List (Vec T)) (at : ℕ) → AreChunksBut old at → 0 < at → new ≡ remove old at → AreChunks new
+out_chunks old new at b later is =
+    let was : (k : ℕ) (d : Vec _) → k < length (remove old at) → (j : ℕ) × (j < length old) × (j ≡ at → ⊥) × (0 < k → 0 < j) × (get_or (remove old at) k d ≡ get_or old j d) = λ k d lt. elim (cases_lt k at) [
+      | inl low ↦ (k, omega (arith, b.within), λ e. omega arith, λ more. more, get_or-remove_below old at d k low b.within)
+      | inr high ↦ (k + 1, omega (arith, length-remove old at b.within), λ e. omega arith, λ more. omega arith, get_or-remove_above old at d k high b.within)
+    ] in
+    subst (λ (l : List (Vec _)). AreChunks l) (sym is)
+    (record {
+      wide = λ k d lt. let j = was k d lt in omega (arith, ap vec_capacity j.4, b.wide j.0 d j.1);
+      short = λ k d lt. let j = was k d lt in omega (arith, ap vec_len j.4, b.short j.0 d j.1 j.2);
+      held = λ k d more lt. let j = was k d lt in omega (arith, ap vec_len j.4, b.held j.0 d (j.3 more) j.1 j.2);
+    })
+
+-- and the list is the same, where it was empty
+pub out_same : {T : Type 0} (old new : List (Vec T)) (at : ℕ) (chunk : Vec T) → AreChunksBut old at → ((d : Vec T) → vec_len (get_or old at d) ≡ 0) → chunk ≡ get_or old at chunk → new ≡ remove old at → joined new ≡ joined old
+out_same old new at chunk b empty chunk_is is =
+    let none : vec_items chunk ≡ [] = nil_from_length (vec_items chunk) (omega (arith, ap vec_len chunk_is, empty chunk, chunk.ok.0)) in
+    ap joined is ∙ gone-joined vec_items old at chunk b.within (ap vec_items (sym chunk_is) ∙ none)
+
+-- items given on the way from a chunk with too many to one with `count` places free
+module _ {T : Type 0} (old new : List (Vec T)) (at from to count : ℕ) (b : AreChunksBut old at) (g : IsGiven old from to count new) (there : from < length old)
+    (some : 0 < count) (few : count + count ≤ full) (free : (d : Vec T) → vec_len (get_or old to d) + count ≤ full) (tight : (d : Vec T) → full < vec_len (get_or old from d) + count)
+    (not_at : to ≡ at → ⊥)
+  where
+    pub given_on : AreChunksBut new at
+    given_on = record {
+      within = omega (arith, b.within, g.long);
+      wide = g.wide;
+      top = λ d. elim (cases_eq at from) [
+        | inl e ↦ omega (arith, subst (λ (m : ℕ). vec_len (get_or new m d) + count ≡ vec_len (get_or old m d)) (sym e) (g.from_len d), b.top d)
+        | inr ne ↦ omega (arith, ap vec_len (g.others at d ne (λ e. not_at (sym e))), b.top d)
+      ];
+      short = λ k d lt ne. elim (cases_eq k from) [
+        | inl e ↦ subst (λ (m : ℕ). vec_len (get_or new m d) ≤ full) (sym e) (omega (arith, g.from_len d, b.short from d there (λ x. ne (e ∙ x))))
+        | inr ne_from ↦ elim (cases_eq k to) [
+          | inl e ↦ subst (λ (m : ℕ). vec_len (get_or new m d) ≤ full) (sym e) (omega (arith, g.to_len d, free d))
+          | inr ne_to ↦ omega (arith, ap vec_len (g.others k d ne_from ne_to), b.short k d (omega (arith, g.long)) ne)
+        ]
+      ];
+      held = λ k d more lt ne. elim (cases_eq k from) [
+        | inl e ↦ subst (λ (m : ℕ). 0 < vec_len (get_or new m d)) (sym e) (omega (arith, g.from_len d, tight d))
+        | inr ne_from ↦ elim (cases_eq k to) [
+          | inl e ↦ subst (λ (m : ℕ). 0 < vec_len (get_or new m d)) (sym e) (omega (arith, g.to_len d))
+          | inr ne_to ↦ omega (arith, ap vec_len (g.others k d ne_from ne_to), b.held k d more (omega (arith, g.long)) ne)
+        ]
+      ];
+    }
+
+-- equal lists are laid out alike
+pub same_laid_out : {T : Type 0} {chunks new_chunks : List (Vec T)} {starts new_starts : List ℕ} → new_chunks ≡ chunks → new_starts ≡ starts → AreLaidOut chunks starts → AreLaidOut new_chunks new_starts
+same_laid_out {chunks} {new_chunks} {starts} {new_starts} e f l = subst (λ (cs : List (Vec _)). AreLaidOut cs new_starts) (sym e) (subst (λ (ss : List ℕ). AreLaidOut chunks ss) (sym f) l)
+
+-- a spare chunk alone is laid out as an empty list
+pub only_spare : {T : Type 0} (first : Vec T) → IsSpare first → (joined (first ∷ []) ≡ []) × AreLaidOut (first ∷ []) (0 ∷ [])
+only_spare first s =
+    let none : vec_items first ≡ [] = nil_from_length (vec_items first) (omega (arith, s.empty, first.ok.0)) in
+    let here : (P : Vec _ → Type 0) (k : ℕ) (d : Vec _) → k < 1 → P first → P (get_or (first ∷ []) k d) =
+    λ P k d lt p. let e : 0 ≡ k = omega arith in subst (λ (n : ℕ). P (get_or (first ∷ []) n d)) e p in (
+      ap (λ (l : List _). l ++ []) none,
       record {
-        within = omega (arith, p.long, brought_long);
-        each = λ k d lt. record {
-          wide = p.wide k d lt;
-          short = passed_each mid at (at + 1) count new p apart (λ (l : ℕ). l ≤ full) k d (λ e. omega (arith, ap vec_len (brought_at d), o.over d)) (λ e. omega (arith, brought_none d))
-              (λ ne ne_next.
-              let j = brought_back k d (omega (arith, p.long, brought_long)) ne_next in
-              omega (arith, ap vec_len j.6, o.short j.0 d j.1 (j.2 ne)));
+        chunks_are = record {
+          wide = λ k d lt. here IsWide k d lt s.wide;
+          short = λ k d lt. here (λ v. vec_len v ≤ full) k d lt (omega (arith, s.empty));
+          held = λ k d more lt. absurd (omega arith);
         };
-        spare = λ k d from lt.
-            let j = brought_back k d (omega (arith, p.long, brought_long)) (λ e. omega (arith, o.at_used)) in
-            omega (arith, passed_else mid at (at + 1) count new p k d (λ e. omega (arith, o.at_used)) (λ e. omega (arith, o.at_used)), ap vec_len j.6, o.spare j.0 d (j.5 from) j.1);
-        held = λ k d more lt.
-            passed_each mid at (at + 1) count new p apart (λ (l : ℕ). 0 < l) k d (λ e. omega (arith, ap vec_len (brought_at d), o.over d)) (λ e. omega arith)
-            (λ ne ne_next.
-            let j = brought_back k d (omega (arith, p.long, brought_long)) ne_next in
-            omega (arith, ap vec_len j.6, o.held j.0 d (j.3 more) (j.4 lt)));
-      }
-
--- an empty chunk set aside
-module _ {T : Type 0} (old new : List (Vec T)) (used at : ℕ) (c : AreChunksBut old used at) (in_use : at < used) (not_first : 0 < at) (empty : (d : Vec T) → vec_len (get_or old at d) ≡ 0) (s : IsSetAside old at new) where
-  within : at < length old
-  within = omega (arith, c.within)
-
-  short : length (remove old at) + 1 ≡ length old
-  short = length-remove old at within
-
-  pub aside_long : length new ≡ length old
-  aside_long = omega (arith, ap length s.after, length-append (remove old at) (s.spare ∷ []), short)
-
-  nothing : vec_items s.spare ≡ []
-  nothing = nil_from_length (vec_items s.spare) (omega (arith, ap vec_len (s.before s.spare), empty s.spare, s.spare.ok.0))
-
-  pub aside_same : joined new ≡ joined old
-  aside_same =
-      ap joined s.after ∙ last-joined vec_items (remove old at) s.spare nothing
-      ∙ gone-joined vec_items old at s.spare within (ap vec_items (s.before s.spare) ∙ nothing)
-
-  aside_last : (d : Vec T) (k : ℕ) → k + 1 ≡ length old → get_or new k d ≡ s.spare
-  aside_last d k e = ap (λ (l : List (Vec T)). get_or l k d) s.after ∙ at_last (remove old at) s.spare d k (omega (arith, short))
-
-  -- each chunk but the last one was another one in use, or spare, before
-  aside_back : (k : ℕ) (d : Vec T) → k + 1 < length old
-      → (j : ℕ) × (j < length old) × (j ≡ at → ⊥) × (k < used - 1 → j < used) × (used - 1 ≤ k → used ≤ j) × (get_or new k d ≡ get_or old j d) × (k ≤ j)
-  aside_back k d lt =
-      let front : get_or new k d ≡ get_or (remove old at) k d = ap (λ (l : List (Vec T)). get_or l k d) s.after ∙ get_or_append_left (remove old at) (s.spare ∷ []) d k (omega (arith, short)) in
-      elim (cases_lt k at) [
-        | inl low ↦ (k, omega arith, λ e. omega arith, λ in_n. omega arith, λ out. omega arith, front ∙ get_or-remove_below old at d k low within, omega arith)
-        | inr high ↦ (k + 1, omega arith, λ e. omega arith, λ in_n. omega arith, λ out. omega arith, front ∙ get_or-remove_above old at d k high within, omega arith)
-      ]
-
-  pub aside_chunks : AreChunks new (used - 1)
-  aside_chunks = record {
-    within = omega (arith, aside_long, c.within);
-    each = λ k d lt. elim (cases_lt (k + 1) (length old)) [
-      | inl inner ↦
-          let j = aside_back k d inner in
-          subst IsChunk (sym j.5) (c.each j.0 d j.1)
-      | inr last ↦ subst IsChunk (sym (aside_last d k (omega (arith, aside_long)) ∙ sym (s.before d))) (c.each at d within)
-    ];
-    spare = λ k d from lt. elim (cases_lt (k + 1) (length old)) [
-      | inl inner ↦
-          let j = aside_back k d inner in
-          omega (arith, ap vec_len j.5, c.spare j.0 d (j.4 from) j.1)
-      | inr last ↦ omega (arith, ap vec_len (aside_last d k (omega (arith, aside_long))), ap vec_len (s.before d), empty d)
-    ];
-    held = λ k d more lt.
-        let j = aside_back k d (omega (arith, c.within)) in
-        omega (arith, ap vec_len j.5, c.held j.0 d (omega (arith, j.6)) (j.3 lt) j.2);
-  }
-
--- the last chunk given back, which is spare
-module _ {T : Type 0} (old new : List (Vec T)) (used : ℕ) (c : AreChunks old used) (more : used < length old) (gone : Vec T) (is : old ≡ new ++ gone ∷ []) where
-  one_less : length new + 1 ≡ length old
-  one_less = omega (arith, ap length is, length-append new (gone ∷ []))
-
-  still : (k : ℕ) (d : Vec T) → k < length new → get_or new k d ≡ get_or old k d
-  still k d lt = sym (ap (λ (l : List (Vec T)). get_or l k d) is ∙ get_or_append_left new (gone ∷ []) d k lt)
-
-  pub given_same : joined new ≡ joined old
-  given_same =
-      let last : get_or old (length new) gone ≡ gone = ap (λ (l : List (Vec T)). get_or l (length new) gone) is ∙ at_last new gone gone (length new) refl in
-      let none : vec_items gone ≡ [] = nil_from_length (vec_items gone) (omega (arith, ap vec_len last, c.spare (length new) gone (omega (arith, one_less)) (omega (arith, one_less)), gone.ok.0)) in
-      sym (ap joined is ∙ last-joined vec_items new gone none)
-
-  pub given_chunks : AreChunks new used
-  given_chunks = record {
-    within = omega (arith, one_less);
-    each = λ k d lt. subst IsChunk (sym (still k d lt)) (c.each k d (omega (arith, one_less)));
-    spare = λ k d from lt. omega (arith, ap vec_len (still k d lt), c.spare k d from (omega (arith, one_less)));
-    held = λ k d some lt. omega (arith, ap vec_len (still k d (omega (arith, one_less, more))), c.held k d some lt);
-  }
-
--- an empty chunk more
-module _ {T : Type 0} (old now : List (Vec T)) (starts now_starts to : List ℕ) (g : IsGrown old starts now now_starts) (kept : (k : ℕ) → k < length now_starts → get_or to k 0 ≡ get_or now_starts k 0) (first : get_or now_starts 0 0 ≡ 0 → get_or to 0 0 ≡ 0) (long : length now_starts ≤ length to) where
-  pub grown_starts : IsGrown old starts now to
-  grown_starts = record {
-    long = g.long;
-    enough = omega (arith, g.enough);
-    enough_starts = omega (arith, g.enough_starts);
-    same = g.same;
-    others = g.others;
-    empty = g.empty;
-    each = g.each;
-    starts = λ k lt. kept k (omega (arith, g.enough_starts)) ∙ g.starts k lt;
-    first = λ zero. first (g.first zero);
-    begins = g.begins;
-  }
-
-  pub grown_more : (c : Vec T) → IsChunk c → vec_items c ≡ [] → length now + 1 ≤ length to → IsGrown old starts (now ++ c ∷ []) to
-  grown_more c is none more =
-      let one : length (now ++ c ∷ []) ≡ length now + 1 = length-append now (c ∷ []) in
-      record {
-        long = omega (arith, one, g.long);
-        enough = omega (arith, one);
-        enough_starts = omega (arith, g.enough_starts);
-        same = last-joined vec_items now c none ∙ g.same;
-        others = λ k d lt. get_or_append_left now (c ∷ []) d k (omega (arith, g.long)) ∙ g.others k d lt;
-        empty = λ k d from lt. elim (cases_lt k (length now)) [
-          | inl inner ↦ omega (arith, ap vec_len (get_or_append_left now (c ∷ []) d k inner), g.empty k d from inner)
-          | inr last ↦ omega (arith, ap vec_len (at_last now c d k (omega (arith, one))), c.ok.0, ap length none)
-        ];
-        each = λ all k d lt. elim (cases_lt k (length now)) [
-          | inl inner ↦ subst IsChunk (sym (get_or_append_left now (c ∷ []) d k inner)) (g.each all k d inner)
-          | inr last ↦ subst IsChunk (sym (at_last now c d k (omega (arith, one)))) is
-        ];
-        starts = grown_starts.starts;
-        first = grown_starts.first;
-        begins = λ k lt. start_at-append vec_items now (c ∷ []) k (omega (arith, g.long)) ∙ g.begins k lt;
-      }
+        starts_are = record { as_many = refl; begins = λ k lt. let e : 0 ≡ k = omega arith in subst (λ (n : ℕ). get_or (0 ∷ []) n 0 ≡ start_at vec_items (first ∷ []) n) e refl };
+      },
+    )

@@ -3,15 +3,15 @@ use Rattle.std.proofs.Common.{◌≡◌, ℕ, ◌+◌, ◌-◌, ◌<◌, List, l
 use Rattle.std.proofs.lemmas.List.{get_or-take, get_or-drop, length-drop, length-take-le}
 use Rattle.std.specs.Global.{Vec}
 use Rattle.std.specs.Vec.{vec_items}
-use Rattle.chunk_list.specs.Chunks.{joined, AreLaidOut, FallsInto, start_at}
+use Rattle.chunk_list.specs.Chunks.{joined, AreStarts, FallsInto, start_at}
 use Rattle.chunk_list.specs.Walks.{IsRun}
 use Rattle.chunk_list.proofs.Pieces.{get_or-joined, start_at-inside}
 use Rattle.chunk_list.proofs.Places.{is_chunk, here, read_fits}
 
-module _ {T : Type 0} (chunks : List (Vec T)) (starts : List ℕ) (used : ℕ) (s : AreLaidOut chunks starts used) (i p start : ℕ) (f : FallsInto starts used p i) (start_is : start ≡ get_or starts i start)
+module _ {T : Type 0} (chunks : List (Vec T)) (starts : List ℕ) (s : AreStarts chunks starts) (i p start : ℕ) (f : FallsInto starts p i) (start_is : start ≡ get_or starts i start)
     (c : Vec T) (c_is : c ≡ get_or chunks i c) (lt : p < length (joined chunks)) (xs : List T) (xs_is : xs ≡ vec_items c) where
   inside : p - start < length xs
-  inside = omega (arith, read_fits chunks starts used s i p start f start_is c c_is lt, c.ok.0, ap length xs_is)
+  inside = omega (arith, read_fits chunks starts s i p start f start_is c c_is lt, c.ok.0, ap length xs_is)
 
   run_length : length (take (length xs - (p - start)) (drop (p - start) xs)) ≡ length xs - (p - start)
   run_length = length-take-le (length xs - (p - start)) (drop (p - start) xs) (omega (arith, length-drop (p - start) xs))
@@ -20,10 +20,10 @@ module _ {T : Type 0} (chunks : List (Vec T)) (starts : List ℕ) (used : ℕ) (
   chunk_items = xs_is ∙ ap vec_items c_is
 
   chunk_there : i < length chunks
-  chunk_there = is_chunk chunks starts used s i p start f start_is
+  chunk_there = is_chunk chunks starts s i p start f start_is
 
   place_is : start_at vec_items chunks i + (p - start) ≡ p
-  place_is = here chunks starts used s i p start f start_is
+  place_is = here chunks starts s i p start f start_is
 
   pub run_is : IsRun (joined chunks) p (take (length xs - (p - start)) (drop (p - start) xs))
   run_is = record {

@@ -1,4 +1,4 @@
--- The chunks behind a list: the first `used` of them hold the items, and the others are spare.
+-- The chunks behind a list, one after another, and the spare ones beside them.
 use Rattle.std.specs.Prelude.{◌≡◌, ℕ, ◌+◌, ◌*◌, ◌^◌, ◌<◌, ◌≤◌, List, [], ◌∷◌, length, zero, suc, slice_index, slice_index_or, vec_len, vec_capacity}
 use Rattle.std.specs.List.{flat_map}
 use Rattle.std.specs.Global.{Vec}
@@ -18,11 +18,11 @@ start_at f (x ∷ xs) (suc k) = length (f x) + start_at f xs k
 abbrev pub Each : {X : Type 0} → (X → Type 0) → List X → Type 0
 Each {X} P xs = (k : ℕ) (d : X) → k < length xs → P (slice_index_or xs k d)
 
--- of the first `used` starts, a place falls between the one at `at` and the next one
-pub record FallsInto (starts : List ℕ) (used place at : ℕ) : Type 0 where
-  pub within : at < used
-  pub low : slice_index starts at ≤ place
-  pub high : at + 1 < used → place < slice_index starts (at + 1)
+-- a place falls between the start at `at`, or the beginning, and the next one
+pub record FallsInto (starts : List ℕ) (place at : ℕ) : Type 0 where
+  pub within : at < length starts
+  pub low : 0 < at → slice_index starts at ≤ place
+  pub high : at + 1 < length starts → place < slice_index starts (at + 1)
 
 module _ {T : Type 0} where
   -- the chunks, one after another
@@ -33,40 +33,47 @@ module _ {T : Type 0} where
   abbrev pub IsWide : Vec T → Type 0
   IsWide chunk = full < vec_capacity chunk
 
-  -- and holds no more than fill it
-  pub record IsChunk (chunk : Vec T) : Type 0 where
+  -- a chunk that no item needs yet
+  pub record IsSpare (chunk : Vec T) : Type 0 where
     pub wide : IsWide chunk
-    pub short : vec_len chunk ≤ full
+    pub empty : vec_len chunk ≡ 0
 
-  -- spare chunks are empty
-  abbrev pub AreSpare : List (Vec T) → ℕ → Type 0
-  AreSpare chunks used = (k : ℕ) (d : Vec T) → used ≤ k → k < length chunks → vec_len (slice_index_or chunks k d) ≡ 0
+  -- each chunk but the one at `at`, which may be empty or have one item too many, holds some items and no more than
+  -- fill it; the first chunk may always be empty
+  pub record AreChunksBut (chunks : List (Vec T)) (at : ℕ) : Type 0 where
+    pub within : at < length chunks
+    pub wide : Each IsWide chunks
+    pub top : (d : Vec T) → vec_len (slice_index_or chunks at d) ≤ full + 1
+    pub short : (k : ℕ) (d : Vec T) → k < length chunks → (k ≡ at → ⊥) → vec_len (slice_index_or chunks k d) ≤ full
+    pub held : (k : ℕ) (d : Vec T) → 0 < k → k < length chunks → (k ≡ at → ⊥) → 0 < vec_len (slice_index_or chunks k d)
 
-  -- no chunk in use is empty but perhaps the first
-  abbrev pub AreHeld : List (Vec T) → ℕ → Type 0
-  AreHeld chunks used = (k : ℕ) (d : Vec T) → 0 < k → k < used → 0 < vec_len (slice_index_or chunks k d)
+  -- each chunk holds no more items than fill it, and none but perhaps the first is empty
+  pub record AreChunks (chunks : List (Vec T)) : Type 0 where
+    pub wide : Each IsWide chunks
+    pub short : (k : ℕ) (d : Vec T) → k < length chunks → vec_len (slice_index_or chunks k d) ≤ full
+    pub held : (k : ℕ) (d : Vec T) → 0 < k → k < length chunks → 0 < vec_len (slice_index_or chunks k d)
 
-  -- the first `used` chunks are in use
-  pub record AreChunks (chunks : List (Vec T)) (used : ℕ) : Type 0 where
-    pub within : used ≤ length chunks
-    pub each : Each IsChunk chunks
-    pub spare : AreSpare chunks used
-    pub held : AreHeld chunks used
-
-  -- the places where the chunks in use begin
-  pub record AreStarts (chunks : List (Vec T)) (used : ℕ) (starts : List ℕ) : Type 0 where
-    pub enough : length chunks ≤ length starts
-    pub first : slice_index starts 0 ≡ 0
-    pub begins : (k : ℕ) → k < used → slice_index starts k ≡ start_at vec_items chunks k
+  -- the places where the chunks begin
+  pub record AreStarts (chunks : List (Vec T)) (starts : List ℕ) : Type 0 where
+    pub as_many : length starts ≡ length chunks
+    pub begins : (k : ℕ) → k < length chunks → slice_index starts k ≡ start_at vec_items chunks k
 
   -- the chunks, and where they begin
-  pub record AreLaidOut (chunks : List (Vec T)) (starts : List ℕ) (used : ℕ) : Type 0 where
-    pub chunks_are : AreChunks chunks used
-    pub starts_are : AreStarts chunks used starts
+  pub record AreLaidOut (chunks : List (Vec T)) (starts : List ℕ) : Type 0 where
+    pub chunks_are : AreChunks chunks
+    pub starts_are : AreStarts chunks starts
+
+  -- each spare chunk can come in among the others, and each of these can go out, without memory
+  pub record CanTurn (chunks spare : Vec (Vec T)) (starts : Vec ℕ) : Type 0 where
+    pub each : Each IsSpare spare.items
+    pub chunks_fit : vec_len chunks + vec_len spare ≤ vec_capacity chunks
+    pub spare_fit : vec_len chunks + vec_len spare ≤ vec_capacity spare
+    pub starts_fit : vec_len chunks + vec_len spare ≤ vec_capacity starts
 
   -- and there are as many places in all chunks as the items and the room need
-  pub record IsSound (chunks : List (Vec T)) (starts : List ℕ) (used len room : ℕ) : Type 0 where
-    pub laid_out : AreLaidOut chunks starts used
-    pub counted : len ≡ length (joined chunks)
-    pub enough : len + room ≤ length chunks * full
+  pub record IsSound (chunks spare : Vec (Vec T)) (starts : Vec ℕ) (len room : ℕ) : Type 0 where
+    pub laid_out : AreLaidOut chunks.items starts.items
+    pub turns : CanTurn chunks spare starts
+    pub counted : len ≡ length (joined chunks.items)
+    pub enough : len + room ≤ (vec_len chunks + vec_len spare) * full
     pub fits : len + room < 2 ^ 64

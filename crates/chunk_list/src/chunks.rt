@@ -1,45 +1,25 @@
-//! Edits of one chunk among the others, and of two that stand side by side.
-ghost use Rattle.std.specs.Prelude.{◌≡◌, ◌+◌, ◌<◌, ◌≤◌, ◌++◌, ℕ, length, slice_index_or, slice_set, OnOk, vec_len, vec_capacity};
-ghost use Rattle.chunk_list.specs.Chunks.{Each, IsWide, full};
-ghost use Rattle.chunk_list.specs.Edits.{IsBroughtIn, IsExchanged, IsGrown, IsParted, IsPut, IsSetAside, IsTakenOut};
+//! Items that move between chunks, and chunks that come in and go out.
+ghost use Rattle.std.specs.Prelude.{◌≡◌, ◌+◌, ◌<◌, ◌≤◌, ◌⊎◌, ◌++◌, ℕ, length, slice_index_or, slice_set, OnOk, vec_len, vec_capacity};
+ghost use Rattle.std.specs.List.{insert};
+ghost use Rattle.chunk_list.specs.Chunks.{AreChunks, AreChunksBut, AreLaidOut, CanTurn, Each, IsSpare, IsWide, full, joined};
+ghost use Rattle.chunk_list.specs.Edits.{AreTurned, IsGiven, IsParted};
 
 use crate::list::CHUNK;
-use crate::starts::extend;
 use std::alloc::AllocError;
 use std::mem;
 
-// Puts an item into the chunk at `at`, which has a place free.
-pub(crate) fn put<T: Drop>(chunks: &mut Vec<Vec<T>>, at: usize, place: usize, item: T)
-    requires within { at < length chunks.old.items }
-    requires place { (d : _) → place ≤ vec_len (slice_index_or chunks.old.items at d) }
-    requires free { (d : _) → vec_len (slice_index_or chunks.old.items at d) < vec_capacity (slice_index_or chunks.old.items at d) }
-    ensures { (c : _) × (chunks.new.items ≡ slice_set chunks.old.items at c) × ((d : _) → IsPut (slice_index_or chunks.old.items at d) place item c) }
+// Puts an item into a list that has memory for it.
+pub(crate) fn put<T: Drop>(items: &mut Vec<T>, place: usize, item: T)
+    requires place { place ≤ vec_len items.old }
+    requires free { vec_len items.old < vec_capacity items.old }
+    ensures items { items.new.items ≡ insert items.old.items place item }
+    ensures len { vec_len items.new ≡ vec_len items.old + 1 }
+    ensures capacity { vec_capacity items.new ≡ vec_capacity items.old }
 {
-    let chunk = &mut chunks[at];
-    match chunk.insert(place, item) {
+    match items.insert(place, item) {
         Ok(()) => {}
         Err(_) => {}
     }
-}
-
-// Puts an item in the place of another in the chunk at `at`.
-pub(crate) fn exchange<T>(chunks: &mut Vec<Vec<T>>, at: usize, place: usize, item: T) -> T
-    requires within { at < length chunks.old.items }
-    requires place { (d : _) → place < vec_len (slice_index_or chunks.old.items at d) }
-    ensures { (c : _) × (chunks.new.items ≡ slice_set chunks.old.items at c) × ((d : _) → IsExchanged (slice_index_or chunks.old.items at d) place item result c) }
-{
-    let chunk = &mut chunks[at];
-    mem::replace(&mut chunk[place], item)
-}
-
-// Takes an item out of the chunk at `at`.
-pub(crate) fn take_out<T>(chunks: &mut Vec<Vec<T>>, at: usize, place: usize) -> T
-    requires within { at < length chunks.old.items }
-    requires place { (d : _) → place < vec_len (slice_index_or chunks.old.items at d) }
-    ensures { (c : _) × (chunks.new.items ≡ slice_set chunks.old.items at c) × ((d : _) → IsTakenOut (slice_index_or chunks.old.items at d) place result c) }
-{
-    let chunk = &mut chunks[at];
-    chunk.remove(place)
 }
 
 // Moves items between two chunks, one behind the other, until the lower one has `count`.
@@ -49,6 +29,7 @@ fn level<T>(lower: &mut Vec<T>, upper: &mut Vec<T>, count: usize)
     requires upper_fits { vec_len lower.old + vec_len upper.old ≤ vec_capacity upper.old + count }
     ensures items { lower.new.items ++ upper.new.items ≡ lower.old.items ++ upper.old.items }
     ensures len { vec_len lower.new ≡ count }
+    ensures both { vec_len lower.new + vec_len upper.new ≡ vec_len lower.old + vec_len upper.old }
     ensures lower_capacity { vec_capacity lower.new ≡ vec_capacity lower.old }
     ensures upper_capacity { vec_capacity upper.new ≡ vec_capacity upper.old }
 {
@@ -66,13 +47,14 @@ fn level<T>(lower: &mut Vec<T>, upper: &mut Vec<T>, count: usize)
 }
 
 // Moves items between the chunk at `at` and the next one until the first of them has `count`.
-pub(crate) fn part<T: Drop>(chunks: &mut Vec<Vec<T>>, at: usize, count: usize)
+fn part<T: Drop>(chunks: &mut Vec<Vec<T>>, at: usize, count: usize)
     requires within { at + 1 < length chunks.old.items }
     requires wide { Each IsWide chunks.old.items }
     requires enough { (d : _) → count ≤ vec_len (slice_index_or chunks.old.items at d) + vec_len (slice_index_or chunks.old.items (at + 1) d) }
     requires lower { count ≤ full + 1 }
     requires upper { (d : _) → vec_len (slice_index_or chunks.old.items at d) + vec_len (slice_index_or chunks.old.items (at + 1) d) ≤ full + 1 + count }
-    ensures { IsParted chunks.old.items at count chunks.new.items }
+    ensures parted { IsParted chunks.old.items at count chunks.new.items }
+    ensures capacity { vec_capacity chunks.new ≡ vec_capacity chunks.old }
 {
     let hole = Vec::new(*chunks.allocator());
     let mut upper = mem::replace(&mut chunks[at + 1], hole);
@@ -81,41 +63,126 @@ pub(crate) fn part<T: Drop>(chunks: &mut Vec<Vec<T>>, at: usize, count: usize)
     chunks[at + 1] = upper;
 }
 
-// Brings the last chunk to the place `at`.
-pub(crate) fn bring_in<T: Drop>(chunks: &mut Vec<Vec<T>>, at: usize)
-    requires { at < length chunks.old.items }
-    ensures { IsBroughtIn chunks.old.items at chunks.new.items }
+// Moves `count` items from a chunk to one beside it.
+pub(crate) fn give<T: Drop>(chunks: &mut Vec<Vec<T>>, from: usize, to: usize, count: usize)
+    requires beside { (to ≡ from + 1) ⊎ (from ≡ to + 1) }
+    requires from { from < length chunks.old.items }
+    requires to { to < length chunks.old.items }
+    requires wide { Each IsWide chunks.old.items }
+    requires enough { (d : _) → count ≤ vec_len (slice_index_or chunks.old.items from d) }
+    requires fits_from { (d : _) → vec_len (slice_index_or chunks.old.items from d) ≤ full + 1 }
+    requires fits_to { (d : _) → vec_len (slice_index_or chunks.old.items to d) + count ≤ full }
+    ensures given { IsGiven chunks.old.items from to count chunks.new.items }
+    ensures capacity { vec_capacity chunks.new ≡ vec_capacity chunks.old }
 {
-    let spare = chunks.take_last();
-    match chunks.insert(at, spare) {
-        Ok(()) => {}
-        Err(_) => {}
+    if from < to {
+        let left = chunks[from].len() - count;
+        part(chunks, from, left);
+    } else {
+        let more = chunks[to].len() + count;
+        part(chunks, to, more);
     }
 }
 
-// Sets the chunk at `at` aside: it becomes the last one.
-pub(crate) fn set_aside<T>(chunks: &mut Vec<Vec<T>>, at: usize)
-    requires { at < length chunks.old.items }
-    ensures { IsSetAside chunks.old.items at chunks.new.items }
+// Cuts the chunk at `at`, which has one item too many, in two: a spare chunk comes in behind it, with half of the items.
+pub(crate) fn cut<T: Drop>(chunks: &mut Vec<Vec<T>>, spare: &mut Vec<Vec<T>>, at: usize)
+    requires chunks { AreChunksBut chunks.old.items at }
+    requires over { (d : _) → vec_len (slice_index_or chunks.old.items at d) ≡ full + 1 }
+    requires each { Each IsSpare spare.old.items }
+    requires some { 0 < vec_len spare.old }
+    requires fits { vec_len chunks.old < vec_capacity chunks.old }
+    ensures same { joined chunks.new.items ≡ joined chunks.old.items }
+    ensures chunks { AreChunks chunks.new.items }
+    ensures turned { AreTurned chunks.old spare.old chunks.new spare.new }
+    ensures long { vec_len chunks.new + vec_len spare.new ≡ vec_len chunks.old + vec_len spare.old }
 {
-    let spare = chunks.remove(at);
-    chunks.push_reserved(spare);
+    let mut upper = spare.take_last();
+    let lower = &mut chunks[at];
+    level(lower, &mut upper, CHUNK / 2);
+    put(chunks, at + 1, upper);
+}
+
+// Takes the chunk at `at` out, which is empty. It is spare now, where so many chunks are needed, and else given back.
+pub(crate) fn set_out<T: Drop>(
+    chunks: &mut Vec<Vec<T>>,
+    spare: &mut Vec<Vec<T>>,
+    at: usize,
+    needed: usize,
+)
+    requires chunks { AreChunksBut chunks.old.items at }
+    requires some { 0 < at }
+    requires empty { (d : _) → vec_len (slice_index_or chunks.old.items at d) ≡ 0 }
+    requires each { Each IsSpare spare.old.items }
+    requires fits { vec_len chunks.old + vec_len spare.old ≤ vec_capacity spare.old }
+    ensures same { joined chunks.new.items ≡ joined chunks.old.items }
+    ensures chunks { AreChunks chunks.new.items }
+    ensures turned { AreTurned chunks.old spare.old chunks.new spare.new }
+    ensures needed { needed ≤ vec_len chunks.old + vec_len spare.old → needed ≤ vec_len chunks.new + vec_len spare.new }
+{
+    let chunk = chunks.remove(at);
+    let left = chunks.len() + spare.len();
+    if left < needed {
+        spare.push_reserved(chunk);
+    }
+}
+
+// Brings the first chunk in, where there is none.
+pub(crate) fn begin<T: Drop>(
+    chunks: &mut Vec<Vec<T>>,
+    spare: &mut Vec<Vec<T>>,
+    starts: &mut Vec<usize>,
+)
+    requires laid_out { AreLaidOut chunks.old.items starts.old.items }
+    requires turns { CanTurn chunks.old spare.old starts.old }
+    requires some { 0 < vec_len chunks.old + vec_len spare.old }
+    ensures same { joined chunks.new.items ≡ joined chunks.old.items }
+    ensures laid_out { AreLaidOut chunks.new.items starts.new.items }
+    ensures turns { CanTurn chunks.new spare.new starts.new }
+    ensures long { vec_len chunks.new + vec_len spare.new ≡ vec_len chunks.old + vec_len spare.old }
+    ensures some { 0 < vec_len chunks.new }
+{
+    if chunks.len() == 0 {
+        chunks.push_reserved(spare.take_last());
+        starts.push_reserved(0);
+    }
+}
+
+// Makes memory for one spare chunk more, to come in and to go out.
+fn extend<T: Drop>(
+    chunks: &mut Vec<Vec<T>>,
+    spare: &mut Vec<Vec<T>>,
+    starts: &mut Vec<usize>,
+) -> Result<(), AllocError>
+    requires turns { CanTurn chunks.old spare.old starts.old }
+    requires as_many { vec_len starts.old ≡ vec_len chunks.old }
+    ensures same { (chunks.new.items ≡ chunks.old.items) × (spare.new.items ≡ spare.old.items) × (starts.new.items ≡ starts.old.items) }
+    ensures turns { CanTurn chunks.new spare.new starts.new }
+    ensures ok { OnOk result ((vec_len chunks.new + vec_len spare.new < vec_capacity chunks.new) × (vec_len chunks.new + vec_len spare.new < vec_capacity spare.new) × (vec_len chunks.new + vec_len spare.new < vec_capacity starts.new)) }
+{
+    chunks.reserve(spare.len() + 1)?;
+    starts.reserve(spare.len() + 1)?;
+    spare.reserve(chunks.len() + 1)
 }
 
 // Adds spare chunks until there are so many chunks.
 pub(crate) fn grow<T: Drop>(
     chunks: &mut Vec<Vec<T>>,
+    spare: &mut Vec<Vec<T>>,
     starts: &mut Vec<usize>,
     wanted: usize,
 ) -> Result<(), AllocError>
-    requires { length chunks.old.items ≤ length starts.old.items }
-    ensures grown { IsGrown chunks.old.items starts.old.items chunks.new.items starts.new.items }
-    ensures ok { OnOk result (wanted ≤ length chunks.new.items) }
+    requires laid_out { AreLaidOut chunks.old.items starts.old.items }
+    requires turns { CanTurn chunks.old spare.old starts.old }
+    ensures same { joined chunks.new.items ≡ joined chunks.old.items }
+    ensures laid_out { AreLaidOut chunks.new.items starts.new.items }
+    ensures turns { CanTurn chunks.new spare.new starts.new }
+    ensures long { vec_len chunks.old + vec_len spare.old ≤ vec_len chunks.new + vec_len spare.new }
+    ensures ok { OnOk result (wanted ≤ vec_len chunks.new + vec_len spare.new) }
 {
-    while chunks.len() < wanted {
+    while chunks.len() + spare.len() < wanted {
         let chunk = Vec::with_capacity(*chunks.allocator(), CHUNK + 1)?;
-        extend(starts, chunks.len())?;
-        chunks.push(chunk)?;
+        extend(chunks, spare, starts)?;
+        spare.push_reserved(chunk);
     }
     Ok(())
 }

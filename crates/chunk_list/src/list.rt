@@ -18,20 +18,17 @@ use u1_base::{Memory, Steps};
 // A chunk holds so many items at most, and has memory for one more.
 pub(crate) const CHUNK: usize = 512;
 
-// There are so many spare chunks at most that no item needs, so that a full chunk can be cut in two.
-pub(crate) const SPARE: usize = 16;
-
-// A list in fewer chunks than this has no such chunk, and one for each so many.
-const FEW: usize = 16;
+// A list in so many chunks has a spare one besides, so that a full one can be cut in two.
+const MANY: usize = 16;
 
 /// A list of items in chunks of a few hundred.
 #[derive(Drop)]
 pub struct ChunkList<T> {
-    // The chunks in use come first. The others are spare.
     chunks: Vec<Vec<T>>,
-    // Where each chunk in use begins.
+    // Chunks that no item needs yet.
+    spare: Vec<Vec<T>>,
+    // Where each chunk begins.
     starts: Vec<usize>,
-    used: usize,
     len: usize,
     room: usize,
 }
@@ -47,7 +44,7 @@ impl<T> Model for ChunkList<T> {
 
     ghost view = { λ s. record { items = joined s.chunks.items; room = s.room } };
 
-    ghost invariant = { λ s. IsSound s.chunks.items s.starts.items s.used s.len s.room };
+    ghost invariant = { λ s. IsSound s.chunks s.spare s.starts s.len s.room };
 }
 
 impl<T> ChunkList<T> {
@@ -58,8 +55,8 @@ impl<T> ChunkList<T> {
     {
         ChunkList {
             chunks: Vec::new(alloc),
+            spare: Vec::new(alloc),
             starts: Vec::new(alloc),
-            used: 0,
             len: 0,
             room: 0,
         }
@@ -98,7 +95,7 @@ impl<T> ChunkList<T> {
         if place >= self.len {
             return &[];
         }
-        let at = home(&self.starts, self.used, place);
+        let at = home(&self.starts, place);
         let start = self.starts[at];
         let chunk = &self.chunks[at];
         &chunk[place - start..]
@@ -128,12 +125,12 @@ impl<T> ChunkList<T> {
         if self.len == 0 {
             return (0, None);
         }
-        let at = chunk_of(&self.chunks, self.used, &passes, steps);
+        let at = chunk_of(&self.chunks, &passes, steps);
         let start = self.starts[at];
         // The first item of the chunk passes, unless it is the first chunk, of which nothing is known.
         let known = at.min(1);
         let place = place_in(&self.chunks[at], known, &passes, steps);
-        (start + place, item_from(&self.chunks, self.used, at, place))
+        (start + place, item_from(&self.chunks, at, place))
     }
 
     /// `search` for who counts nothing.
@@ -160,12 +157,9 @@ impl<T> ChunkList<T> {
             return Err(Memory);
         }
         let needed = (self.len + room).div_ceil(CHUNK);
-        let spare = more.min(SPARE).min(self.used / FEW);
-        grow(
-            &mut self.chunks,
-            &mut self.starts,
-            needed.max(self.used + spare),
-        )?;
+        let besides = (self.chunks.len() / MANY).min(1);
+        let wanted = needed.max(self.chunks.len() + besides);
+        grow(&mut self.chunks, &mut self.spare, &mut self.starts, wanted)?;
         self.room = room;
         Ok(())
     }
@@ -181,8 +175,8 @@ impl<T> ChunkList<T> {
     {
         put_at(
             &mut self.chunks,
+            &mut self.spare,
             &mut self.starts,
-            &mut self.used,
             place,
             item,
         );
@@ -197,11 +191,11 @@ impl<T> ChunkList<T> {
         ensures items { self.new.items ≡ slice_set self.old.items place item }
         ensures room { self.new.room ≡ self.old.room }
     {
-        exchange_at(&mut self.chunks, &self.starts, self.used, place, item)
+        exchange_at(&mut self.chunks, &self.starts, place, item)
     }
 
     /// Takes the item at a place out; those behind it move down by one. It takes no memory, and gives some back
-    /// where there are many spare chunks.
+    /// where a chunk became empty that the room does not need.
     pub fn remove(&mut self, place: usize) -> T
     where
         T: Drop,
@@ -213,8 +207,8 @@ impl<T> ChunkList<T> {
         let needed = (self.len - 1 + self.room).div_ceil(CHUNK);
         let item = take_at(
             &mut self.chunks,
+            &mut self.spare,
             &mut self.starts,
-            &mut self.used,
             place,
             needed,
         );

@@ -1,12 +1,13 @@
 //! Items that go into the list, out of it, and in the place of others.
-ghost use Rattle.std.specs.Prelude.{◌≡◌, ◌+◌, ◌*◌, ◌^◌, ◌<◌, ◌≤◌, ◌⊎◌, ℕ, length, slice_index_or, slice_set, MatchOption, vec_len};
+ghost use Rattle.std.specs.Prelude.{◌≡◌, ◌≢◌, ◌⊎◌, ◌+◌, ◌*◌, ◌^◌, ◌<◌, ◌≤◌, ℕ, length, slice_index_or, slice_set, MatchOption, vec_len, vec_capacity};
 ghost use Rattle.std.specs.List.{insert, remove};
-ghost use Rattle.chunk_list.specs.Chunks.{AreChunks, AreLaidOut, Each, IsWide, full, joined};
-ghost use Rattle.chunk_list.specs.Edits.{AreChunksBut, IsBetween, IsNear, IsOver, IsPassed, NoneNear};
+ghost use Rattle.chunk_list.specs.Chunks.{AreChunks, AreChunksBut, AreLaidOut, AreStarts, CanTurn, Each, FallsInto, IsSpare, full, joined};
+ghost use Rattle.chunk_list.specs.Edits.{AreTurned, HasFree, NoneFree};
 
-use crate::chunks::{bring_in, exchange, part, put, set_aside, take_out};
-use crate::list::{CHUNK, SPARE};
+use crate::chunks::{begin, cut, give, put, set_out};
+use crate::list::CHUNK;
 use crate::starts::{home, lower, raise, recount};
+use std::mem;
 
 // A full chunk takes places from a chunk that is no further away than this and has so many free. So chunks are well
 // filled, and few are cut.
@@ -14,23 +15,16 @@ const NEAR: usize = 4;
 
 const SOME: usize = 32;
 
-// The nearest chunk in use, on either side and no further away than `reach`, that has `least` places free.
-fn nearest<T>(
-    chunks: &Vec<Vec<T>>,
-    used: usize,
-    at: usize,
-    reach: usize,
-    least: usize,
-) -> Option<usize>
-    requires at { at < used }
-    requires used { used ≤ length chunks.now.items }
-    requires reach { reach ≤ used }
-    requires least { least ≤ full }
-    ensures { MatchOption result (NoneNear chunks.now.items used at reach least) (IsNear chunks.now.items used at least) }
+// The nearest chunk, on either side and no further away than `reach`, that has `least` places free.
+fn nearest<T>(chunks: &Vec<Vec<T>>, at: usize, reach: usize, least: usize) -> Option<usize>
+    requires at { at < length chunks.now.items }
+    requires least { (0 < least) × (least ≤ full) }
+    ensures { MatchOption result (NoneFree chunks.now.items at reach least) (HasFree chunks.now.items at) }
 {
+    let furthest = reach.min(chunks.len());
     let mut step = 1;
-    while step <= reach {
-        if step < used - at && chunks[at + step].len() <= CHUNK - least {
+    while step <= furthest {
+        if step < chunks.len() - at && chunks[at + step].len() <= CHUNK - least {
             return Some(at + step);
         }
         if step <= at && chunks[at - step].len() <= CHUNK - least {
@@ -41,173 +35,161 @@ fn nearest<T>(
     None
 }
 
-// Moves `count` items from a chunk to one beside it.
-fn give<T: Drop>(chunks: &mut Vec<Vec<T>>, from: usize, to: usize, count: usize)
-    requires beside { (to ≡ from + 1) ⊎ (from ≡ to + 1) }
-    requires from { from < length chunks.old.items }
-    requires to { to < length chunks.old.items }
-    requires wide { Each IsWide chunks.old.items }
-    requires enough { (d : _) → count ≤ vec_len (slice_index_or chunks.old.items from d) }
-    requires fits_from { (d : _) → vec_len (slice_index_or chunks.old.items from d) ≤ full + 1 }
-    requires fits_to { (d : _) → vec_len (slice_index_or chunks.old.items to d) + count ≤ full }
-    ensures { IsPassed chunks.old.items from to count chunks.new.items }
+// The chunk beside `from` that is nearer to `at`.
+fn nearer(from: usize, at: usize) -> usize
+    requires { from ≢ at }
+    ensures { ((at < from) × (from ≡ result + 1)) ⊎ ((from < at) × (result ≡ from + 1)) }
 {
-    if from < to {
-        let left = chunks[from].len() - count;
-        part(chunks, from, left);
-    } else {
-        let more = chunks[to].len() + count;
-        part(chunks, to, more);
-    }
+    if at < from { from - 1 } else { from + 1 }
 }
 
-// Passes `count` items on from a chunk to another: each chunk between gives as many as it gets.
-fn pass<T: Drop>(chunks: &mut Vec<Vec<T>>, from: usize, to: usize, count: usize)
-    requires from { from < length chunks.old.items }
-    requires to { to < length chunks.old.items }
-    requires wide { Each IsWide chunks.old.items }
-    requires enough { (d : _) → count ≤ vec_len (slice_index_or chunks.old.items from d) }
-    requires fits_from { (d : _) → vec_len (slice_index_or chunks.old.items from d) ≤ full + 1 }
-    requires fits_to { (d : _) → vec_len (slice_index_or chunks.old.items to d) + count ≤ full }
-    requires between { (k : ℕ) (d : _) → IsBetween from to k → (count ≤ vec_len (slice_index_or chunks.old.items k d)) × (vec_len (slice_index_or chunks.old.items k d) ≤ full) }
-    ensures { IsPassed chunks.old.items from to count chunks.new.items }
-{
-    let mut at = to;
-    while at != from {
-        let next = if at < from { at + 1 } else { at - 1 };
-        give(chunks, next, at, count);
-        at = next;
-    }
-}
-
-// Gives the chunk at `at`, which has one item too many, half of the places that are free in the chunk at `free`.
-fn share<T: Drop>(chunks: &mut Vec<Vec<T>>, used: usize, at: usize, free: usize, least: usize)
-    requires over { IsOver chunks.old.items used at }
-    requires near { IsNear chunks.old.items used at least free }
-    requires least { (0 < least) × (least ≤ 256) }
+// Gives the chunk at `at`, which has one item too many, half of the places that are free in the chunk at `free`: chunk
+// by chunk as many items move towards it, or fewer where a chunk between has places for them.
+fn share<T: Drop>(chunks: &mut Vec<Vec<T>>, at: usize, free: usize)
+    requires chunks { AreChunksBut chunks.old.items at }
+    requires over { (d : _) → vec_len (slice_index_or chunks.old.items at d) ≡ full + 1 }
+    requires free { HasFree chunks.old.items at free }
     ensures same { joined chunks.new.items ≡ joined chunks.old.items }
-    ensures long { length chunks.new.items ≡ length chunks.old.items }
-    ensures chunks { AreChunks chunks.new.items used }
+    ensures chunks { AreChunks chunks.new.items }
+    ensures len { vec_len chunks.new ≡ vec_len chunks.old }
+    ensures capacity { vec_capacity chunks.new ≡ vec_capacity chunks.old }
 {
     let count = (CHUNK - chunks[free].len()).div_ceil(2);
-    pass(chunks, at, free, count);
-}
-
-// Cuts the chunk at `at`, which has one item too many, in two. There is a spare chunk.
-fn cut<T: Drop>(chunks: &mut Vec<Vec<T>>, used: usize, at: usize)
-    requires over { IsOver chunks.old.items used at }
-    requires spare { used < length chunks.old.items }
-    ensures same { joined chunks.new.items ≡ joined chunks.old.items }
-    ensures long { length chunks.new.items ≡ length chunks.old.items }
-    ensures chunks { AreChunks chunks.new.items (used + 1) }
-{
-    bring_in(chunks, at + 1);
-    give(chunks, at, at + 1, CHUNK / 2);
+    let most = CHUNK - count;
+    let mut to = free;
+    while to != at {
+        let into = to;
+        let from = nearer(into, at);
+        to = from;
+        if most < chunks[from].len() {
+            give(chunks, from, into, count);
+        }
+    }
 }
 
 // Gives the chunk at `at`, which has one item too many, places from a chunk near by, or else cuts it in two; where no
 // chunk is spare, it gets places from wherever there are some.
-fn relieve<T: Drop>(chunks: &mut Vec<Vec<T>>, used: &mut usize, at: usize)
-    requires over { IsOver chunks.old.items used.old at }
-    requires enough { length (joined chunks.old.items) ≤ length chunks.old.items * full }
+fn relieve<T: Drop>(chunks: &mut Vec<Vec<T>>, spare: &mut Vec<Vec<T>>, at: usize)
+    requires chunks { AreChunksBut chunks.old.items at }
+    requires over { (d : _) → vec_len (slice_index_or chunks.old.items at d) ≡ full + 1 }
+    requires each { Each IsSpare spare.old.items }
+    requires fits { vec_len chunks.old + vec_len spare.old ≤ vec_capacity chunks.old }
+    requires enough { length (joined chunks.old.items) ≤ (vec_len chunks.old + vec_len spare.old) * full }
     ensures same { joined chunks.new.items ≡ joined chunks.old.items }
-    ensures long { length chunks.new.items ≡ length chunks.old.items }
-    ensures chunks { AreChunks chunks.new.items used.new }
+    ensures chunks { AreChunks chunks.new.items }
+    ensures turned { AreTurned chunks.old spare.old chunks.new spare.new }
+    ensures long { vec_len chunks.new + vec_len spare.new ≡ vec_len chunks.old + vec_len spare.old }
 {
-    let near = NEAR.min(*used);
-    if let Some(free) = nearest(chunks, *used, at, near, SOME) {
-        share(chunks, *used, at, free, SOME);
+    if let Some(free) = nearest(chunks, at, NEAR, SOME) {
+        share(chunks, at, free);
         return;
     }
-    if *used < chunks.len() {
-        cut(chunks, *used, at);
-        *used += 1;
+    if spare.len() > 0 {
+        cut(chunks, spare, at);
         return;
     }
-    if let Some(free) = nearest(chunks, *used, at, *used, 1) {
-        share(chunks, *used, at, free, 1);
+    if let Some(free) = nearest(chunks, at, usize::MAX, 1) {
+        share(chunks, at, free);
     }
 }
 
-// Gives a spare chunk back, where there are many and one is left over.
-fn trim<T: Drop>(chunks: &mut Vec<Vec<T>>, used: usize, needed: usize)
-    requires chunks { AreChunks chunks.old.items used }
-    ensures same { joined chunks.new.items ≡ joined chunks.old.items }
-    ensures chunks { AreChunks chunks.new.items used }
-    ensures long { length chunks.new.items ≤ length chunks.old.items }
-    ensures needed { needed ≤ length chunks.old.items → needed ≤ length chunks.new.items }
+// Puts an item into the chunk that its place falls into, which may then have one too many.
+fn put_in<T: Drop>(
+    chunks: &mut Vec<Vec<T>>,
+    starts: &mut Vec<usize>,
+    at: usize,
+    place: usize,
+    item: T,
+)
+    requires laid_out { AreLaidOut chunks.old.items starts.old.items }
+    requires falls { FallsInto starts.old.items place at }
+    requires place { place ≤ length (joined chunks.old.items) }
+    requires fits { length (joined chunks.old.items) + 1 < 2 ^ 64 }
+    ensures items { joined chunks.new.items ≡ insert (joined chunks.old.items) place item }
+    ensures chunks { AreChunksBut chunks.new.items at }
+    ensures some { (d : _) → 0 < vec_len (slice_index_or chunks.new.items at d) }
+    ensures starts { AreStarts chunks.new.items starts.new.items }
+    ensures len { vec_len chunks.new ≡ vec_len chunks.old }
+    ensures capacity { vec_capacity chunks.new ≡ vec_capacity chunks.old }
+    ensures starts_capacity { vec_capacity starts.new ≡ vec_capacity starts.old }
 {
-    if chunks.len() - used > SPARE && chunks.len() > needed {
-        chunks.take_last();
-    }
-}
-
-// Takes the chunk at `at` out of use, which is empty. `needed` chunks stay, if there were as many.
-fn set_out<T: Drop>(chunks: &mut Vec<Vec<T>>, used: &mut usize, at: usize, needed: usize)
-    requires chunks { AreChunksBut chunks.old.items used.old at }
-    requires some { 0 < at }
-    requires at { at < used.old }
-    requires empty { (d : _) → vec_len (slice_index_or chunks.old.items at d) ≡ 0 }
-    ensures same { joined chunks.new.items ≡ joined chunks.old.items }
-    ensures chunks { AreChunks chunks.new.items used.new }
-    ensures long { length chunks.new.items ≤ length chunks.old.items }
-    ensures needed { needed ≤ length chunks.old.items → needed ≤ length chunks.new.items }
-{
-    set_aside(chunks, at);
-    *used -= 1;
-    trim(chunks, *used, needed);
+    let start = starts[at];
+    let chunk = &mut chunks[at];
+    put(chunk, place - start, item);
+    raise(starts, at);
 }
 
 // Puts an item in at a place of the list.
 pub(crate) fn put_at<T: Drop>(
     chunks: &mut Vec<Vec<T>>,
+    spare: &mut Vec<Vec<T>>,
     starts: &mut Vec<usize>,
-    used: &mut usize,
     place: usize,
     item: T,
 )
-    requires laid_out { AreLaidOut chunks.old.items starts.old.items used.old }
+    requires laid_out { AreLaidOut chunks.old.items starts.old.items }
+    requires turns { CanTurn chunks.old spare.old starts.old }
     requires place { place ≤ length (joined chunks.old.items) }
-    requires enough { length (joined chunks.old.items) < length chunks.old.items * full }
+    requires enough { length (joined chunks.old.items) < (vec_len chunks.old + vec_len spare.old) * full }
     requires fits { length (joined chunks.old.items) + 1 < 2 ^ 64 }
     ensures items { joined chunks.new.items ≡ insert (joined chunks.old.items) place item }
-    ensures laid_out { AreLaidOut chunks.new.items starts.new.items used.new }
-    ensures long { length chunks.new.items ≡ length chunks.old.items }
+    ensures laid_out { AreLaidOut chunks.new.items starts.new.items }
+    ensures turns { CanTurn chunks.new spare.new starts.new }
+    ensures long { vec_len chunks.new + vec_len spare.new ≡ vec_len chunks.old + vec_len spare.old }
 {
-    *used = (*used).max(1);
-    let at = home(starts, *used, place);
-    let start = starts[at];
-    put(chunks, at, place - start, item);
-    raise(starts, *used, at);
+    begin(chunks, spare, starts);
+    let at = home(starts, place);
+    put_in(chunks, starts, at, place, item);
     if chunks[at].len() > CHUNK {
-        relieve(chunks, used, at);
-        recount(starts, chunks, *used);
+        relieve(chunks, spare, at);
+        recount(starts, chunks);
     }
+}
+
+// Takes an item out of the chunk that its place falls into, which may then be empty.
+fn take_out<T>(chunks: &mut Vec<Vec<T>>, starts: &mut Vec<usize>, at: usize, place: usize) -> T
+    requires laid_out { AreLaidOut chunks.old.items starts.old.items }
+    requires falls { FallsInto starts.old.items place at }
+    requires place { place < length (joined chunks.old.items) }
+    ensures value { result ≡ slice_index_or (joined chunks.old.items) place result }
+    ensures items { joined chunks.new.items ≡ remove (joined chunks.old.items) place }
+    ensures chunks { AreChunksBut chunks.new.items at }
+    ensures short { (d : _) → vec_len (slice_index_or chunks.new.items at d) ≤ full }
+    ensures starts { AreStarts chunks.new.items starts.new.items }
+    ensures len { vec_len chunks.new ≡ vec_len chunks.old }
+    ensures capacity { vec_capacity chunks.new ≡ vec_capacity chunks.old }
+    ensures starts_capacity { vec_capacity starts.new ≡ vec_capacity starts.old }
+{
+    let start = starts[at];
+    let chunk = &mut chunks[at];
+    let item = chunk.remove(place - start);
+    lower(starts, at);
+    item
 }
 
 // Takes the item at a place of the list out. `needed` chunks stay, if there were as many.
 pub(crate) fn take_at<T: Drop>(
     chunks: &mut Vec<Vec<T>>,
+    spare: &mut Vec<Vec<T>>,
     starts: &mut Vec<usize>,
-    used: &mut usize,
     place: usize,
     needed: usize,
 ) -> T
-    requires laid_out { AreLaidOut chunks.old.items starts.old.items used.old }
+    requires laid_out { AreLaidOut chunks.old.items starts.old.items }
+    requires turns { CanTurn chunks.old spare.old starts.old }
     requires place { place < length (joined chunks.old.items) }
     requires fits { length (joined chunks.old.items) < 2 ^ 64 }
     ensures value { result ≡ slice_index_or (joined chunks.old.items) place result }
     ensures items { joined chunks.new.items ≡ remove (joined chunks.old.items) place }
-    ensures laid_out { AreLaidOut chunks.new.items starts.new.items used.new }
-    ensures needed { needed ≤ length chunks.old.items → needed ≤ length chunks.new.items }
+    ensures laid_out { AreLaidOut chunks.new.items starts.new.items }
+    ensures turns { CanTurn chunks.new spare.new starts.new }
+    ensures needed { needed ≤ vec_len chunks.old + vec_len spare.old → needed ≤ vec_len chunks.new + vec_len spare.new }
 {
-    let at = home(starts, *used, place);
-    let start = starts[at];
-    let item = take_out(chunks, at, place - start);
-    lower(starts, *used, at);
+    let at = home(starts, place);
+    let item = take_out(chunks, starts, at, place);
     if at > 0 && chunks[at].len() == 0 {
-        set_out(chunks, used, at, needed);
-        recount(starts, chunks, *used);
+        set_out(chunks, spare, at, needed);
+        recount(starts, chunks);
     }
     item
 }
@@ -216,18 +198,20 @@ pub(crate) fn take_at<T: Drop>(
 pub(crate) fn exchange_at<T>(
     chunks: &mut Vec<Vec<T>>,
     starts: &Vec<usize>,
-    used: usize,
     place: usize,
     item: T,
 ) -> T
-    requires laid_out { AreLaidOut chunks.old.items starts.now.items used }
+    requires laid_out { AreLaidOut chunks.old.items starts.now.items }
     requires place { place < length (joined chunks.old.items) }
     ensures value { result ≡ slice_index_or (joined chunks.old.items) place result }
     ensures items { joined chunks.new.items ≡ slice_set (joined chunks.old.items) place item }
-    ensures laid_out { AreLaidOut chunks.new.items starts.now.items used }
-    ensures long { length chunks.new.items ≡ length chunks.old.items }
+    ensures laid_out { AreLaidOut chunks.new.items starts.now.items }
+    ensures len { vec_len chunks.new ≡ vec_len chunks.old }
+    ensures capacity { vec_capacity chunks.new ≡ vec_capacity chunks.old }
 {
-    let at = home(starts, used, place);
+    let at = home(starts, place);
     let start = starts[at];
-    exchange(chunks, at, place - start, item)
+    let chunk = &mut chunks[at];
+    let inside = place - start;
+    mem::replace(&mut chunk[inside], item)
 }

@@ -4,29 +4,27 @@ ghost use Rattle.std.specs.Fn.{FnReturnsAt};
 ghost use Rattle.std.specs.List.{HoldsAt};
 ghost use Rattle.std.specs.Option.{option_copied};
 ghost use Rattle.std.specs.Vec.{vec_items};
-ghost use Rattle.chunk_list.specs.Chunks.{AreChunks, AreHeld, joined, start_at};
+ghost use Rattle.chunk_list.specs.Chunks.{AreChunks, joined, start_at};
 
 use std::sync::ledger::Ledger;
 use u1_base::Steps;
 
-// The last chunk in use whose first item passes, or the first chunk.
+// The last chunk whose first item passes, or the first chunk.
 pub(crate) fn chunk_of<T, L: Ledger, F: Fn(&T) -> bool>(
     chunks: &Vec<Vec<T>>,
-    used: usize,
     passes: &F,
     steps: &mut Steps<L>,
 ) -> usize
     requires callable { F.IsAlwaysCallable passes.now }
-    requires some { 0 < used }
-    requires used { used ≤ length chunks.now.items }
-    requires held { AreHeld chunks.now.items used }
-    ensures within { result < used }
+    requires some { 0 < length chunks.now.items }
+    requires chunks { AreChunks chunks.now.items }
+    ensures within { result < length chunks.now.items }
     ensures here { 0 < result → HoldsAt (λ c. HoldsAt (λ x. FnReturnsAt F.Fn passes.now x true) c.items 0) chunks.now.items result }
-    ensures next { result + 1 < used → HoldsAt (λ c. HoldsAt (λ x. FnReturnsAt F.Fn passes.now x false) c.items 0) chunks.now.items (result + 1) }
-    ensures looks { (k : ℕ) → used - 1 < 2 ^ k → steps.new ≤ steps.old + k }
+    ensures next { result + 1 < length chunks.now.items → HoldsAt (λ c. HoldsAt (λ x. FnReturnsAt F.Fn passes.now x false) c.items 0) chunks.now.items (result + 1) }
+    ensures looks { (k : ℕ) → length chunks.now.items - 1 < 2 ^ k → steps.new ≤ steps.old + k }
 {
     let mut low = 0;
-    let mut high = used;
+    let mut high = chunks.len();
     while high - low > 1 {
         let middle = low + (high - low) / 2;
         let chunk = &chunks[middle];
@@ -70,9 +68,9 @@ pub(crate) fn place_in<T, L: Ledger, F: Fn(&T) -> bool>(
 }
 
 // The item at a place of the chunk at `at`; at its end, the first one of the next chunk. None where that is the end.
-pub(crate) fn item_from<T>(chunks: &Vec<Vec<T>>, used: usize, at: usize, place: usize) -> Option<&T>
-    requires within { at < used }
-    requires chunks { AreChunks chunks.now.items used }
+pub(crate) fn item_from<T>(chunks: &Vec<Vec<T>>, at: usize, place: usize) -> Option<&T>
+    requires within { at < length chunks.now.items }
+    requires chunks { AreChunks chunks.now.items }
     requires place { (d : _) → place ≤ vec_len (slice_index_or chunks.now.items at d) }
     ensures { option_copied result ≡ slice_get (joined chunks.now.items) (start_at vec_items chunks.now.items at + place) }
 {
@@ -80,7 +78,7 @@ pub(crate) fn item_from<T>(chunks: &Vec<Vec<T>>, used: usize, at: usize, place: 
     if place < chunk.len() {
         return Some(&chunk[place]);
     }
-    if at < used - 1 {
+    if at < chunks.len() - 1 {
         let next = &chunks[at + 1];
         return Some(&next[0]);
     }

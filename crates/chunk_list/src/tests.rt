@@ -202,14 +202,33 @@ fn takes_many_at_once(rt: HostRuntime) -> Result<(), Fail> {
     Ok(())
 }
 
+// A call that finds no memory leaves the items and no less room, and the same call can be made again.
+#[test]
+fn stands_where_memory_runs_out(rt: HostRuntime) -> Result<(), Fail> {
+    let mut list = ChunkList::<u64>::new(rt.alloc());
+    for more in [1, 600, 1200, 9000] {
+        let room = list.room();
+        if list.reserve(more).is_err() {
+            assert!(rt; room <= list.room());
+            list.reserve(more)?;
+        }
+        for _ in 0..more {
+            let end = list.len();
+            assert!(rt; list.room() > 0);
+            list.insert(end, end as u64);
+        }
+        let last = list.len().saturating_sub(1);
+        assert_eq!(rt; list.get(last).copied(), Some(last as u64));
+    }
+    assert_eq!(rt; list.len(), 10_801);
+    Ok(())
+}
+
 #[test]
 fn finds_places(rt: HostRuntime) -> Result<(), Fail> {
-    let mut list = ChunkList::<u64>::new(rt.alloc());
-    for item in 0..2000 {
-        list.reserve(1)?;
-        let end = list.len();
-        list.insert(end, item);
-    }
+    let mut list = ChunkList::new(rt.alloc());
+    let mut plain = Vec::new(rt.alloc());
+    fill(&mut list, &mut plain, 2000, 1)?;
     for key in 0..1100 {
         let want = if key < 1000 { key as usize * 2 } else { 2000 };
         let (place, item) = list.find(|item| *item / 2 < key);
@@ -224,30 +243,17 @@ fn a_walk_goes_to_any_place(rt: HostRuntime) -> Result<(), Fail> {
     let mut random = Random {
         state: 0x0123_4567_89ab_cdef,
     };
-    let empty = ChunkList::<u64>::new(rt.alloc());
-    assert_eq!(rt; empty.walk().get(0), None);
-    let mut list = ChunkList::<u64>::new(rt.alloc());
-    for item in 0..3000 {
-        list.reserve(1)?;
-        let end = list.len();
-        list.insert(end, item);
-    }
+    let mut list = ChunkList::new(rt.alloc());
+    let mut plain = Vec::new(rt.alloc());
+    assert_eq!(rt; list.walk().get(0), None);
+    fill(&mut list, &mut plain, 3000, 1)?;
     let mut walk = list.walk();
     for _ in 0..5000 {
+        // a place, and on from there
         let place = random.below(3200);
-        let want = if place < 3000 {
-            Some(place as u64)
-        } else {
-            None
-        };
-        assert_eq!(rt; walk.get(place).copied(), want, "{place}");
-        // and on from there
-        let want = if place < 2999 {
-            Some(place as u64 + 1)
-        } else {
-            None
-        };
-        assert_eq!(rt; walk.get(place.saturating_add(1)).copied(), want, "{place}");
+        assert_eq!(rt; walk.get(place), plain.get(place), "{place}");
+        let next = place.saturating_add(1);
+        assert_eq!(rt; walk.get(next), plain.get(next), "{place}");
     }
     assert_eq!(rt; walk.get(usize::MAX), None);
     Ok(())

@@ -1,10 +1,15 @@
-use Rattle.std.proofs.Common.{◌-◌}
+use Rattle.std.proofs.Common.{◌≡◌, ◌+◌, ◌-◌, ◌≤◌}
 use Rattle.std.specs.Vec.{vec_len}
-use Rattle.chunk_list.specs.Edits.{IsGrown}
+use Rattle.chunk_list.specs.Chunks.{joined, AreLaidOut, CanTurn}
 use Rattle.chunk_list.proofs.chunks.grow.Given as goal
 
 abbrev pub invariant-loop-chunks : goal.invariant-loop-chunks
-invariant-loop-chunks g l = IsGrown l.fn.chunks.items l.fn.starts.items l.chunks.items l.starts.items
+invariant-loop-chunks g l = record {
+  same : joined l.chunks.items ≡ joined l.fn.chunks.items;
+  laid_out : AreLaidOut l.chunks.items l.starts.items;
+  turns : CanTurn l.chunks l.spare l.starts;
+  long : vec_len l.fn.chunks + vec_len l.fn.spare ≤ vec_len l.chunks + vec_len l.spare;
+}
 
 abbrev pub decreases-loop-chunks : goal.decreases-loop-chunks
-decreases-loop-chunks g l = l.wanted - vec_len l.chunks
+decreases-loop-chunks g l = l.wanted - (vec_len l.chunks + vec_len l.spare)

@@ -1,46 +1,44 @@
 -- The next chunk begins where this one ends.
-use Rattle.std.proofs.Common.{◌≡◌, ◌+◌, ◌<◌, ℕ, length, get_or, arith, refl, sym, subst, ◌∙◌, ap, add-one, inl, inr, get_or-set_same, get_or-set_other}
-use Rattle.std.proofs.lemmas.Bool.{cases_eq}
-use Rattle.std.proofs.lemmas.List.{length-set}
+use Rattle.std.proofs.Common.{◌≡◌, ◌<◌, ℕ, List, [], ◌∷◌, ◌++◌, length, get_or, arith, sym, ◌∙◌, ap, add-one, inl, inr}
+use Rattle.std.proofs.lemmas.Bool.{cases_lt}
+use Rattle.std.proofs.lemmas.List.{get_or_append_left}
+use Rattle.std.proofs.Math.Seq.{get_or-append_seam}
 use Rattle.std.specs.Vec.{vec_items, vec_len}
 use Rattle.chunk_list.specs.Chunks.{start_at}
 use Rattle.chunk_list.proofs.Pieces.{start_at-first, start_at-next, start_at-inside}
 use Rattle.chunk_list.proofs.starts.recount.Goals as goal
 
 pub loop-k-init : goal.loop-k-init
-loop-k-init g c = record { len = refl; first = c.requires.first; place = sym (start_at-first vec_items c.args.chunks.now.items); done = λ k lt. absurd (omega arith) }
+loop-k-init g c = record { len = c.clear.ensures.len; capacity = c.clear.ensures.capacity; place = sym (start_at-first vec_items c.args.chunks.now.items); done = λ k lt. absurd (omega arith) }
 
 pub overflow_add-place : goal.overflow_add-place
 overflow_add-place g c =
     let chunk = c.index.result.now in
+    let chunks = c.args.chunks.now in
     omega (
       arith,
       c.loop-k.invariant.place,
       ap vec_len c.index.ensures,
-      (get_or c.args.chunks.now.items c.loop-k.k chunk).ok.0,
-      start_at-inside vec_items c.args.chunks.now.items c.loop-k.k chunk (omega (arith, c.requires.used)),
+      (get_or chunks.items c.loop-k.k chunk).ok.0,
+      start_at-inside vec_items chunks.items c.loop-k.k chunk (omega (arith, chunks.ok.0)),
       c.requires.fits,
     )
 
 pub loop-k-preserved : goal.loop-k-preserved
 loop-k-preserved g c =
     let chunk = c.index.result.now in
-    let chunks = c.args.chunks.now.items in
-    let starts = c.loop-k.starts.items in
+    let chunks = c.args.chunks.now in
+    let starts = c.loop-k.starts in
     let v = c.loop-k.invariant in
+    let within : c.loop-k.k < length chunks.items = omega (arith, chunks.ok.0) in
     record {
-      len = length-set starts c.loop-k.k c.loop-k.place ∙ v.len;
-      first = elim (cases_eq 0 c.loop-k.k) [
-        | inl e ↦
-            subst (λ (m : ℕ). get_or (Rattle.std.proofs.Common.set starts c.loop-k.k c.loop-k.place) m 0 ≡ 0) (sym e)
-            (get_or-set_same starts c.loop-k.k c.loop-k.place 0 (omega (arith, v.len, c.requires.within, c.requires.used)) ∙ v.place ∙ ap (start_at vec_items chunks) (sym e) ∙ start_at-first vec_items chunks)
-        | inr ne ↦ get_or-set_other starts c.loop-k.k 0 c.loop-k.place 0 ne ∙ v.first
-      ];
-      place = rw add-one (omega (arith, v.place, ap vec_len c.index.ensures, (get_or chunks c.loop-k.k chunk).ok.0, start_at-next vec_items chunks c.loop-k.k chunk (omega (arith, c.requires.used))));
-      done = λ k lt. elim (cases_eq k c.loop-k.k) [
-        | inl e ↦
-            subst (λ (m : ℕ). get_or (Rattle.std.proofs.Common.set starts c.loop-k.k c.loop-k.place) m 0 ≡ start_at vec_items chunks m) (sym e)
-            (get_or-set_same starts c.loop-k.k c.loop-k.place 0 (omega (arith, v.len, c.requires.within, c.requires.used)) ∙ v.place)
-        | inr ne ↦ get_or-set_other starts c.loop-k.k k c.loop-k.place 0 ne ∙ v.done k (omega arith)
+      len = omega (arith, c.push_reserved.ensures.len, v.len);
+      capacity = c.push_reserved.ensures.capacity ∙ v.capacity;
+      place = rw add-one (omega (arith, v.place, ap vec_len c.index.ensures, (get_or chunks.items c.loop-k.k chunk).ok.0, start_at-next vec_items chunks.items c.loop-k.k chunk within));
+      done = λ k lt. ap (λ (l : List ℕ). get_or l k 0) c.push_reserved.ensures.items ∙ elim (cases_lt k c.loop-k.k) [
+        | inl before ↦ get_or_append_left starts.items (c.loop-k.place ∷ []) 0 k (omega (arith, v.len, starts.ok.0)) ∙ v.done k before
+        | inr at ↦
+            let e : k ≡ length starts.items = omega (arith, v.len, starts.ok.0) in
+            ap (λ (n : ℕ). get_or (starts.items ++ c.loop-k.place ∷ []) n 0) e ∙ get_or-append_seam starts.items c.loop-k.place [] 0 ∙ v.place ∙ ap (start_at vec_items chunks.items) (omega arith)
       ];
     }

@@ -1,0 +1,43 @@
+-- The chunk and the spare one hold what the chunk held.
+use Rattle.std.proofs.Common.{◌≡◌, ◌+◌, ◌++◌, [], ◌∷◌, List, get_or, set, arith, ap, sym, subst, ◌∙◌, append-nil, add-one}
+use Rattle.std.proofs.lemmas.List.{nil_from_length}
+use Rattle.std.specs.Global.{Vec}
+use Rattle.std.specs.List.{insert}
+use Rattle.std.specs.Vec.{vec_items, vec_len, vec_capacity}
+use Rattle.chunk_list.specs.Chunks.{full, joined, AreChunks, Each, IsSpare}
+use Rattle.chunk_list.proofs.Pieces.{cut-joined}
+use Rattle.chunk_list.proofs.Turned.{cut_chunks, each_last, each_rest}
+use Rattle.chunk_list.proofs.chunks.cut.Goals as goal
+
+pub returns : goal.returns
+returns g c =
+    let old = c.args.chunks.now.items in
+    let at = c.args.at in
+    let was = c.index_mut-lower.result.now in
+    let was_is : was ≡ get_or old at was = c.index_mut-lower.ensures.value in
+    let rest = c.take_last-upper.new.self.items in
+    let fresh = c.take_last-upper.result in
+    let all : Each IsSpare (rest ++ fresh ∷ []) = subst (λ (l : List (Vec g.row.T.Denot)). Each IsSpare l) c.take_last-upper.ensures.items c.requires.each in
+    let spare : IsSpare fresh = each_last IsSpare rest fresh all in
+    let none : vec_items fresh ≡ [] = nil_from_length (vec_items fresh) (omega (arith, spare.empty, fresh.ok.0)) in
+    let lower = c.level.new.lower in
+    let upper = c.level.new.upper in
+    let both : vec_items lower ++ vec_items upper ≡ vec_items (get_or old at was) =
+    c.level.ensures.items ∙ ap (λ (l : List g.row.T.Denot). vec_items was ++ l) none ∙ append-nil (vec_items was) ∙ ap vec_items was_is in
+    let over : vec_len was ≡ full + 1 = omega (arith, c.requires.over was, ap vec_len was_is) in
+    record {
+      same = ap joined c.put.ensures.items ∙ ap (λ (n : _). joined (insert (set old at lower) n upper)) (add-one at) ∙ cut-joined vec_items old at lower upper was c.requires.chunks.within both;
+      chunks = subst (λ (l : List (Vec g.row.T.Denot)). AreChunks l) (sym c.put.ensures.items)
+          (cut_chunks old at c.requires.chunks lower upper
+          (omega (arith, c.level.ensures.lower_capacity, ap vec_capacity was_is, c.requires.chunks.wide at was c.requires.chunks.within))
+          (omega (arith, c.level.ensures.upper_capacity, spare.wide))
+          (omega (arith, c.level.ensures.len), omega (arith, c.level.ensures.len))
+          (omega (arith, c.level.ensures.len, c.level.ensures.both, over, spare.empty), omega (arith, c.level.ensures.len, c.level.ensures.both, over, spare.empty)));
+      turned = record {
+        each = each_rest IsSpare rest fresh all;
+        fewer = omega (arith, c.put.ensures.len, c.take_last-upper.ensures.len);
+        chunks_capacity = c.put.ensures.capacity;
+        spare_capacity = c.take_last-upper.ensures.capacity;
+      };
+      long = omega (arith, c.put.ensures.len, c.take_last-upper.ensures.len);
+    }
