@@ -56,8 +56,9 @@ fn filtered<L: Ledger>(
     star.push(Text::copy(alloc, "*")?)?;
     let every = Pattern::read(alloc, star.as_slice(), 2).map_err(|_| Fault::Run)?;
     let mut keys = BTreeSet::new(alloc);
+    let mut walk = table.walk();
     for place in 0..table.length() {
-        if let Some((key, _)) = table.entry(place, steps)
+        if let Some((key, _)) = walk.entry(place, steps)
             && every.meets(key)
             && keys.insert(key.texts()).is_err()
         {

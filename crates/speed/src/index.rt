@@ -2,10 +2,11 @@
 ghost use Rattle.std.specs.Prelude.{◌≡◌, true, All, length};
 
 use crate::report::Fault;
+use crate::set::KeySet;
 use index_tables::IndexTable;
 use std::alloc::Global;
 use std::sync::ledger::Ledger;
-use u1_base::{DocId, IdKind, Key, Keys, Memory, Steps, Text, Texts};
+use u1_base::{DocId, IdKind, Key, Steps, Text, Texts};
 
 const NAMES: [&str; 16] = [
     "ann", "bob", "carl", "dora", "evan", "finn", "gus", "hal", "ida", "jon", "kim", "lea", "max",
@@ -19,7 +20,9 @@ pub fn table_of(alloc: Global, size: u32, numbers: u32) -> Result<IndexTable, Fa
         let id: DocId = DocId::made(alloc, 7, IdKind::Doc, u64::from(count))?;
         let name = NAMES.get((count % 16) as usize).copied().unwrap_or("");
         let number = (count / 16).checked_rem(numbers).unwrap_or(0);
-        put(alloc, &mut table, &id, key_of(alloc, name, number)?)?;
+        let mut keys = KeySet::new(alloc);
+        keys.insert(key_of(alloc, name, number)?)?;
+        keys.add_to(&mut table, &id)?;
     }
     Ok(table)
 }
@@ -30,14 +33,6 @@ fn key_of(alloc: Global, name: &str, number: u32) -> Result<Key, Fault> {
     texts.push(Text::copy(alloc, name)?)?;
     texts.push(Text::from_string(number))?;
     Ok(Key::of(texts))
-}
-
-// Puts a pair in, in the place of one that is there already.
-fn put(alloc: Global, table: &mut IndexTable, id: &DocId, key: Key) -> Result<(), Memory> {
-    let mut keys = Keys::new(alloc);
-    keys.push(key)?;
-    table.drop_pairs(id, keys.as_slice());
-    table.add(id, keys)
 }
 
 /// Whether each key has so many texts.

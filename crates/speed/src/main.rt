@@ -12,9 +12,12 @@ mod image;
 mod index;
 mod keys;
 mod lanes;
+mod large;
 mod pairs;
 mod prefix;
+mod receipts;
 mod report;
+mod set;
 mod table;
 
 use crate::report::{Fault, Report};
@@ -22,8 +25,8 @@ use std::env;
 use std::process::ExitCode;
 
 /// What is said where the words name no workload.
-const USAGE: &str =
-    "usage: speed changes|contents|distinct|few|image|keys|lanes|pairs|prefix|table SIZE";
+const USAGE: &str = "usage: speed alone|changes|contents|distinct|few|image|keys|lanes|large|pairs|\
+    prefix|receipts|table SIZE";
 
 fn main(rt: HostRuntime) -> ExitCode {
     match measured(&rt) {
@@ -49,6 +52,7 @@ fn measured(rt: &HostRuntime) -> Result<Report, Fault> {
         return Err(Fault::Words);
     };
     match name.as_str() {
+        "alone" => receipts::measure_alone(rt, size),
         "changes" => changes::measure(rt, size),
         "contents" => contents::measure(rt, size),
         "distinct" => distinct::measure(rt, size),
@@ -56,8 +60,10 @@ fn measured(rt: &HostRuntime) -> Result<Report, Fault> {
         "image" => image::measure(rt, size),
         "keys" => keys::measure(rt, size),
         "lanes" => lanes::measure(rt, size),
+        "large" => large::measure(rt, size),
         "pairs" => pairs::measure(rt, size),
         "prefix" => prefix::measure(rt, size),
+        "receipts" => receipts::measure(rt, size),
         "table" => table::measure(rt, size),
         _ => Err(Fault::Words),
     }

@@ -1,39 +1,57 @@
-//! Pairs put one by one into the table of an index and dropped again document by document, beside std's `BTreeMap` of
-//! the same pairs.
-ghost use Rattle.std.specs.Prelude.{◌≡◌, IfOk, length};
-
+//! Documents put whole into the table of an index, and each then replaced, beside std's `BTreeMap` of the same pairs.
 use crate::report::{Fault, Report, elapsed, started};
+use crate::set::KeySet;
 use index_tables::IndexTable;
 use std::alloc::{AllocError, Global};
 use std::collections::BTreeMap;
 use u1_base::{DocId, IdKind, Key, Keys, Memory, Text, Texts};
 
-// How many keys a document has.
-const KEYS: u32 = 4;
+// How many keys the documents have, in turn.
+const COUNTS: [u32; 3] = [1, 4, 24];
 
-// A document, and the one text of each of its keys.
-#[derive(Drop)]
-struct Document {
-    id: DocId,
-    keys: Vec<String>,
+// The greatest of them.
+const MOST: u32 = 24;
+
+/// The texts of a document's keys, one each, as they are at first or after the document was replaced.
+#[derive(Clone, Copy)]
+pub struct Round {
+    number: u32,
+    count: u32,
+    replaced: bool,
 }
 
-// A pair as a user of std's map would keep it.
+/// The keys that a document gets, and those that it had.
+#[derive(Drop)]
+pub struct Change {
+    id: DocId,
+    old: Keys,
+    new: KeySet,
+}
+
+/// A pair as a user of std's map would keep it.
 #[derive(PartialEq, Eq, PartialOrd, Ord, Drop)]
-struct PlainPair {
+pub struct PlainPair {
     key: Vec<String>,
     id: String,
 }
 
-/// Times the table of this many pairs. The result is the number of pairs that stood in it.
+// The same with those pairs.
+#[derive(Drop)]
+struct PlainChange {
+    old: Vec<PlainPair>,
+    new: Vec<PlainPair>,
+}
+
+/// Times the table of about this many pairs. The result is the number of pairs that stand in it at the end.
 pub fn measure(rt: &HostRuntime, size: u32) -> Result<Report, Fault> {
     let alloc = rt.alloc();
-    let documents = made(alloc, size)?;
+    let changes = changes(alloc, size)?;
     let before = started(rt)?;
-    let stood = in_table(alloc, &documents)?;
+    let stood = in_table(alloc, changes)?;
     let ours = elapsed(rt, before)?;
+    let changes = plain_changes(alloc, size)?;
     let before = started(rt)?;
-    let other = in_map(alloc, &documents)?;
+    let other = in_map(alloc, changes)?;
     let peer = elapsed(rt, before)?;
     if stood != other {
         return Err(Fault::Run);
@@ -47,107 +65,172 @@ pub fn measure(rt: &HostRuntime, size: u32) -> Result<Report, Fault> {
     })
 }
 
-// Documents with so many keys in all. The keys come in no order, and some documents share one.
-fn made(alloc: Global, size: u32) -> Result<Vec<Document>, Fault> {
-    let mut documents = Vec::new(alloc);
-    for number in 0..size.div_ceil(KEYS) {
-        let id: DocId = DocId::made(alloc, 7, IdKind::Doc, u64::from(number))?;
-        let Ok(keys) = keys_of(alloc, number, size) else {
+/// How many documents have so many keys in all, or a few more.
+pub fn documents(size: u32) -> u32 {
+    (size / 29).saturating_add(1).saturating_mul(3)
+}
+
+fn count_of(number: u32) -> u32 {
+    COUNTS.get((number % 3) as usize).copied().unwrap_or(1)
+}
+
+impl Round {
+    pub fn first(number: u32) -> Round {
+        Round {
+            number,
+            count: count_of(number),
+            replaced: false,
+        }
+    }
+
+    /// A document of as many keys as one may have.
+    pub fn large() -> Round {
+        Round {
+            count: 4096,
+            ..Round::first(u32::MAX)
+        }
+    }
+
+    fn second(number: u32) -> Round {
+        Round {
+            replaced: true,
+            ..Round::first(number)
+        }
+    }
+
+    // The text at a place: it is drawn by the multiplication of Fibonacci hashing (Knuth). Where a document is
+    // replaced, every second key is another one.
+    fn text(self, alloc: Global, place: u32) -> Result<String, AllocError> {
+        let pair = self.number.wrapping_mul(MOST).wrapping_add(place);
+        let other = if self.replaced && place % 2 == 0 {
+            pair.wrapping_add(1 << 31)
+        } else {
+            pair
+        };
+        let drawn = other.wrapping_mul(2_654_435_769) >> 6;
+        format!(in alloc; "word{drawn:08}")
+    }
+}
+
+/// A document that is put for the first time.
+pub fn changed(alloc: Global, round: Round) -> Result<Change, Fault> {
+    Ok(Change {
+        id: id_of(alloc, round.number)?,
+        old: Keys::new(alloc),
+        new: key_set(alloc, round)?,
+    })
+}
+
+// Each document is put, and then each is replaced.
+fn changes(alloc: Global, size: u32) -> Result<Vec<Change>, Fault> {
+    let mut changes = Vec::new(alloc);
+    for number in 0..documents(size) {
+        push(&mut changes, changed(alloc, Round::first(number))?)?;
+    }
+    for number in 0..documents(size) {
+        let change = changed(alloc, Round::second(number))?;
+        let old = key_set(alloc, Round::first(number))?.into_keys();
+        push(&mut changes, Change { old, ..change })?;
+    }
+    Ok(changes)
+}
+
+fn push<T: Drop>(items: &mut Vec<T>, item: T) -> Result<(), Fault> {
+    items.push(item).map_err(|_| Fault::Run)
+}
+
+fn id_of(alloc: Global, number: u32) -> Result<DocId, Fault> {
+    let id: DocId = DocId::made(alloc, 7, IdKind::Doc, u64::from(number))?;
+    Ok(id)
+}
+
+fn key_set(alloc: Global, round: Round) -> Result<KeySet, Fault> {
+    let mut set = KeySet::new(alloc);
+    for place in 0..round.count {
+        let Ok(text) = round.text(alloc, place) else {
             return Err(Fault::Run);
         };
-        if documents.push(Document { id, keys }).is_err() {
-            return Err(Fault::Run);
-        }
+        set.insert(key_of(alloc, text)?)?;
     }
-    Ok(documents)
+    Ok(set)
 }
 
-// The texts of a document's keys: each is drawn by the multiplication of Fibonacci hashing (Knuth).
-fn keys_of(alloc: Global, number: u32, size: u32) -> Result<Vec<String>, AllocError> {
-    let mut keys = Vec::with_capacity(alloc, KEYS as usize)?;
-    for place in 0..KEYS {
-        let pair = number.wrapping_mul(KEYS).wrapping_add(place);
-        if pair < size {
-            let drawn = pair.wrapping_mul(2_654_435_769) >> 8;
-            keys.push(format!(in alloc; "word{drawn:08}")?)?;
-        }
-    }
-    Ok(keys)
-}
-
-fn in_table(alloc: Global, documents: &Vec<Document>) -> Result<u64, Fault> {
-    let mut table = IndexTable::new(alloc);
-    for document in documents {
-        for key in &document.keys {
-            put(&mut table, &document.id, keys_from(alloc, key.as_str())?)?;
-        }
-    }
-    let stood = table.length();
-    for document in documents {
-        let mut keys = Keys::new(alloc);
-        for key in &document.keys {
-            keys.push(key_from(alloc, key.as_str())?)?;
-        }
-        table.drop_pairs(&document.id, keys.as_slice());
-    }
-    if table.length() > 0 {
-        return Err(Fault::Run);
-    }
-    Ok(stood)
-}
-
-// Puts the pair of a document and its key in. The pair is dropped first, so that it is a new one.
-fn put(table: &mut IndexTable, id: &DocId, keys: Keys) -> Result<(), Memory>
-    requires { length keys ≡ 1 }
-{
-    table.drop_pairs(id, keys.as_slice());
-    table.add(id, keys)
-}
-
-fn keys_from(alloc: Global, text: &str) -> Result<Keys, Memory>
-    ensures { IfOk result (λ keys. length keys ≡ 1) }
-{
-    let mut keys = Keys::new(alloc);
-    keys.push(key_from(alloc, text)?)?;
-    Ok(keys)
-}
-
-fn key_from(alloc: Global, text: &str) -> Result<Key, Memory> {
+fn key_of(alloc: Global, text: String) -> Result<Key, Memory> {
     let mut texts = Texts::new(alloc);
-    texts.push(Text::copy(alloc, text)?)?;
+    texts.push(Text::from_string(text))?;
     Ok(Key::of(texts))
 }
 
-fn in_map(alloc: Global, documents: &Vec<Document>) -> Result<u64, Fault> {
+fn in_table(alloc: Global, changes: Vec<Change>) -> Result<u64, Fault> {
+    let mut table = IndexTable::new(alloc);
+    for change in changes {
+        put(&mut table, change)?;
+    }
+    Ok(table.length())
+}
+
+/// Puts the pairs of a document in the place of those that it had. Those that it gets are dropped first too, so that they
+/// are new ones.
+pub fn put(table: &mut IndexTable, change: Change) -> Result<(), Memory> {
+    let Change { id, old, new } = change;
+    table.drop_pairs(&id, old.as_slice());
+    new.add_to(table, &id)
+}
+
+fn plain_changes(alloc: Global, size: u32) -> Result<Vec<PlainChange>, Fault> {
+    let mut changes = Vec::new(alloc);
+    for number in 0..documents(size) {
+        push(
+            &mut changes,
+            PlainChange {
+                old: Vec::new(alloc),
+                new: plain_pairs(alloc, Round::first(number))?,
+            },
+        )?;
+    }
+    for number in 0..documents(size) {
+        push(
+            &mut changes,
+            PlainChange {
+                old: plain_pairs(alloc, Round::first(number))?,
+                new: plain_pairs(alloc, Round::second(number))?,
+            },
+        )?;
+    }
+    Ok(changes)
+}
+
+/// The pairs of a document.
+pub fn plain_pairs(alloc: Global, round: Round) -> Result<Vec<PlainPair>, Fault> {
+    let id = id_of(alloc, round.number)?;
+    let mut pairs = Vec::new(alloc);
+    for place in 0..round.count {
+        let Ok(pair) = plain(alloc, &id, round, place) else {
+            return Err(Fault::Run);
+        };
+        push(&mut pairs, pair)?;
+    }
+    Ok(pairs)
+}
+
+fn plain(alloc: Global, id: &DocId, round: Round, place: u32) -> Result<PlainPair, AllocError> {
+    let mut key = Vec::new(alloc);
+    key.push(round.text(alloc, place)?)?;
+    let id = String::from_str(alloc, id.as_str())?;
+    Ok(PlainPair { key, id })
+}
+
+fn in_map(alloc: Global, changes: Vec<PlainChange>) -> Result<u64, Fault> {
     let mut map = BTreeMap::new(alloc);
-    for document in documents {
-        for key in &document.keys {
-            let Ok(pair) = plain(alloc, document, key.as_str()) else {
-                return Err(Fault::Run);
-            };
+    for change in changes {
+        for pair in &change.old {
+            let _ = map.remove(pair);
+        }
+        for pair in change.new {
             if map.insert(pair, ()).is_err() {
                 return Err(Fault::Run);
             }
         }
     }
-    let stood = map.len() as u64;
-    for document in documents {
-        for key in &document.keys {
-            let Ok(pair) = plain(alloc, document, key.as_str()) else {
-                return Err(Fault::Run);
-            };
-            let _ = map.remove(&pair);
-        }
-    }
-    if map.len() > 0 {
-        return Err(Fault::Run);
-    }
-    Ok(stood)
-}
-
-fn plain(alloc: Global, document: &Document, text: &str) -> Result<PlainPair, AllocError> {
-    let mut key = Vec::new(alloc);
-    key.push(String::from_str(alloc, text)?)?;
-    let id = String::from_str(alloc, document.id.as_str())?;
-    Ok(PlainPair { key, id })
+    Ok(map.len() as u64)
 }

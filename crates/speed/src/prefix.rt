@@ -97,8 +97,9 @@ fn filtered<L: Ledger>(
 ) -> Result<Ids, Memory> {
     let mut ids = Ids::new(alloc);
     let mut found = BTreeSet::new(alloc);
+    let mut walk = table.walk();
     for place in 0..table.length() {
-        if let Some((key, id)) = table.entry(place, steps)
+        if let Some((key, id)) = walk.entry(place, steps)
             && pattern.meets(key)
             && found.insert(id.as_str())?
         {
