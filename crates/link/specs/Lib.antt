@@ -2,4 +2,4 @@ pub mod Streams
 pub mod Memory
 pub mod Pieces
 pub mod Faults
-pub mod StdIo
+pub mod Adapters

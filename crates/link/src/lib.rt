@@ -4,6 +4,7 @@
 //! counts its faults, and a call fails only where the count of its object rose.
 #![tactic(auto)]
 
+mod adapters;
 mod calls;
 mod conn;
 mod input;
@@ -11,13 +12,12 @@ mod memory;
 mod retried;
 mod sink;
 mod source;
-mod std_io;
 #[cfg(test)]
 mod tests;
 
+pub use adapters::{StdSink, StdSource};
 pub use conn::Conn;
 pub use input::{InputFault, read_at_most};
 pub use memory::{MemConn, MemSink, MemSource};
 pub use sink::{Sink, WriteFailed};
 pub use source::{ReadFailed, Source};
-pub use std_io::{StdSink, StdSource};

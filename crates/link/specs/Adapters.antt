@@ -2,8 +2,8 @@
 use Rattle.std.specs.Prelude.{ℕ, List, Option}
 use Rattle.link.specs.Streams.{Input, Output}
 use Rattle.std_io.specs.declared.io.error.Error.{Error}
-use Rattle.link.specs.declared.std_io.StdSource.{StdSource}
-use Rattle.link.specs.declared.std_io.StdSink.{StdSink}
+use Rattle.link.specs.declared.adapters.StdSource.{StdSource}
+use Rattle.link.specs.declared.adapters.StdSink.{StdSink}
 
 -- a source knows of its input what its reader tells
 abbrev pub source_known : {R : Type 0} → (R → Option (List ℕ)) → StdSource R → Input

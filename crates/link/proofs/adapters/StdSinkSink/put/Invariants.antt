@@ -1,6 +1,6 @@
 use Rattle.std.proofs.Common.{◌≡◌, ◌≤◌, ◌-◌, true, length, take}
 use Rattle.std.specs.Io.KnownBytes.{Appends}
-use Rattle.link.proofs.std_io.StdSinkSink.put.Given as goal
+use Rattle.link.proofs.adapters.StdSinkSink.put.Given as goal
 
 -- the writer has the first bytes of the piece, and may hold them back
 abbrev pub invariant-loop-done : goal.invariant-loop-done

@@ -3,7 +3,7 @@ ghost use Rattle.std.specs.Prelude.{◌≡◌, ◌≤◌, ◌+◌, ◌-◌, ◌^
 ghost use Rattle.std.specs.Prelude.{List, ℕ, IfOk, OnOk, OnErr, length, min, take, ⊤};
 ghost use Rattle.std.specs.Io.KnownBytes.{Appends, Keeps, ReadConsumes};
 ghost use Rattle.u1_base.specs.Causes.{HasCause};
-ghost use Rattle.link.specs.StdIo.{sink_fault, sink_known, source_fault, source_known};
+ghost use Rattle.link.specs.Adapters.{sink_fault, sink_known, source_fault, source_known};
 
 use crate::retried::{read_on, write_on};
 use crate::{ReadFailed, Sink, Source, WriteFailed};
@@ -42,7 +42,7 @@ impl<R: Read + Drop> StdSource<R> {
 
 impl<R: Read + Drop> Source for StdSource<R> {
     ghost use Rattle.std.specs.Prelude.{⊤};
-    ghost use Rattle.link.specs.StdIo.{source_known};
+    ghost use Rattle.link.specs.Adapters.{source_known};
 
     ghost known = { source_known R.remaining };
 
@@ -106,7 +106,7 @@ impl<W: Write + Drop> StdSink<W> {
 
 impl<W: Write + Drop> Sink for StdSink<W> {
     ghost use Rattle.std.specs.Prelude.{⊤};
-    ghost use Rattle.link.specs.StdIo.{sink_known};
+    ghost use Rattle.link.specs.Adapters.{sink_known};
 
     ghost known = { sink_known W.contents };
 

@@ -1,7 +1,7 @@
 -- One more write: the writer has the next bytes of the piece too.
 use Rattle.std.proofs.Common.{arith}
 use Rattle.link.proofs.Puts.{appends-next}
-use Rattle.link.proofs.std_io.StdSinkSink.put.Goals as goal
+use Rattle.link.proofs.adapters.StdSinkSink.put.Goals as goal
 
 pub loop-done-preserved : goal.loop-done-preserved
 loop-done-preserved g c = record {
