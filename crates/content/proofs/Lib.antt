@@ -2,7 +2,7 @@ mod Converted
 mod Refused
 pub mod SameTrees
 mod Ordered
-mod ReadBack
+pub mod ReadBack
 mod NumberLength
 mod Sizes
 mod Placed

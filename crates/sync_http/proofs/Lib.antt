@@ -3,7 +3,6 @@ pub mod Naming
 pub mod Hears
 pub mod Joining
 pub mod Objects
-pub mod TreesBack
 pub mod PositionsBack
 pub mod BodiesBack
 pub mod Phrases

@@ -19,7 +19,7 @@ use Rattle.u1_base.specs.Places.{Place}
 use Rattle.u1_base.specs.declared.ids.Form.{Form}
 use Rattle.u1_base.specs.declared.ids.Form.TheVariants.{Document, Replica, Transaction, Name}
 use Rattle.u1_base.proofs.IdFacts.{id_facts, in_id}
-use Rattle.sync_http.proofs.TreesBack.{read-canonical}
+use Rattle.content.proofs.ReadBack.{read-canonical}
 use Rattle.sync_http.specs.Positions.{IsPosition, place_at, position_in, trans_text}
 
 -- ---- ids are text
