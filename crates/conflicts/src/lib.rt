@@ -16,6 +16,8 @@ mod merges;
 mod moves;
 mod names;
 mod receipts;
+#[cfg(test)]
+mod refusal_tests;
 mod resolutions;
 mod set;
 #[cfg(test)]

@@ -236,7 +236,7 @@ fn after_line(
     Ok(set)
 }
 
-fn after(
+pub(crate) fn after(
     rt: &impl Abort,
     alloc: Global,
     set: Option<DocSet>,
@@ -257,7 +257,7 @@ fn after(
 
 // ---- values of words
 
-fn clock(alloc: Global, text: &str) -> Result<Clock, Fail> {
+pub(crate) fn clock(alloc: Global, text: &str) -> Result<Clock, Fail> {
     Ok(Clock::read(alloc, text)?)
 }
 
@@ -315,8 +315,8 @@ fn handed_over(alloc: Global, words: &str, current: bool) -> Result<Accept, Fail
 
 // What a call answers, and what it accepts.
 #[derive(Drop)]
-struct Answered {
-    told: String,
+pub(crate) struct Answered {
+    pub(crate) told: String,
     accepted: Option<Accept>,
 }
 
@@ -369,7 +369,10 @@ fn resolve_answered(
     resolve_told(alloc, resolve(alloc, set, &named, content.as_ref(), own))
 }
 
-fn resolve_told(alloc: Global, made: Result<Accept, ResolveFault>) -> Result<Answered, Fail> {
+pub(crate) fn resolve_told(
+    alloc: Global,
+    made: Result<Accept, ResolveFault>,
+) -> Result<Answered, Fail> {
     match made {
         Ok(accept) => accept_answered(alloc, accept),
         Err(ResolveFault::Unnamed(rev)) => refused(alloc, "Unnamed", &rev),
@@ -466,7 +469,7 @@ fn accept_told(alloc: Global, accept: &Accept) -> Result<String, Fail> {
     Ok(told)
 }
 
-fn push_clocks(into: &mut String, clocks: &[Clock]) -> Result<(), Fail> {
+pub(crate) fn push_clocks(into: &mut String, clocks: &[Clock]) -> Result<(), Fail> {
     for clock in clocks {
         into.push(' ')?;
         into.push_str(clock.text()?.as_str())?;
@@ -735,119 +738,5 @@ fn copies_members(rt: HostRuntime) -> Result<(), Fail> {
     let mut told = String::new(alloc);
     push_member(&mut told, &copy)?;
     assert_eq!(rt; told.as_str(), "a:1|b:2 {\"v\":1};");
-    Ok(())
-}
-
-// ---- refusals
-
-#[test]
-fn refusals_say_why(rt: HostRuntime) -> Result<(), Fail> {
-    let alloc = rt.alloc();
-    let rev = "a:2";
-    for (fault, want) in [
-        (EditFault::NoDocument, "there is no such document"),
-        (EditFault::Conflicted, "the document is in conflict"),
-        (
-            EditFault::RevisionConflict(clock(alloc, rev)?),
-            "another revision is the current one",
-        ),
-        (EditFault::AlreadyDeleted, "the document is deleted already"),
-        (EditFault::ClockFull, "the clock is full"),
-        (EditFault::Memory, "out of memory"),
-    ] {
-        assert_eq!(rt; format!(in alloc; "{fault}")?.as_str(), want);
-    }
-    for (fault, want) in [
-        (ResolveFault::NoDocument, "there is no such document"),
-        (
-            ResolveFault::NotConflicted,
-            "the document is not in conflict",
-        ),
-        (
-            ResolveFault::NothingNamed,
-            "no named revision is in the conflict",
-        ),
-        (
-            ResolveFault::Unnamed(clock(alloc, rev)?),
-            "a revision with the greatest own counter has to be named",
-        ),
-        (ResolveFault::ClockFull, "the clock is full"),
-        (ResolveFault::Memory, "out of memory"),
-    ] {
-        assert_eq!(rt; format!(in alloc; "{fault}")?.as_str(), want);
-    }
-    Ok(())
-}
-
-// ---- many names
-
-// The clock `uNN:NN` of a number.
-fn numbered(alloc: Global, number: u64) -> Result<Clock, Fail> {
-    clock(
-        alloc,
-        format!(in alloc; "u{number:02}:{}", number.saturating_add(1))?.as_str(),
-    )
-}
-
-// The set of so many members, the last one the current one.
-fn set_of_many(rt: &impl Abort, alloc: Global, count: u64) -> Result<Option<DocSet>, Fail> {
-    let mut set = None;
-    for number in 0..count {
-        let accept = Accept {
-            rev: numbered(alloc, number)?,
-            content: None,
-            making: Making::Received,
-            parents: Clocks::new(alloc),
-            current: true,
-        };
-        set = after(rt, alloc, set, &Some(accept))?;
-    }
-    Ok(set)
-}
-
-// Names of every third number below 60, each twice, from the last one on: of 40 members 14 are named.
-#[test]
-fn resolves_by_many_names(rt: HostRuntime) -> Result<(), Fail> {
-    let alloc = rt.alloc();
-    let set = set_of_many(&rt, alloc, 40)?;
-    let mut names = Clocks::new(alloc);
-    for turn in 0..40u64 {
-        names.push(numbered(alloc, (57 + 60 - 3 * turn) % 60)?)?;
-    }
-    let own = ReplicaUid::read(alloc, "z")?;
-    let made = resolve(alloc, set.as_ref(), &names, None, &own);
-    let Ok(accept) = made else {
-        return Err(Fail::new("refused"));
-    };
-    // the current member is number 39, and stands first
-    let mut want = String::new(alloc);
-    push_clocks(&mut want, &[numbered(alloc, 39)?])?;
-    for number in 0..13 {
-        push_clocks(&mut want, &[numbered(alloc, 3 * number)?])?;
-    }
-    let mut parents = String::new(alloc);
-    push_clocks(&mut parents, accept.parents.as_slice())?;
-    assert_eq!(rt; parents.as_str(), want.as_str());
-    assert!(rt; accept.current);
-    Ok(())
-}
-
-// Where none of many names is a member, and where the one with the greatest counter is not named.
-#[test]
-fn refuses_many_names(rt: HostRuntime) -> Result<(), Fail> {
-    let alloc = rt.alloc();
-    let set = set_of_many(&rt, alloc, 20)?;
-    let own = ReplicaUid::read(alloc, "u19")?;
-    let mut names = Clocks::new(alloc);
-    for number in 40..60 {
-        names.push(numbered(alloc, number)?)?;
-    }
-    let answered = resolve_told(alloc, resolve(alloc, set.as_ref(), &names, None, &own))?;
-    assert_eq!(rt; answered.told.as_str(), "refused NothingNamed");
-    for number in 0..19 {
-        names.push(numbered(alloc, number)?)?;
-    }
-    let answered = resolve_told(alloc, resolve(alloc, set.as_ref(), &names, None, &own))?;
-    assert_eq!(rt; answered.told.as_str(), "refused Unnamed u19:20");
     Ok(())
 }
