@@ -30,6 +30,10 @@ pub record IsEdit {T : Type 0} (chunks : List (Vec T)) (starts : List ℕ) (p i 
   pub old_is : old ≡ get_or chunks i old
   pub capacity : vec_capacity new ≡ vec_capacity old
 
+pub edit : {T : Type 0} {chunks : List (Vec T)} {starts : List ℕ} {p i inside : ℕ} {old : Vec T} (new : Vec T) → AreLaidOut chunks starts → IsAt chunks p i inside
+    → old ≡ get_or chunks i old → vec_capacity new ≡ vec_capacity old → IsEdit chunks starts p i inside old new
+edit new laid_out is_at old_is capacity = record { laid_out = laid_out; is_at = is_at; old_is = old_is; capacity = capacity }
+
 module _ {T : Type 0} {chunks : List (Vec T)} {starts : List ℕ} {p i inside : ℕ} {old new : Vec T} (e : IsEdit chunks starts p i inside old new) where
   l : AreLaidOut chunks starts
   l = e.laid_out

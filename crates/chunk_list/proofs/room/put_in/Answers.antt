@@ -1,7 +1,7 @@
 -- The chunk that the place falls into has the item.
 use Rattle.std.proofs.Common.{arith, refl, ap}
 use Rattle.std.specs.Vec.{vec_items, vec_len}
-use Rattle.chunk_list.proofs.Edits.{IsEdit, edited, new_at, put_joined, same_len, starts_with}
+use Rattle.chunk_list.proofs.Edits.{edit, edited, new_at, put_joined, same_len, starts_with}
 use Rattle.chunk_list.proofs.Pieces.{start_at-most}
 use Rattle.chunk_list.proofs.room.put_in.Goals as goal
 
@@ -20,12 +20,7 @@ pub returns : goal.returns
 returns g c =
     let l = c.requires.laid_out in
     let old = c.index_mut-chunk.result.now in
-    let e : IsEdit c.args.chunks.now.items c.args.starts.now.items c.args.place c.locate-at.result.0 c.locate-at.result.1 old c.put.new.items = record {
-      laid_out = l;
-      is_at = c.locate-at.ensures;
-      old_is = c.index_mut-chunk.ensures.value;
-      capacity = c.put.ensures.capacity;
-    } in
+    let e = edit c.put.new.items l c.locate-at.ensures c.index_mut-chunk.ensures.value c.put.ensures.capacity in
     let short = l.chunks_are.short c.locate-at.result.0 old c.locate-at.ensures.within in
     record {
       items = put_joined e c.args.item c.put.ensures.items;

@@ -1,7 +1,7 @@
 -- The chunk that the place falls into has given the item.
 use Rattle.std.proofs.Common.{get_or, arith, refl, ap}
 use Rattle.std.specs.Vec.{vec_items, vec_len}
-use Rattle.chunk_list.proofs.Edits.{IsEdit, edited, new_at, same_len, starts_with, take_joined, value_here}
+use Rattle.chunk_list.proofs.Edits.{edit, edited, new_at, same_len, starts_with, take_joined, value_here}
 use Rattle.chunk_list.proofs.Pieces.{start_at-later}
 use Rattle.chunk_list.proofs.Places.{some_chunk}
 use Rattle.chunk_list.proofs.room.take_out.Goals as goal
@@ -26,12 +26,7 @@ pub returns : goal.returns
 returns g c =
     let l = c.requires.laid_out in
     let old = c.index_mut-chunk.result.now in
-    let e : IsEdit c.args.chunks.now.items c.args.starts.now.items c.args.place c.locate-at.result.0 c.locate-at.result.1 old c.remove-item.new.self = record {
-      laid_out = l;
-      is_at = c.locate-at.ensures;
-      old_is = c.index_mut-chunk.ensures.value;
-      capacity = c.remove-item.ensures.capacity;
-    } in
+    let e = edit c.remove-item.new.self l c.locate-at.ensures c.index_mut-chunk.ensures.value c.remove-item.ensures.capacity in
     let short = l.chunks_are.short c.locate-at.result.0 old c.locate-at.ensures.within in
     record {
       value = value_here e c.requires.place c.remove-item.result c.remove-item.ensures.value;

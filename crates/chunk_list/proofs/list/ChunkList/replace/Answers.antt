@@ -3,7 +3,7 @@ use Rattle.std.proofs.Common.{◌∙◌, length, get_or, set, arith, refl, ap, s
 use Rattle.std.proofs.lemmas.List.{length-set}
 use Rattle.std.specs.Vec.{vec_len, with_item}
 use Rattle.chunk_list.specs.Chunks.{joined}
-use Rattle.chunk_list.proofs.Edits.{IsEdit, edited, exchange_joined, new_at, same_len, settled, starts_with, value_here}
+use Rattle.chunk_list.proofs.Edits.{edit, edited, exchange_joined, new_at, same_len, settled, starts_with, value_here}
 use Rattle.chunk_list.proofs.list.ChunkList.replace.Goals as goal
 
 pub invariant_of-self : goal.invariant_of-self
@@ -14,12 +14,7 @@ invariant_of-self g c =
     let old = c.index_mut-chunk.result.now in
     let inside = c.locate-at.result.1 in
     let place = rw (← c.self.view_is) at c.requires in
-    let e : IsEdit c.self.inside.chunks.items c.self.inside.starts.items c.args.place c.locate-at.result.0 inside old (with_item old inside c.replace.new.dest) = record {
-      laid_out = c.self.invariant.laid_out;
-      is_at = c.locate-at.ensures;
-      old_is = c.index_mut-chunk.ensures.value;
-      capacity = refl;
-    } in
+    let e = edit (with_item old inside c.replace.new.dest) c.self.invariant.laid_out c.locate-at.ensures c.index_mut-chunk.ensures.value refl in
     let short = v.laid_out.chunks_are.short at old there in
     let same = exchange_joined e place c.args.item (ap (set old.items inside) c.replace.ensures.after) in
     record {
@@ -45,12 +40,7 @@ returns-clause-value g c =
     let old = c.index_mut-chunk.result.now in
     let inside = c.locate-at.result.1 in
     let place = rw (← c.self.view_is) at c.requires in
-    let e : IsEdit c.self.inside.chunks.items c.self.inside.starts.items c.args.place c.locate-at.result.0 inside old (with_item old inside c.replace.new.dest) = record {
-      laid_out = c.self.invariant.laid_out;
-      is_at = c.locate-at.ensures;
-      old_is = c.index_mut-chunk.ensures.value;
-      capacity = refl;
-    } in
+    let e = edit (with_item old inside c.replace.new.dest) c.self.invariant.laid_out c.locate-at.ensures c.index_mut-chunk.ensures.value refl in
     rw (← c.self.view_is)
     (value_here e place c.replace.result (c.replace.ensures.value ∙ c.index_mut.ensures.value ∙ ap (get_or old.items inside) (sym c.replace.ensures.value)))
 
@@ -59,10 +49,5 @@ returns-clause-items g c =
     let old = c.index_mut-chunk.result.now in
     let inside = c.locate-at.result.1 in
     let place = rw (← c.self.view_is) at c.requires in
-    let e : IsEdit c.self.inside.chunks.items c.self.inside.starts.items c.args.place c.locate-at.result.0 inside old (with_item old inside c.replace.new.dest) = record {
-      laid_out = c.self.invariant.laid_out;
-      is_at = c.locate-at.ensures;
-      old_is = c.index_mut-chunk.ensures.value;
-      capacity = refl;
-    } in
+    let e = edit (with_item old inside c.replace.new.dest) c.self.invariant.laid_out c.locate-at.ensures c.index_mut-chunk.ensures.value refl in
     rw (← c.self.view_is) (exchange_joined e place c.args.item (ap (set old.items inside) c.replace.ensures.after))
