@@ -1,13 +1,13 @@
 -- One chunk changed among those that were laid out.
-use Rattle.std.proofs.Common.{◌≡◌, ℕ, ◌+◌, ◌-◌, ◌<◌, ◌≤◌, List, length, get_or, set, sym, subst, ◌∙◌, ap, arith, inl, inr, get_or-set_same, get_or-set_other}
+use Rattle.std.proofs.Common.{◌≡◌, ℕ, ◌+◌, ◌<◌, ◌≤◌, List, ◌++◌, length, get_or, set, refl, sym, subst, ◌∙◌, ap, arith, inl, inr, get_or-set_same, get_or-set_other}
 use Rattle.std.proofs.lemmas.Bool.{cases_lt, cases_eq}
-use Rattle.std.proofs.lemmas.List.{get_or_read, length-set}
+use Rattle.std.proofs.lemmas.List.{get_or_read, length-set, set-append_left, set-append_right}
+use Rattle.std.proofs.lemmas.List.Edits.{insert-append_left, insert-append_right, remove-append_left, remove-append_right}
 use Rattle.std.specs.Global.{Vec}
 use Rattle.std.specs.Vec.{vec_items, vec_len, vec_capacity}
 use Rattle.std.specs.List.{insert, remove}
-use Rattle.chunk_list.specs.Chunks.{start_at, joined, full, AreChunks, AreChunksBut, AreLaidOut, AreStarts, FallsInto, IsWide}
-use Rattle.chunk_list.proofs.Pieces.{start_at-set_low, start_at-set_high, insert-joined, remove-joined, set-joined, get_or-joined}
-use Rattle.chunk_list.proofs.Places.{is_chunk, inside, here, up_to}
+use Rattle.chunk_list.specs.Chunks.{joined, full, AreChunks, AreChunksBut, AreLaidOut, AreStarts, IsAt, IsWide}
+use Rattle.chunk_list.proofs.Pieces.{start_at-set_low, start_at-set_high, edit-joined, get_or-joined}
 
 -- the chunk that was left out is like the others
 pub settled : {T : Type 0} (chunks : List (Vec T)) (at : ℕ) → AreChunksBut chunks at → ((d : Vec T) → vec_len (get_or chunks at d) ≤ full) → (0 < at → (d : Vec T) → 0 < vec_len (get_or chunks at d)) → AreChunks chunks
@@ -23,23 +23,23 @@ settled chunks at b short some = record {
   ];
 }
 
--- a place falls into the chunk at i, whose content becomes another one in the same memory
-pub record IsEdit {T : Type 0} (chunks : List (Vec T)) (starts : List ℕ) (i p start : ℕ) (old new : Vec T) : Type 0 where
+-- the content of the chunk that a place falls into becomes another one in the same memory
+pub record IsEdit {T : Type 0} (chunks : List (Vec T)) (starts : List ℕ) (p i inside : ℕ) (old new : Vec T) : Type 0 where
   pub laid_out : AreLaidOut chunks starts
-  pub falls : FallsInto starts p i
-  pub start_is : start ≡ get_or starts i start
+  pub is_at : IsAt chunks p i inside
   pub old_is : old ≡ get_or chunks i old
   pub capacity : vec_capacity new ≡ vec_capacity old
 
-module _ {T : Type 0} {chunks : List (Vec T)} {starts : List ℕ} {i p start : ℕ} {old new : Vec T} (e : IsEdit chunks starts i p start old new) where
+pub edit : {T : Type 0} {chunks : List (Vec T)} {starts : List ℕ} {p i inside : ℕ} {old : Vec T} (new : Vec T) → AreLaidOut chunks starts → IsAt chunks p i inside
+    → old ≡ get_or chunks i old → vec_capacity new ≡ vec_capacity old → IsEdit chunks starts p i inside old new
+edit new laid_out is_at old_is capacity = record { laid_out = laid_out; is_at = is_at; old_is = old_is; capacity = capacity }
+
+module _ {T : Type 0} {chunks : List (Vec T)} {starts : List ℕ} {p i inside : ℕ} {old new : Vec T} (e : IsEdit chunks starts p i inside old new) where
   l : AreLaidOut chunks starts
   l = e.laid_out
 
   there : i < length chunks
-  there = is_chunk chunks starts l.starts_are i p start e.falls e.start_is
-
-  place_is : start_at vec_items chunks i + (p - start) ≡ p
-  place_is = here chunks starts l.starts_are i p start e.falls e.start_is
+  there = e.is_at.within
 
   pub same_len : (d : Vec T) → vec_len (get_or chunks i d) ≡ vec_len old
   same_len d = sym (ap vec_len (get_or_read chunks i old there e.old_is d))
@@ -81,29 +81,35 @@ module _ {T : Type 0} {chunks : List (Vec T)} {starts : List ℕ} {i p start : �
         ];
   }
 
-  put_place : p ≤ length (joined chunks) → p - start ≤ vec_len old
-  put_place le = omega (arith, up_to chunks starts l.starts_are i p start e.falls e.start_is le old, same_len old)
+  -- an edit of the chunk is that edit of the list
+  edited_joined : (E : List T → ℕ → List T) (W : ℕ → ℕ → Type 0) → ((xs ys : List T) (n : ℕ) → W n (length xs) → E (xs ++ ys) n ≡ E xs n ++ ys)
+      → ((xs ys : List T) (n : ℕ) → E (xs ++ ys) (length xs + n) ≡ xs ++ E ys n) → W inside (length (vec_items old)) → vec_items new ≡ E (vec_items old) inside
+      → joined (set chunks i new) ≡ E (joined chunks) p
+  edited_joined E W left right w is =
+      edit-joined vec_items E W left right chunks i inside new old there (subst (λ (xs : List T). W inside (length xs)) same_items w) (is ∙ ap (λ (xs : List T). E xs inside) same_items)
+      ∙ ap (E (joined chunks)) e.is_at.is
 
-  pub put_joined : (x : T) → p ≤ length (joined chunks) → vec_items new ≡ insert (vec_items old) (p - start) x → joined (set chunks i new) ≡ insert (joined chunks) p x
-  put_joined x le is =
-      insert-joined vec_items chunks i (p - start) new old x there (omega (arith, put_place le, old.ok.0, ap length same_items)) (is ∙ ap (λ (xs : List T). insert xs (p - start) x) same_items)
-      ∙ ap (λ (n : ℕ). insert (joined chunks) n x) place_is
+  pub put_joined : (x : T) → vec_items new ≡ insert (vec_items old) inside x → joined (set chunks i new) ≡ insert (joined chunks) p x
+  put_joined x =
+      edited_joined (λ l n. insert l n x) (λ n m. n ≤ m) (λ a b n. insert-append_left a b n x)
+      (λ a b n. insert-append_right a b (length a) (length a + n) x refl (omega arith) ∙ ap (λ (m : ℕ). a ++ insert b m x) (omega arith))
+      (omega (arith, e.is_at.up_to old, same_len old, old.ok.0))
 
   module _ (lt : p < length (joined chunks)) where
-    take_place : p - start < vec_len old
-    take_place = omega (arith, inside chunks starts l.starts_are i p start e.falls e.start_is lt old, same_len old)
+    held : inside < length (vec_items old)
+    held = omega (arith, e.is_at.before lt old, same_len old, old.ok.0)
 
-    take_inside : p - start < length (vec_items (get_or chunks i old))
-    take_inside = omega (arith, take_place, old.ok.0, ap length same_items)
+    pub value_here : (x : T) → x ≡ get_or (vec_items old) inside x → x ≡ get_or (joined chunks) p x
+    value_here x is =
+        is ∙ ap (λ (xs : List T). get_or xs inside x) same_items ∙ get_or-joined vec_items chunks i inside old x there (omega (arith, held, ap length same_items))
+        ∙ ap (λ (n : ℕ). get_or (joined chunks) n x) e.is_at.is
 
-    pub value_here : (x : T) → x ≡ get_or (vec_items old) (p - start) x → x ≡ get_or (joined chunks) p x
-    value_here x e =
-        e ∙ ap (λ (xs : List T). get_or xs (p - start) x) same_items ∙ get_or-joined vec_items chunks i (p - start) old x there take_inside ∙ ap (λ (n : ℕ). get_or (joined chunks) n x) place_is
+    pub take_joined : vec_items new ≡ remove (vec_items old) inside → joined (set chunks i new) ≡ remove (joined chunks) p
+    take_joined =
+        edited_joined remove (λ n m. n < m) remove-append_left
+        (λ a b n. remove-append_right a b (length a) (length a + n) refl (omega arith) ∙ ap (λ (m : ℕ). a ++ remove b m) (omega arith)) held
 
-    pub take_joined : vec_items new ≡ remove (vec_items old) (p - start) → joined (set chunks i new) ≡ remove (joined chunks) p
-    take_joined is =
-        remove-joined vec_items chunks i (p - start) new old there take_inside (is ∙ ap (λ (xs : List T). remove xs (p - start)) same_items) ∙ ap (λ (n : ℕ). remove (joined chunks) n) place_is
-
-    pub exchange_joined : (x : T) → vec_items new ≡ set (vec_items old) (p - start) x → joined (set chunks i new) ≡ set (joined chunks) p x
-    exchange_joined x is =
-        set-joined vec_items chunks i (p - start) new old x there take_inside (is ∙ ap (λ (xs : List T). set xs (p - start) x) same_items) ∙ ap (λ (n : ℕ). set (joined chunks) n x) place_is
+    pub exchange_joined : (x : T) → vec_items new ≡ set (vec_items old) inside x → joined (set chunks i new) ≡ set (joined chunks) p x
+    exchange_joined x =
+        edited_joined (λ l n. set l n x) (λ n m. n < m) (λ a b n. set-append_left a b n x)
+        (λ a b n. set-append_right a b (length a) (length a + n) x refl (omega arith) ∙ ap (λ (m : ℕ). a ++ set b m x) (omega arith)) held

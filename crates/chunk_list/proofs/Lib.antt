@@ -1,7 +1,7 @@
 pub mod Edits
 pub mod Found
+pub mod Given
 pub mod Halves
-pub mod Parted
 pub mod Pieces
 pub mod Places
 pub mod Sorted

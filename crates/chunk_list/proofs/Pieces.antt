@@ -1,21 +1,8 @@
 -- A list that is joined from pieces: where each piece begins, and what a change in one piece does to the whole.
 use Rattle.std.proofs.Common.{◌≡◌, ℕ, ◌+◌, ◌*◌, ◌<◌, ◌≤◌, List, [], ◌∷◌, ◌++◌, length, get_or, set, zero, suc, refl, sym, ◌∙◌, ap, arith, append_assoc, length-append}
-use Rattle.std.proofs.lemmas.List.{get_or-append-add, get_or_append_left, set-append_left, set-append_right}
-use Rattle.std.proofs.lemmas.List.Edits.{insert-append_left, insert-append_right, remove-append_left, remove-append_right}
+use Rattle.std.proofs.lemmas.List.{get_or-append-add, get_or_append_left}
 use Rattle.std.specs.List.{flat_map, insert, remove}
-use Rattle.std.specs.Prelude.{slice_get, Some, None}
 use Rattle.chunk_list.specs.Chunks.{start_at}
-
-module _ {T : Type 0} where
-  pub slice_get-past : (xs : List T) (j : ℕ) → length xs ≤ j → slice_get xs j ≡ None
-  slice_get-past [] j le = refl
-  slice_get-past (x ∷ xs) zero le = absurd (omega arith)
-  slice_get-past (x ∷ xs) (suc j) le = slice_get-past xs j (omega arith)
-
-  pub slice_get-at : (xs : List T) (j : ℕ) (x : T) → j < length xs → x ≡ get_or xs j x → Some x ≡ slice_get xs j
-  slice_get-at [] j x lt e = absurd (omega arith)
-  slice_get-at (y ∷ xs) zero x lt e = ap Some e
-  slice_get-at (y ∷ xs) (suc j) x lt e = slice_get-at xs j x (omega arith) e
 
 module _ {X T : Type 0} (f : X → List T) where
   pub start_at-first : (xs : List X) → start_at f xs 0 ≡ 0
@@ -38,11 +25,11 @@ module _ {X T : Type 0} (f : X → List T) where
   start_at-most (x ∷ xs) zero = omega arith
   start_at-most (x ∷ xs) (suc k) = omega (arith, start_at-most xs k, length-append (f x) (flat_map f xs))
 
-  pub start_at-rises : (xs : List X) (j k : ℕ) → j ≤ k → start_at f xs j ≤ start_at f xs k
-  start_at-rises [] j k le = omega arith
-  start_at-rises (x ∷ xs) zero k le = omega (arith, start_at-first (x ∷ xs))
-  start_at-rises (x ∷ xs) (suc j) zero le = absurd (omega arith)
-  start_at-rises (x ∷ xs) (suc j) (suc k) le = omega (arith, start_at-rises xs j k (omega arith))
+  pub start_at-later : (xs : List X) (i k : ℕ) (d : X) → i < length xs → i < k → start_at f xs i + length (f (get_or xs i d)) ≤ start_at f xs k
+  start_at-later [] i k d lt gt = absurd (omega arith)
+  start_at-later (x ∷ xs) i zero d lt gt = absurd (omega arith)
+  start_at-later (x ∷ xs) zero (suc k) d lt gt = omega arith
+  start_at-later (x ∷ xs) (suc i) (suc k) d lt gt = omega (arith, start_at-later xs i k d (omega arith) (omega arith))
 
   pub start_at-inside : (xs : List X) (k : ℕ) (d : X) → k < length xs → start_at f xs k + length (f (get_or xs k d)) ≤ length (flat_map f xs)
   start_at-inside xs k d lt = omega (arith, start_at-next xs k d lt, start_at-most xs (suc k))
@@ -60,31 +47,12 @@ module _ {X T : Type 0} (f : X → List T) where
   module _ (E : List T → ℕ → List T) (W : ℕ → ℕ → Type 0) (left : (xs ys : List T) (p : ℕ) → W p (length xs) → E (xs ++ ys) p ≡ E xs p ++ ys)
       (right : (xs ys : List T) (p : ℕ) → E (xs ++ ys) (length xs + p) ≡ xs ++ E ys p)
     where
-      edit-joined : (xs : List X) (i p : ℕ) (c d : X) → i < length xs → W p (length (f (get_or xs i d))) → f c ≡ E (f (get_or xs i d)) p → flat_map f (set xs i c) ≡ E (flat_map f xs) (start_at f xs i + p)
+      pub edit-joined : (xs : List X) (i p : ℕ) (c d : X) → i < length xs → W p (length (f (get_or xs i d))) → f c ≡ E (f (get_or xs i d)) p → flat_map f (set xs i c) ≡ E (flat_map f xs) (start_at f xs i + p)
       edit-joined [] i p c d lt inside is = absurd (omega arith)
       edit-joined (y ∷ xs) zero p c d lt inside is =
           ap (λ (l : List T). l ++ flat_map f xs) is ∙ sym (left (f y) (flat_map f xs) p inside) ∙ ap (E (f y ++ flat_map f xs)) (omega arith)
       edit-joined (y ∷ xs) (suc i) p c d lt inside is =
           ap (λ (l : List T). f y ++ l) (edit-joined xs i p c d (omega arith) inside is) ∙ sym (right (f y) (flat_map f xs) (start_at f xs i + p)) ∙ ap (E (f y ++ flat_map f xs)) (omega arith)
-
-  -- one piece with an item more, an item less, or another item
-  pub insert-joined : (xs : List X) (i p : ℕ) (c d : X) (x : T) → i < length xs → p ≤ length (f (get_or xs i d)) → f c ≡ insert (f (get_or xs i d)) p x
-      → flat_map f (set xs i c) ≡ insert (flat_map f xs) (start_at f xs i + p) x
-  insert-joined xs i p c d x =
-      edit-joined (λ l n. insert l n x) (λ n m. n ≤ m) (λ a b n. insert-append_left a b n x)
-      (λ a b n. insert-append_right a b (length a) (length a + n) x refl (omega arith) ∙ ap (λ (m : ℕ). a ++ insert b m x) (omega arith)) xs i p c d
-
-  pub remove-joined : (xs : List X) (i p : ℕ) (c d : X) → i < length xs → p < length (f (get_or xs i d)) → f c ≡ remove (f (get_or xs i d)) p
-      → flat_map f (set xs i c) ≡ remove (flat_map f xs) (start_at f xs i + p)
-  remove-joined =
-      edit-joined remove (λ n m. n < m) remove-append_left
-      (λ a b n. remove-append_right a b (length a) (length a + n) refl (omega arith) ∙ ap (λ (m : ℕ). a ++ remove b m) (omega arith))
-
-  pub set-joined : (xs : List X) (i p : ℕ) (c d : X) (x : T) → i < length xs → p < length (f (get_or xs i d)) → f c ≡ set (f (get_or xs i d)) p x
-      → flat_map f (set xs i c) ≡ set (flat_map f xs) (start_at f xs i + p) x
-  set-joined xs i p c d x =
-      edit-joined (λ l n. set l n x) (λ n m. n < m) (λ a b n. set-append_left a b n x)
-      (λ a b n. set-append_right a b (length a) (length a + n) x refl (omega arith) ∙ ap (λ (m : ℕ). a ++ set b m x) (omega arith)) xs i p c d
 
   -- one piece changed: those up to it begin where they did, and the later ones as much later as it is longer
   pub start_at-set_low : (xs : List X) (i k : ℕ) (c : X) → k ≤ i → start_at f (set xs i c) k ≡ start_at f xs k
@@ -99,14 +67,14 @@ module _ {X T : Type 0} (f : X → List T) where
   start_at-set_high (y ∷ xs) zero (suc k) c d lt gt = omega arith
   start_at-set_high (y ∷ xs) (suc i) (suc k) c d lt gt = omega (arith, start_at-set_high xs i k c d (omega arith) (omega arith))
 
-  -- two pieces side by side that hold the same as before; a hole stood for the second one meanwhile
-  pub parted-joined : (xs : List X) (i : ℕ) (hole lower upper d : X) → suc i < length xs → f lower ++ f upper ≡ f (get_or xs i d) ++ f (get_or xs (suc i) d)
-      → flat_map f (set (set (set xs (suc i) hole) i lower) (suc i) upper) ≡ flat_map f xs
-  parted-joined [] i hole lower upper d lt e = absurd (omega arith)
-  parted-joined (x ∷ []) i hole lower upper d lt e = absurd (omega arith)
-  parted-joined (x ∷ y ∷ xs) zero hole lower upper d lt e =
+  -- two pieces side by side that hold the same as before
+  pub parted-joined : (xs : List X) (i : ℕ) (lower upper d : X) → suc i < length xs → f lower ++ f upper ≡ f (get_or xs i d) ++ f (get_or xs (suc i) d)
+      → flat_map f (set (set xs i lower) (suc i) upper) ≡ flat_map f xs
+  parted-joined [] i lower upper d lt e = absurd (omega arith)
+  parted-joined (x ∷ []) i lower upper d lt e = absurd (omega arith)
+  parted-joined (x ∷ y ∷ xs) zero lower upper d lt e =
       sym (append_assoc (f lower) (f upper) (flat_map f xs)) ∙ ap (λ (l : List T). l ++ flat_map f xs) e ∙ append_assoc (f x) (f y) (flat_map f xs)
-  parted-joined (x ∷ y ∷ xs) (suc i) hole lower upper d lt e = ap (λ (l : List T). f x ++ l) (parted-joined (y ∷ xs) i hole lower upper d (omega arith) e)
+  parted-joined (x ∷ y ∷ xs) (suc i) lower upper d lt e = ap (λ (l : List T). f x ++ l) (parted-joined (y ∷ xs) i lower upper d (omega arith) e)
 
   -- a piece cut in two
   pub cut-joined : (xs : List X) (i : ℕ) (lower upper d : X) → i < length xs → f lower ++ f upper ≡ f (get_or xs i d) → flat_map f (insert (set xs i lower) (suc i) upper) ≡ flat_map f xs

@@ -1,20 +1,14 @@
 -- Sorted entries, by any total order of their keys: what it says of the whole list where a key stands or would
 -- stand, and what is left when an entry is put, replaced or taken out there.
 use Rattle.std.proofs.Common.{◌≡◌, ◌≢◌, ℕ, ◌-◌, ◌<◌, ◌≤◌, Bool, true, false, cond, not, ◌&&◌, List, [], ◌∷◌, length, set, get_or, zero, suc, refl, sym, subst, ◌∙◌, ap, arith, Some, None, Ordering, Less, Equal, Greater}
+use Rattle.std.proofs.lemmas.Bool.{and_parts}
+use Rattle.std.proofs.lemmas.Float.{T_from_true}
 use Rattle.std.specs.Prelude.{IsTrue, T}
 use Rattle.std.specs.List.{HoldsAt, insert, remove}
 use Rattle.std.specs.Ordering.{eq_by_cmp, is_lt, is_eq, ordering_reverse}
 use Rattle.std.specs.Cmp.{IsTotalOrder}
-use Rattle.std.specs.FinMap.Entries.{find, put, where_key, is_sorted, below_all, is_sorted-put, by_order, is_sorted-where_key}
+use Rattle.std.specs.FinMap.Entries.{find, put, where_key, is_sorted, below_all, is_sorted-put, by_order}
 use Rattle.chunk_list.specs.Sorted.{StandsAt, FitsAt}
-
-both_first : (a b : Bool) → IsTrue (a && b) → IsTrue a
-both_first true b p = refl
-both_first false b p = p
-
-both_second : (a b : Bool) → IsTrue (a && b) → IsTrue b
-both_second true b p = p
-both_second false b p = absurd (cc)
 
 is_less : (r : Ordering) → IsTrue (is_lt r) → r ≡ Less
 is_less Less p = refl
@@ -25,10 +19,6 @@ is_greater : (r : Ordering) → is_lt r ≡ false → r ≢ Equal → r ≡ Grea
 is_greater Less p ne = absurd (cc)
 is_greater Equal p ne = absurd (ne refl)
 is_greater Greater p ne = refl
-
-to_test : (b : Bool) → IsTrue b → T b
-to_test true p = tt
-to_test false p = absurd (cc)
 
 from_test : (b : Bool) → T b → IsTrue b
 from_test true p = refl
@@ -41,18 +31,18 @@ module _ {K V : Type 0} (R : K → K → Ordering) (o : IsTotalOrder R) where
   -- an entry behind one that all are above
   above : (x : K) (es : List (K × V)) (q : ℕ) (d : K × V) → IsTrue (below_all R x es) → q < length es → R x (get_or es q d).0 ≡ Less
   above x [] q d p lt = absurd (omega arith)
-  above x (e ∷ es) zero d p lt = is_less _ (both_first _ _ p)
-  above x (e ∷ es) (suc q) d p lt = above x es q d (both_second _ _ p) (omega arith)
+  above x (e ∷ es) zero d p lt = is_less _ (and_parts _ _ p).0
+  above x (e ∷ es) (suc q) d p lt = above x es q d (and_parts _ _ p).1 (omega arith)
 
   -- what is below one that all are above is below all
   below_more : (k x : K) (es : List (K × V)) → R k x ≡ Less → IsTrue (below_all R x es) → IsTrue (below_all R k es)
   below_more k x [] less p = refl
   below_more k x (e ∷ es) less p =
-      subst (λ (r : Ordering). IsTrue (is_lt r && below_all R k es)) (sym (o.trans k x e.0 less (is_less _ (both_first _ _ p)))) (below_more k x es less (both_second _ _ p))
+      subst (λ (r : Ordering). IsTrue (is_lt r && below_all R k es)) (sym (o.trans k x e.0 less (is_less _ (and_parts _ _ p).0))) (below_more k x es less (and_parts _ _ p).1)
 
   find_below : (k : K) (es : List (K × V)) → IsTrue (below_all R k es) → find R k es ≡ None
   find_below k [] p = refl
-  find_below k (e ∷ es) p = ap (λ (r : Ordering). cond (is_eq r) (Some e.1) (find R k es)) (is_less _ (both_first _ _ p)) ∙ find_below k es (both_second _ _ p)
+  find_below k (e ∷ es) p = ap (λ (r : Ordering). cond (is_eq r) (Some e.1) (find R k es)) (is_less _ (and_parts _ _ p).0) ∙ find_below k es (and_parts _ _ p).1
 
   -- the first entry is below a key that a later one is below
   first_below : (k : K) (e : K × V) (es : List (K × V)) (q : ℕ) → IsTrue (below_all R e.0 es) → q ≤ length es → HoldsAt (λ y. R y.0 k ≡ Less) (e ∷ es) q → R e.0 k ≡ Less
@@ -71,13 +61,13 @@ module _ {K V : Type 0} (R : K → K → Ordering) (o : IsTotalOrder R) where
   put_new k v (e ∷ es) zero p le before after =
       let less : R k e.0 ≡ Less = after (omega arith) e in (
         ap (λ (r : Ordering). by_order r ((k, v) ∷ e ∷ es) ((e.0, v) ∷ es) (e ∷ put R k v es)) less,
-        ap (λ (r : Ordering). cond (is_eq r) (Some e.1) (find R k es)) less ∙ find_below k es (below_more k e.0 es less (both_first _ _ p)),
+        ap (λ (r : Ordering). cond (is_eq r) (Some e.1) (find R k es)) less ∙ find_below k es (below_more k e.0 es less (and_parts _ _ p).0),
       )
   put_new k v (e ∷ es) (suc q) p le before after =
       let here : HoldsAt (λ (y : K × V). R y.0 k ≡ Less) (e ∷ es) q = subst (HoldsAt (λ (y : K × V). R y.0 k ≡ Less) (e ∷ es)) (omega arith) (before (omega arith)) in
-      let big : R k e.0 ≡ Greater = greater R o k e.0 (first_below k e es q (both_first _ _ p) (omega arith) here) in
+      let big : R k e.0 ≡ Greater = greater R o k e.0 (first_below k e es q (and_parts _ _ p).0 (omega arith) here) in
       let rest : (put R k v es ≡ insert es q (k, v)) × (find R k es ≡ None) =
-      put_new k v es q (both_second _ _ p) (omega arith) (rest_before k e es q here) (λ (lt : q < length es). λ d. after (omega arith) d) in (
+      put_new k v es q (and_parts _ _ p).1 (omega arith) (rest_before k e es q here) (λ (lt : q < length es). λ d. after (omega arith) d) in (
         ap (λ (r : Ordering). by_order r ((k, v) ∷ e ∷ es) ((e.0, v) ∷ es) (e ∷ put R k v es)) big ∙ ap (λ (l : List (K × V)). e ∷ l) rest.0,
         ap (λ (r : Ordering). cond (is_eq r) (Some e.1) (find R k es)) big ∙ rest.1,
       )
@@ -92,10 +82,7 @@ module _ {K V : Type 0} (R : K → K → Ordering) (o : IsTotalOrder R) where
       ] none
 
   pub sorted_put : (k : K) (v : V) (es : List (K × V)) → IsTrue (is_sorted R es) → IsTrue (is_sorted R (put R k v es))
-  sorted_put k v es p = from_test (is_sorted R (put R k v es)) (is_sorted-put R o k v es (to_test (is_sorted R es) p))
-
-  pub sorted_where : (keep : K → Bool) (es : List (K × V)) → IsTrue (is_sorted R es) → IsTrue (is_sorted R (where_key R keep es))
-  sorted_where keep es p = from_test (is_sorted R (where_key R keep es)) (is_sorted-where_key R keep es (to_test (is_sorted R es) p))
+  sorted_put k v es p = from_test (is_sorted R (put R k v es)) (is_sorted-put R o k v es (T_from_true (is_sorted R es) p))
 
   -- a search for the first entry that is not below the key found the key, or where it would stand
   pub fits_at : (k : K) (es : List (K × V)) (q : ℕ) → q ≤ length es → (0 < q → HoldsAt (λ e. is_lt (R e.0 k) ≡ true) es (q - 1)) → (q < length es → HoldsAt (λ e. is_lt (R e.0 k) ≡ false) es q)
@@ -131,9 +118,9 @@ module _ {K V : Type 0} (R : K → K → Ordering) (o : IsTotalOrder R) where
       ap (λ (r : Ordering). cond (is_eq r) (Some e.1) (find R k es)) (at e) ∙ ap (λ (y : K × V). Some y.1) (sym is),
     )
     put_there k v (e ∷ es) (suc q) w p lt at is =
-        let less : R e.0 (get_or es q e).0 ≡ Less = above e.0 es q e (both_first _ _ p) (omega arith) in
+        let less : R e.0 (get_or es q e).0 ≡ Less = above e.0 es q e (and_parts _ _ p).0 (omega arith) in
         let big : R k e.0 ≡ Greater = greater R o k e.0 (subst (λ (x : K). R e.0 x ≡ Less) (sym (same _ _ (at e))) less) in
-        let rest : (put R k v es ≡ set es q (k, v)) × (find R k es ≡ Some w.1) = put_there k v es q w (both_second _ _ p) (omega arith) (λ d. at d) is in (
+        let rest : (put R k v es ≡ set es q (k, v)) × (find R k es ≡ Some w.1) = put_there k v es q w (and_parts _ _ p).1 (omega arith) (λ d. at d) is in (
           ap (λ (r : Ordering). by_order r ((k, v) ∷ e ∷ es) ((e.0, v) ∷ es) (e ∷ put R k v es)) big ∙ ap (λ (l : List (K × V)). e ∷ l) rest.0,
           ap (λ (r : Ordering). cond (is_eq r) (Some e.1) (find R k es)) big ∙ rest.1,
         )
@@ -141,13 +128,13 @@ module _ {K V : Type 0} (R : K → K → Ordering) (o : IsTotalOrder R) where
     where_there : (k : K) (es : List (K × V)) (q : ℕ) → IsTrue (is_sorted R es) → q < length es → HoldsAt (λ e. R k e.0 ≡ Equal) es q → where_key R (λ x. not (eq_by_cmp R k x)) es ≡ remove es q
     where_there k [] q p lt at = absurd (omega arith)
     where_there k (e ∷ es) zero p lt at =
-        let none : find R k es ≡ None = find_below k es (subst (λ (x : K). IsTrue (below_all R x es)) (sym (same _ _ (at e))) (both_first _ _ p)) in
+        let none : find R k es ≡ None = find_below k es (subst (λ (x : K). IsTrue (below_all R x es)) (sym (same _ _ (at e))) (and_parts _ _ p).0) in
         ap (λ (r : Ordering). cond (not (is_eq r)) (e ∷ where_key R (λ x. not (eq_by_cmp R k x)) es) (where_key R (λ x. not (eq_by_cmp R k x)) es)) (at e) ∙ where_none k es none
     where_there k (e ∷ es) (suc q) p lt at =
-        let less : R e.0 (get_or es q e).0 ≡ Less = above e.0 es q e (both_first _ _ p) (omega arith) in
+        let less : R e.0 (get_or es q e).0 ≡ Less = above e.0 es q e (and_parts _ _ p).0 (omega arith) in
         let big : R k e.0 ≡ Greater = greater R o k e.0 (subst (λ (x : K). R e.0 x ≡ Less) (sym (same _ _ (at e))) less) in
         ap (λ (r : Ordering). cond (not (is_eq r)) (e ∷ where_key R (λ x. not (eq_by_cmp R k x)) es) (where_key R (λ x. not (eq_by_cmp R k x)) es)) big
-        ∙ ap (λ (l : List (K × V)). e ∷ l) (where_there k es q (both_second _ _ p) (omega arith) (λ d. at d))
+        ∙ ap (λ (l : List (K × V)). e ∷ l) (where_there k es q (and_parts _ _ p).1 (omega arith) (λ d. at d))
 
     module _ (k : K) (es : List (K × V)) (q : ℕ) (p : IsTrue (is_sorted R es)) (s : StandsAt R es k q) where
       pub find_stands : (w : K × V) → w ≡ get_or es q w → find R k es ≡ Some w.1

@@ -18,12 +18,6 @@ start_at f (x ∷ xs) (suc k) = length (f x) + start_at f xs k
 abbrev pub Each : {X : Type 0} → (X → Type 0) → List X → Type 0
 Each {X} P xs = (k : ℕ) (d : X) → k < length xs → P (slice_index_or xs k d)
 
--- a place falls between the start at `at`, or the beginning, and the next one
-pub record FallsInto (starts : List ℕ) (place at : ℕ) : Type 0 where
-  pub within : at < length starts
-  pub low : 0 < at → slice_index starts at ≤ place
-  pub high : at + 1 < length starts → place < slice_index starts (at + 1)
-
 module _ {T : Type 0} where
   -- the chunks, one after another
   abbrev pub joined : List (Vec T) → List T
@@ -58,17 +52,26 @@ module _ {T : Type 0} where
     pub as_many : length starts ≡ length chunks
     pub begins : (k : ℕ) → k < length chunks → slice_index starts k ≡ start_at vec_items chunks k
 
+  -- a place of the list is so far inside a chunk; the end of the list is the end of a chunk
+  pub record IsAt (chunks : List (Vec T)) (place at inside : ℕ) : Type 0 where
+    pub within : at < length chunks
+    pub is : start_at vec_items chunks at + inside ≡ place
+    pub up_to : (d : Vec T) → inside ≤ vec_len (slice_index_or chunks at d)
+    pub before : place < length (joined chunks) → (d : Vec T) → inside < vec_len (slice_index_or chunks at d)
+
   -- the chunks, and where they begin
   pub record AreLaidOut (chunks : List (Vec T)) (starts : List ℕ) : Type 0 where
     pub chunks_are : AreChunks chunks
     pub starts_are : AreStarts chunks starts
 
-  -- each spare chunk can come in among the others, and each of these can go out, without memory
+  -- each spare chunk can come in among the others, and each of these can go out, without memory; the first chunk is in
+  -- use from the beginning
   pub record CanTurn (chunks spare : Vec (Vec T)) (starts : Vec ℕ) : Type 0 where
     pub each : Each IsSpare spare.items
     pub chunks_fit : vec_len chunks + vec_len spare ≤ vec_capacity chunks
     pub spare_fit : vec_len chunks + vec_len spare ≤ vec_capacity spare
     pub starts_fit : vec_len chunks + vec_len spare ≤ vec_capacity starts
+    pub first : 0 < vec_len spare → 0 < vec_len chunks
 
   -- and there are as many places in all chunks as the items and the room need
   pub record IsSound (chunks spare : Vec (Vec T)) (starts : Vec ℕ) (len room : ℕ) : Type 0 where

@@ -13,15 +13,6 @@ module _ {T : Type 0} where
     pub to_len : (d : Vec T) → vec_len (slice_index_or new to d) ≡ vec_len (slice_index_or old to d) + count
     pub others : (k : ℕ) (d : Vec T) → (k ≡ from → ⊥) → (k ≡ to → ⊥) → slice_index_or new k d ≡ slice_index_or old k d
 
-  -- the two chunks from `at` on hold what they held, and the first one has `count` items
-  pub record IsParted (old : List (Vec T)) (at count : ℕ) (new : List (Vec T)) : Type 0 where
-    pub same : joined new ≡ joined old
-    pub long : length new ≡ length old
-    pub wide : Each IsWide new
-    pub lower : (d : Vec T) → vec_len (slice_index_or new at d) ≡ count
-    pub upper : (d : Vec T) → vec_len (slice_index_or new (at + 1) d) + count ≡ vec_len (slice_index_or old at d) + vec_len (slice_index_or old (at + 1) d)
-    pub others : (k : ℕ) (d : Vec T) → (k ≡ at → ⊥) → (k ≡ at + 1 → ⊥) → slice_index_or new k d ≡ slice_index_or old k d
-
   -- another chunk than the one at `at` has a place free
   pub record HasFree (chunks : List (Vec T)) (at free : ℕ) : Type 0 where
     pub within : free < length chunks

@@ -2,7 +2,7 @@
 ghost use Rattle.std.specs.Prelude.{◌≡◌, ◌+◌, ◌<◌, ◌≤◌, ◌⊎◌, ◌++◌, ℕ, length, slice_index_or, slice_set, OnOk, vec_len, vec_capacity};
 ghost use Rattle.std.specs.List.{insert};
 ghost use Rattle.chunk_list.specs.Chunks.{AreChunks, AreChunksBut, AreLaidOut, CanTurn, Each, IsSpare, IsWide, full, joined};
-ghost use Rattle.chunk_list.specs.Edits.{AreTurned, IsGiven, IsParted};
+ghost use Rattle.chunk_list.specs.Edits.{AreTurned, IsGiven};
 
 use crate::list::CHUNK;
 use std::alloc::AllocError;
@@ -46,23 +46,6 @@ fn level<T>(lower: &mut Vec<T>, upper: &mut Vec<T>, count: usize)
     upper.reverse();
 }
 
-// Moves items between the chunk at `at` and the next one until the first of them has `count`.
-fn part<T: Drop>(chunks: &mut Vec<Vec<T>>, at: usize, count: usize)
-    requires within { at + 1 < length chunks.old.items }
-    requires wide { Each IsWide chunks.old.items }
-    requires enough { (d : _) → count ≤ vec_len (slice_index_or chunks.old.items at d) + vec_len (slice_index_or chunks.old.items (at + 1) d) }
-    requires lower { count ≤ full + 1 }
-    requires upper { (d : _) → vec_len (slice_index_or chunks.old.items at d) + vec_len (slice_index_or chunks.old.items (at + 1) d) ≤ full + 1 + count }
-    ensures parted { IsParted chunks.old.items at count chunks.new.items }
-    ensures capacity { vec_capacity chunks.new ≡ vec_capacity chunks.old }
-{
-    let hole = Vec::new(*chunks.allocator());
-    let mut upper = mem::replace(&mut chunks[at + 1], hole);
-    let lower = &mut chunks[at];
-    level(lower, &mut upper, count);
-    chunks[at + 1] = upper;
-}
-
 // Moves `count` items from a chunk to one beside it.
 pub(crate) fn give<T: Drop>(chunks: &mut Vec<Vec<T>>, from: usize, to: usize, count: usize)
     requires beside { (to ≡ from + 1) ⊎ (from ≡ to + 1) }
@@ -75,12 +58,17 @@ pub(crate) fn give<T: Drop>(chunks: &mut Vec<Vec<T>>, from: usize, to: usize, co
     ensures given { IsGiven chunks.old.items from to count chunks.new.items }
     ensures capacity { vec_capacity chunks.new ≡ vec_capacity chunks.old }
 {
+    let hole = Vec::new(*chunks.allocator());
+    let mut giver = mem::replace(&mut chunks[from], hole);
+    let taker = &mut chunks[to];
     if from < to {
-        let left = chunks[from].len() - count;
-        part(chunks, from, left);
+        let left = giver.len() - count;
+        level(&mut giver, taker, left);
+        chunks[from] = giver;
     } else {
-        let more = chunks[to].len() + count;
-        part(chunks, to, more);
+        let more = taker.len() + count;
+        level(taker, &mut giver, more);
+        chunks[from] = giver;
     }
 }
 
@@ -117,33 +105,13 @@ pub(crate) fn set_out<T: Drop>(
     ensures same { joined chunks.new.items ≡ joined chunks.old.items }
     ensures chunks { AreChunks chunks.new.items }
     ensures turned { AreTurned chunks.old spare.old chunks.new spare.new }
+    ensures some { 0 < vec_len chunks.new }
     ensures needed { needed ≤ vec_len chunks.old + vec_len spare.old → needed ≤ vec_len chunks.new + vec_len spare.new }
 {
     let chunk = chunks.remove(at);
     let left = chunks.len() + spare.len();
     if left < needed {
         spare.push_reserved(chunk);
-    }
-}
-
-// Brings the first chunk in, where there is none.
-pub(crate) fn begin<T: Drop>(
-    chunks: &mut Vec<Vec<T>>,
-    spare: &mut Vec<Vec<T>>,
-    starts: &mut Vec<usize>,
-)
-    requires laid_out { AreLaidOut chunks.old.items starts.old.items }
-    requires turns { CanTurn chunks.old spare.old starts.old }
-    requires some { 0 < vec_len chunks.old + vec_len spare.old }
-    ensures same { joined chunks.new.items ≡ joined chunks.old.items }
-    ensures laid_out { AreLaidOut chunks.new.items starts.new.items }
-    ensures turns { CanTurn chunks.new spare.new starts.new }
-    ensures long { vec_len chunks.new + vec_len spare.new ≡ vec_len chunks.old + vec_len spare.old }
-    ensures some { 0 < vec_len chunks.new }
-{
-    if chunks.len() == 0 {
-        chunks.push_reserved(spare.take_last());
-        starts.push_reserved(0);
     }
 }
 
@@ -164,7 +132,7 @@ fn extend<T: Drop>(
     spare.reserve(chunks.len() + 1)
 }
 
-// Adds spare chunks until there are so many chunks.
+// Adds spare chunks until there are so many chunks. The first one of all is in use at once.
 pub(crate) fn grow<T: Drop>(
     chunks: &mut Vec<Vec<T>>,
     spare: &mut Vec<Vec<T>>,
@@ -182,7 +150,12 @@ pub(crate) fn grow<T: Drop>(
     while chunks.len() + spare.len() < wanted {
         let chunk = Vec::with_capacity(*chunks.allocator(), CHUNK + 1)?;
         extend(chunks, spare, starts)?;
-        spare.push_reserved(chunk);
+        if chunks.len() == 0 {
+            chunks.push_reserved(chunk);
+            starts.push_reserved(0);
+        } else {
+            spare.push_reserved(chunk);
+        }
     }
     Ok(())
 }

@@ -5,13 +5,14 @@ ghost use Rattle.std.specs.Option.{option_copied};
 ghost use Rattle.std.specs.List.{HoldsAt, insert, remove};
 ghost use Rattle.chunk_list.specs.Walks.{IsRun};
 
-use crate::chunks::grow;
-use crate::room::{exchange_at, put_at, take_at};
-use crate::search::{chunk_of, item_from, place_in};
-use crate::starts::home;
+use crate::chunks::{grow, set_out};
+use crate::room::{put_in, relieve, take_out};
+use crate::search::{chunk_of, place_in};
+use crate::starts::{locate, recount};
 use crate::walk::Walk;
 use std::alloc::Global;
 use std::marker::{Brand, Model};
+use std::mem;
 use std::sync::ledger::{Blank, Ledger};
 use u1_base::{Memory, Steps};
 
@@ -95,10 +96,9 @@ impl<T> ChunkList<T> {
         if place >= self.len {
             return &[];
         }
-        let at = home(&self.starts, place);
-        let start = self.starts[at];
+        let (at, inside) = locate(&self.chunks, &self.starts, place);
         let chunk = &self.chunks[at];
-        &chunk[place - start..]
+        &chunk[inside..]
     }
 
     /// A walk through the items, for who wants many that stand together.
@@ -129,8 +129,15 @@ impl<T> ChunkList<T> {
         let start = self.starts[at];
         // The first item of the chunk passes, unless it is the first chunk, of which nothing is known.
         let known = at.min(1);
-        let place = place_in(&self.chunks[at], known, &passes, steps);
-        (start + place, item_from(&self.chunks, at, place))
+        let chunk = &self.chunks[at];
+        let place = place_in(chunk, known, &passes, steps);
+        let found = start + place;
+        let item = match chunk.get(place) {
+            Some(item) => Some(item),
+            // The first one of the next chunk.
+            None => self.get(found),
+        };
+        (found, item)
     }
 
     /// `search` for who counts nothing.
@@ -173,15 +180,13 @@ impl<T> ChunkList<T> {
         ensures items { self.new.items ≡ insert self.old.items place item }
         ensures room { self.new.room + 1 ≡ self.old.room }
     {
-        put_at(
-            &mut self.chunks,
-            &mut self.spare,
-            &mut self.starts,
-            place,
-            item,
-        );
+        let at = put_in(&mut self.chunks, &mut self.starts, place, item);
         self.len += 1;
         self.room -= 1;
+        if self.chunks[at].len() > CHUNK {
+            relieve(&mut self.chunks, &mut self.spare, at);
+            recount(&mut self.starts, &self.chunks);
+        }
     }
 
     /// Puts the item in the place of another, which comes back.
@@ -191,7 +196,9 @@ impl<T> ChunkList<T> {
         ensures items { self.new.items ≡ slice_set self.old.items place item }
         ensures room { self.new.room ≡ self.old.room }
     {
-        exchange_at(&mut self.chunks, &self.starts, place, item)
+        let (at, inside) = locate(&self.chunks, &self.starts, place);
+        let chunk = &mut self.chunks[at];
+        mem::replace(&mut chunk[inside], item)
     }
 
     /// Takes the item at a place out; those behind it move down by one. It takes no memory, and gives some back
@@ -205,14 +212,12 @@ impl<T> ChunkList<T> {
         ensures room { self.new.room ≡ self.old.room }
     {
         let needed = (self.len - 1 + self.room).div_ceil(CHUNK);
-        let item = take_at(
-            &mut self.chunks,
-            &mut self.spare,
-            &mut self.starts,
-            place,
-            needed,
-        );
+        let (at, item) = take_out(&mut self.chunks, &mut self.starts, place);
         self.len -= 1;
+        if at > 0 && self.chunks[at].len() == 0 {
+            set_out(&mut self.chunks, &mut self.spare, at, needed);
+            recount(&mut self.starts, &self.chunks);
+        }
         item
     }
 }

@@ -1,13 +1,12 @@
-//! Items that go into the list, out of it, and in the place of others.
-ghost use Rattle.std.specs.Prelude.{◌≡◌, ◌≢◌, ◌⊎◌, ◌+◌, ◌*◌, ◌^◌, ◌<◌, ◌≤◌, ℕ, length, slice_index_or, slice_set, MatchOption, vec_len, vec_capacity};
+//! Items that go into a chunk and out of it, and places for one item too many.
+ghost use Rattle.std.specs.Prelude.{◌≡◌, ◌≢◌, ◌⊎◌, ◌+◌, ◌*◌, ◌^◌, ◌<◌, ◌≤◌, length, slice_index_or, MatchOption, vec_len, vec_capacity};
 ghost use Rattle.std.specs.List.{insert, remove};
-ghost use Rattle.chunk_list.specs.Chunks.{AreChunks, AreChunksBut, AreLaidOut, AreStarts, CanTurn, Each, FallsInto, IsSpare, full, joined};
+ghost use Rattle.chunk_list.specs.Chunks.{AreChunks, AreChunksBut, AreLaidOut, AreStarts, Each, IsSpare, full, joined};
 ghost use Rattle.chunk_list.specs.Edits.{AreTurned, HasFree, NoneFree};
 
-use crate::chunks::{begin, cut, give, put, set_out};
+use crate::chunks::{cut, give, put};
 use crate::list::CHUNK;
-use crate::starts::{home, lower, raise, recount};
-use std::mem;
+use crate::starts::{locate, shift};
 
 // A full chunk takes places from a chunk that is no further away than this and has so many free. So chunks are well
 // filled, and few are cut.
@@ -69,7 +68,7 @@ fn share<T: Drop>(chunks: &mut Vec<Vec<T>>, at: usize, free: usize)
 
 // Gives the chunk at `at`, which has one item too many, places from a chunk near by, or else cuts it in two; where no
 // chunk is spare, it gets places from wherever there are some.
-fn relieve<T: Drop>(chunks: &mut Vec<Vec<T>>, spare: &mut Vec<Vec<T>>, at: usize)
+pub(crate) fn relieve<T: Drop>(chunks: &mut Vec<Vec<T>>, spare: &mut Vec<Vec<T>>, at: usize)
     requires chunks { AreChunksBut chunks.old.items at }
     requires over { (d : _) → vec_len (slice_index_or chunks.old.items at d) ≡ full + 1 }
     requires each { Each IsSpare spare.old.items }
@@ -93,125 +92,52 @@ fn relieve<T: Drop>(chunks: &mut Vec<Vec<T>>, spare: &mut Vec<Vec<T>>, at: usize
     }
 }
 
-// Puts an item into the chunk that its place falls into, which may then have one too many.
-fn put_in<T: Drop>(
+// Puts an item into the chunk that its place falls into, which may then have one too many, and says which one that is.
+pub(crate) fn put_in<T: Drop>(
     chunks: &mut Vec<Vec<T>>,
     starts: &mut Vec<usize>,
-    at: usize,
     place: usize,
     item: T,
-)
+) -> usize
     requires laid_out { AreLaidOut chunks.old.items starts.old.items }
-    requires falls { FallsInto starts.old.items place at }
+    requires some { 0 < vec_len chunks.old }
     requires place { place ≤ length (joined chunks.old.items) }
     requires fits { length (joined chunks.old.items) + 1 < 2 ^ 64 }
     ensures items { joined chunks.new.items ≡ insert (joined chunks.old.items) place item }
-    ensures chunks { AreChunksBut chunks.new.items at }
-    ensures some { (d : _) → 0 < vec_len (slice_index_or chunks.new.items at d) }
+    ensures chunks { AreChunksBut chunks.new.items result }
+    ensures some { (d : _) → 0 < vec_len (slice_index_or chunks.new.items result d) }
     ensures starts { AreStarts chunks.new.items starts.new.items }
     ensures len { vec_len chunks.new ≡ vec_len chunks.old }
     ensures capacity { vec_capacity chunks.new ≡ vec_capacity chunks.old }
     ensures starts_capacity { vec_capacity starts.new ≡ vec_capacity starts.old }
 {
-    let start = starts[at];
+    let (at, inside) = locate(chunks, starts, place);
     let chunk = &mut chunks[at];
-    put(chunk, place - start, item);
-    raise(starts, at);
+    put(chunk, inside, item);
+    shift(starts, at, 0, 1);
+    at
 }
 
-// Puts an item in at a place of the list.
-pub(crate) fn put_at<T: Drop>(
+// Takes an item out of the chunk that its place falls into, which may then be empty, and says which one that is.
+pub(crate) fn take_out<T>(
     chunks: &mut Vec<Vec<T>>,
-    spare: &mut Vec<Vec<T>>,
     starts: &mut Vec<usize>,
     place: usize,
-    item: T,
-)
+) -> (usize, T)
     requires laid_out { AreLaidOut chunks.old.items starts.old.items }
-    requires turns { CanTurn chunks.old spare.old starts.old }
-    requires place { place ≤ length (joined chunks.old.items) }
-    requires enough { length (joined chunks.old.items) < (vec_len chunks.old + vec_len spare.old) * full }
-    requires fits { length (joined chunks.old.items) + 1 < 2 ^ 64 }
-    ensures items { joined chunks.new.items ≡ insert (joined chunks.old.items) place item }
-    ensures laid_out { AreLaidOut chunks.new.items starts.new.items }
-    ensures turns { CanTurn chunks.new spare.new starts.new }
-    ensures long { vec_len chunks.new + vec_len spare.new ≡ vec_len chunks.old + vec_len spare.old }
-{
-    begin(chunks, spare, starts);
-    let at = home(starts, place);
-    put_in(chunks, starts, at, place, item);
-    if chunks[at].len() > CHUNK {
-        relieve(chunks, spare, at);
-        recount(starts, chunks);
-    }
-}
-
-// Takes an item out of the chunk that its place falls into, which may then be empty.
-fn take_out<T>(chunks: &mut Vec<Vec<T>>, starts: &mut Vec<usize>, at: usize, place: usize) -> T
-    requires laid_out { AreLaidOut chunks.old.items starts.old.items }
-    requires falls { FallsInto starts.old.items place at }
     requires place { place < length (joined chunks.old.items) }
-    ensures value { result ≡ slice_index_or (joined chunks.old.items) place result }
+    ensures value { result.1 ≡ slice_index_or (joined chunks.old.items) place result.1 }
     ensures items { joined chunks.new.items ≡ remove (joined chunks.old.items) place }
-    ensures chunks { AreChunksBut chunks.new.items at }
-    ensures short { (d : _) → vec_len (slice_index_or chunks.new.items at d) ≤ full }
+    ensures chunks { AreChunksBut chunks.new.items result.0 }
+    ensures short { (d : _) → vec_len (slice_index_or chunks.new.items result.0 d) ≤ full }
     ensures starts { AreStarts chunks.new.items starts.new.items }
     ensures len { vec_len chunks.new ≡ vec_len chunks.old }
     ensures capacity { vec_capacity chunks.new ≡ vec_capacity chunks.old }
     ensures starts_capacity { vec_capacity starts.new ≡ vec_capacity starts.old }
 {
-    let start = starts[at];
+    let (at, inside) = locate(chunks, starts, place);
     let chunk = &mut chunks[at];
-    let item = chunk.remove(place - start);
-    lower(starts, at);
-    item
-}
-
-// Takes the item at a place of the list out. `needed` chunks stay, if there were as many.
-pub(crate) fn take_at<T: Drop>(
-    chunks: &mut Vec<Vec<T>>,
-    spare: &mut Vec<Vec<T>>,
-    starts: &mut Vec<usize>,
-    place: usize,
-    needed: usize,
-) -> T
-    requires laid_out { AreLaidOut chunks.old.items starts.old.items }
-    requires turns { CanTurn chunks.old spare.old starts.old }
-    requires place { place < length (joined chunks.old.items) }
-    requires fits { length (joined chunks.old.items) < 2 ^ 64 }
-    ensures value { result ≡ slice_index_or (joined chunks.old.items) place result }
-    ensures items { joined chunks.new.items ≡ remove (joined chunks.old.items) place }
-    ensures laid_out { AreLaidOut chunks.new.items starts.new.items }
-    ensures turns { CanTurn chunks.new spare.new starts.new }
-    ensures needed { needed ≤ vec_len chunks.old + vec_len spare.old → needed ≤ vec_len chunks.new + vec_len spare.new }
-{
-    let at = home(starts, place);
-    let item = take_out(chunks, starts, at, place);
-    if at > 0 && chunks[at].len() == 0 {
-        set_out(chunks, spare, at, needed);
-        recount(starts, chunks);
-    }
-    item
-}
-
-// Puts an item in the place of another one.
-pub(crate) fn exchange_at<T>(
-    chunks: &mut Vec<Vec<T>>,
-    starts: &Vec<usize>,
-    place: usize,
-    item: T,
-) -> T
-    requires laid_out { AreLaidOut chunks.old.items starts.now.items }
-    requires place { place < length (joined chunks.old.items) }
-    ensures value { result ≡ slice_index_or (joined chunks.old.items) place result }
-    ensures items { joined chunks.new.items ≡ slice_set (joined chunks.old.items) place item }
-    ensures laid_out { AreLaidOut chunks.new.items starts.now.items }
-    ensures len { vec_len chunks.new ≡ vec_len chunks.old }
-    ensures capacity { vec_capacity chunks.new ≡ vec_capacity chunks.old }
-{
-    let at = home(starts, place);
-    let start = starts[at];
-    let chunk = &mut chunks[at];
-    let inside = place - start;
-    mem::replace(&mut chunk[inside], item)
+    let item = chunk.remove(inside);
+    shift(starts, at, 1, 0);
+    (at, item)
 }

@@ -1,10 +1,8 @@
 //! A search by halves, first among the chunks and then inside one of them.
-ghost use Rattle.std.specs.Prelude.{◌≡◌, ◌+◌, ◌-◌, ◌^◌, ◌<◌, ◌≤◌, ℕ, true, false, length, slice_get, slice_index_or, vec_len};
+ghost use Rattle.std.specs.Prelude.{◌≡◌, ◌+◌, ◌-◌, ◌^◌, ◌<◌, ◌≤◌, ℕ, true, false, length};
 ghost use Rattle.std.specs.Fn.{FnReturnsAt};
 ghost use Rattle.std.specs.List.{HoldsAt};
-ghost use Rattle.std.specs.Option.{option_copied};
-ghost use Rattle.std.specs.Vec.{vec_items};
-ghost use Rattle.chunk_list.specs.Chunks.{AreChunks, joined, start_at};
+ghost use Rattle.chunk_list.specs.Chunks.{AreChunks};
 
 use std::sync::ledger::Ledger;
 use u1_base::Steps;
@@ -23,19 +21,16 @@ pub(crate) fn chunk_of<T, L: Ledger, F: Fn(&T) -> bool>(
     ensures next { result + 1 < length chunks.now.items → HoldsAt (λ c. HoldsAt (λ x. FnReturnsAt F.Fn passes.now x false) c.items 0) chunks.now.items (result + 1) }
     ensures looks { (k : ℕ) → length chunks.now.items - 1 < 2 ^ k → steps.new ≤ steps.old + k }
 {
-    let mut low = 0;
-    let mut high = chunks.len();
-    while high - low > 1 {
-        let middle = low + (high - low) / 2;
-        let chunk = &chunks[middle];
-        steps.tick();
-        if passes(&chunk[0]) {
-            low = middle;
-        } else {
-            high = middle;
+    let first_passes = |chunk: &Vec<T>| -> bool
+        requires { F.IsAlwaysCallable passes.now }
+        ensures { 0 < length chunk.now.items → HoldsAt (λ x. FnReturnsAt F.Fn passes.entry.now x result) chunk.now.items 0 }
+    {
+        if chunk.len() == 0 {
+            return true;
         }
-    }
-    low
+        passes(&chunk[0])
+    };
+    place_in(chunks, 1, &first_passes, steps) - 1
 }
 
 // The place of the first item that does not pass. Those before `known` are known to pass.
@@ -51,7 +46,7 @@ pub(crate) fn place_in<T, L: Ledger, F: Fn(&T) -> bool>(
     ensures high { result ≤ length items.now.items }
     ensures before { known < result → HoldsAt (λ x. FnReturnsAt F.Fn passes.now x true) items.now.items (result - 1) }
     ensures after { result < length items.now.items → HoldsAt (λ x. FnReturnsAt F.Fn passes.now x false) items.now.items result }
-    ensures looks { (k : ℕ) → length items.now.items < 2 ^ k → steps.new ≤ steps.old + k }
+    ensures looks { (k : ℕ) → length items.now.items - known < 2 ^ k → steps.new ≤ steps.old + k }
 {
     let mut low = known;
     let mut high = items.len();
@@ -65,22 +60,4 @@ pub(crate) fn place_in<T, L: Ledger, F: Fn(&T) -> bool>(
         }
     }
     low
-}
-
-// The item at a place of the chunk at `at`; at its end, the first one of the next chunk. None where that is the end.
-pub(crate) fn item_from<T>(chunks: &Vec<Vec<T>>, at: usize, place: usize) -> Option<&T>
-    requires within { at < length chunks.now.items }
-    requires chunks { AreChunks chunks.now.items }
-    requires place { (d : _) → place ≤ vec_len (slice_index_or chunks.now.items at d) }
-    ensures { option_copied result ≡ slice_get (joined chunks.now.items) (start_at vec_items chunks.now.items at + place) }
-{
-    let chunk = &chunks[at];
-    if place < chunk.len() {
-        return Some(&chunk[place]);
-    }
-    if at < chunks.len() - 1 {
-        let next = &chunks[at + 1];
-        return Some(&next[0]);
-    }
-    None
 }

@@ -1,14 +1,16 @@
 //! The places where the chunks begin.
 ghost use Rattle.std.specs.Prelude.{◌≡◌, ◌+◌, ◌^◌, ◌<◌, ◌≤◌, ℕ, length, slice_index, vec_len, vec_capacity};
-ghost use Rattle.chunk_list.specs.Chunks.{AreStarts, FallsInto, joined};
+ghost use Rattle.chunk_list.specs.Chunks.{AreStarts, IsAt, joined};
 
-// The chunk that a place falls into.
-pub(crate) fn home(starts: &Vec<usize>, place: usize) -> usize
-    requires { 0 < length starts.now.items }
-    ensures { FallsInto starts.now.items place result }
+// The chunk that a place falls into, and the place in there. The end of the list is the end of the last chunk.
+pub(crate) fn locate<T>(chunks: &Vec<Vec<T>>, starts: &Vec<usize>, place: usize) -> (usize, usize)
+    requires starts { AreStarts chunks.now.items starts.now.items }
+    requires some { 0 < length chunks.now.items }
+    requires place { place ≤ length (joined chunks.now.items) }
+    ensures { IsAt chunks.now.items place result.0 result.1 }
 {
     let mut low = 0;
-    let mut high = starts.len();
+    let mut high = chunks.len();
     while high - low > 1 {
         let middle = low + (high - low) / 2;
         if starts[middle] <= place {
@@ -17,34 +19,21 @@ pub(crate) fn home(starts: &Vec<usize>, place: usize) -> usize
             high = middle;
         }
     }
-    low
+    let start = starts[low];
+    (low, place - start)
 }
 
-// The starts behind the one at `at` are one more.
-pub(crate) fn raise(starts: &mut Vec<usize>, at: usize)
+// The starts behind the one at `at` are as many more as `after` is more than `before`, or as many less.
+pub(crate) fn shift(starts: &mut Vec<usize>, at: usize, before: usize, after: usize)
     requires at { at < length starts.old.items }
-    requires fits { (k : ℕ) → k < length starts.old.items → slice_index starts.old.items k + 1 < 2 ^ 64 }
+    requires fits { (k : ℕ) → at < k → k < length starts.old.items → (before ≤ slice_index starts.old.items k) × (slice_index starts.old.items k + after < 2 ^ 64) }
     ensures len { length starts.new.items ≡ length starts.old.items }
     ensures low { (k : ℕ) → k ≤ at → slice_index starts.new.items k ≡ slice_index starts.old.items k }
-    ensures high { (k : ℕ) → at < k → k < length starts.old.items → slice_index starts.new.items k ≡ slice_index starts.old.items k + 1 }
+    ensures high { (k : ℕ) → at < k → k < length starts.old.items → slice_index starts.new.items k + before ≡ slice_index starts.old.items k + after }
     ensures capacity { vec_capacity starts.new ≡ vec_capacity starts.old }
 {
     for k in at + 1..starts.len() {
-        starts[k] += 1;
-    }
-}
-
-// The starts behind the one at `at` are one less.
-pub(crate) fn lower(starts: &mut Vec<usize>, at: usize)
-    requires at { at < length starts.old.items }
-    requires some { (k : ℕ) → at < k → k < length starts.old.items → 0 < slice_index starts.old.items k }
-    ensures len { length starts.new.items ≡ length starts.old.items }
-    ensures low { (k : ℕ) → k ≤ at → slice_index starts.new.items k ≡ slice_index starts.old.items k }
-    ensures high { (k : ℕ) → at < k → k < length starts.old.items → slice_index starts.new.items k + 1 ≡ slice_index starts.old.items k }
-    ensures capacity { vec_capacity starts.new ≡ vec_capacity starts.old }
-{
-    for k in at + 1..starts.len() {
-        starts[k] -= 1;
+        starts[k] = starts[k] + after - before;
     }
 }
 

@@ -1,38 +1,32 @@
 -- To the next chunk, or to the one before.
-use Rattle.std.proofs.Common.{◌≡◌, ◌+◌, arith, ap, inl, inr}
+use Rattle.std.proofs.Common.{◌≡◌, ◌+◌, ◌∙◌, arith, ap, inl, inr, sym, subst, get_or, get_or-set_other}
 use Rattle.std.proofs.lemmas.List.{get_or_read}
 use Rattle.std.specs.Global.{Vec}
 use Rattle.std.specs.Vec.{vec_len}
+use Rattle.chunk_list.proofs.Given.{given}
 use Rattle.chunk_list.proofs.chunks.give.Goals as goal
 
 pub returns-then-from-to-clause-given : goal.returns-then-from-to-clause-given
 returns-then-from-to-clause-given g c =
-    let old = c.args.chunks.now.items in
-    let q = c.part.ensures.parted in
+    let chunks = c.args.chunks.now.items in
+    let a = c.replace-giver.result in
+    let b = c.index_mut-taker.result.now in
+    let v = c.level.ensures in
     let next : c.args.to ≡ c.args.from + 1 = elim c.requires.beside [ inl up ↦ up | inr down ↦ absurd (omega arith) ] in
-    let held = λ (d : Vec g.row.T.Denot). ap vec_len (get_or_read old c.args.from c.index.result.now c.requires.from c.index.ensures d) in
-    rw next
-    (record {
-      same = q.same;
-      long = q.long;
-      wide = q.wide;
-      from_len = λ d. omega (arith, q.lower d, held d, c.requires.enough d);
-      to_len = λ d. omega (arith, q.upper d, held d, c.requires.enough d);
-      others = q.others;
-    })
+    let a_is : a ≡ get_or chunks c.args.from a = subst (λ (x : Vec g.row.T.Denot). x ≡ get_or chunks c.args.from x) (sym c.replace-giver.ensures.value) c.index_mut.ensures.value in
+    let b_is : b ≡ get_or chunks c.args.to b = c.index_mut-taker.ensures.value ∙ get_or-set_other chunks c.args.from c.args.to c.replace-giver.new.dest b (λ e. omega arith) in
+    let held = ap vec_len (get_or_read chunks c.args.from a c.requires.from a_is a) in
+    given chunks c.args.from c.args.to c.args.count c.replace-giver.new.dest c.level.new.lower c.level.new.upper a b c.requires.from c.requires.to c.requires.wide a_is b_is
+    (omega (arith, v.len, c.len.ensures, held, c.requires.enough a)) (omega (arith, v.both, v.len, c.len.ensures, held, c.requires.enough a)) v.lower_capacity v.upper_capacity (inl (next, v.items))
 
 pub returns-else-from-to-clause-given : goal.returns-else-from-to-clause-given
 returns-else-from-to-clause-given g c =
-    let old = c.args.chunks.now.items in
-    let q = c.part-else-from-to.ensures.parted in
+    let chunks = c.args.chunks.now.items in
+    let a = c.replace-giver.result in
+    let b = c.index_mut-taker.result.now in
+    let v = c.level-else-from-to.ensures in
     let next : c.args.from ≡ c.args.to + 1 = elim c.requires.beside [ inl up ↦ absurd (omega arith) | inr down ↦ down ] in
-    let held = λ (d : Vec g.row.T.Denot). ap vec_len (get_or_read old c.args.to c.index-else-from-to.result.now c.requires.to c.index-else-from-to.ensures d) in
-    rw next
-    (record {
-      same = q.same;
-      long = q.long;
-      wide = q.wide;
-      from_len = λ d. omega (arith, q.upper d, held d);
-      to_len = λ d. omega (arith, q.lower d, held d);
-      others = λ k d ne ne_to. q.others k d ne_to ne;
-    })
+    let a_is : a ≡ get_or chunks c.args.from a = subst (λ (x : Vec g.row.T.Denot). x ≡ get_or chunks c.args.from x) (sym c.replace-giver.ensures.value) c.index_mut.ensures.value in
+    let b_is : b ≡ get_or chunks c.args.to b = c.index_mut-taker.ensures.value ∙ get_or-set_other chunks c.args.from c.args.to c.replace-giver.new.dest b (λ e. omega arith) in
+    given chunks c.args.from c.args.to c.args.count c.replace-giver.new.dest c.level-else-from-to.new.upper c.level-else-from-to.new.lower a b c.requires.from c.requires.to c.requires.wide a_is b_is
+    (omega (arith, v.both, v.len, c.len-else-from-to.ensures)) (omega (arith, v.len, c.len-else-from-to.ensures)) v.upper_capacity v.lower_capacity (inr (next, v.items))

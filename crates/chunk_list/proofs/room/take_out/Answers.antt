@@ -1,43 +1,40 @@
 -- The chunk that the place falls into has given the item.
-use Rattle.std.proofs.Common.{arith, refl, ap}
-use Rattle.std.specs.Vec.{vec_len}
-use Rattle.chunk_list.proofs.Edits.{IsEdit, edited, new_at, same_len, starts_with, take_joined, value_here}
-use Rattle.chunk_list.proofs.Places.{inside, lower_some}
+use Rattle.std.proofs.Common.{get_or, arith, refl, ap}
+use Rattle.std.specs.Vec.{vec_items, vec_len}
+use Rattle.chunk_list.proofs.Edits.{edit, edited, new_at, same_len, starts_with, take_joined, value_here}
+use Rattle.chunk_list.proofs.Pieces.{start_at-later}
+use Rattle.chunk_list.proofs.Places.{some_chunk}
 use Rattle.chunk_list.proofs.room.take_out.Goals as goal
+
+pub locate-at-requires-clause-some : goal.locate-at-requires-clause-some
+locate-at-requires-clause-some g c = some_chunk c.args.chunks.now.items c.args.place c.requires.place
 
 pub remove-item-requires : goal.remove-item-requires
 remove-item-requires g c =
-    let old = c.index_mut-chunk.result.now in
-    omega (
-      arith,
-      inside c.args.chunks.now.items c.args.starts.now.items c.requires.laid_out.starts_are c.args.at c.args.place c.index-start.result.now c.requires.falls c.index-start.ensures c.requires.place old,
-      ap vec_len c.index_mut-chunk.ensures.value,
-    )
+    let old = c.index_mut-chunk.result.now in omega (arith, c.locate-at.ensures.before c.requires.place old, ap vec_len c.index_mut-chunk.ensures.value)
 
-pub lower-requires-clause-some : goal.lower-requires-clause-some
-lower-requires-clause-some g c =
-    lower_some c.args.chunks.now.items c.args.starts.now.items c.requires.laid_out.starts_are c.args.at c.args.place c.index-start.result.now c.requires.falls c.index-start.ensures c.requires.place
-    c.index_mut-chunk.result.now
+-- the later chunks begin behind the item
+pub shift-requires-clause-fits : goal.shift-requires-clause-fits
+shift-requires-clause-fits g c k gt lt =
+    let s = c.requires.laid_out.starts_are in
+    let chunks = c.args.chunks.now.items in
+    let at = c.locate-at.result.0 in
+    let old = c.index_mut-chunk.result.now in
+    (omega (arith, s.begins k (omega (arith, s.as_many)), start_at-later vec_items chunks at k old c.locate-at.ensures.within gt, c.locate-at.ensures.before c.requires.place old, (get_or chunks at old).ok.0), omega arith)
 
 pub returns : goal.returns
 returns g c =
     let l = c.requires.laid_out in
     let old = c.index_mut-chunk.result.now in
-    let e : IsEdit c.args.chunks.now.items c.args.starts.now.items c.args.at c.args.place c.index-start.result.now old c.remove-item.new.self = record {
-      laid_out = l;
-      falls = c.requires.falls;
-      start_is = c.index-start.ensures;
-      old_is = c.index_mut-chunk.ensures.value;
-      capacity = c.remove-item.ensures.capacity;
-    } in
-    let short = l.chunks_are.short c.args.at old (omega (arith, l.starts_are.as_many, c.requires.falls.within)) in
+    let e = edit c.remove-item.new.self l c.locate-at.ensures c.index_mut-chunk.ensures.value c.remove-item.ensures.capacity in
+    let short = l.chunks_are.short c.locate-at.result.0 old c.locate-at.ensures.within in
     record {
       value = value_here e c.requires.place c.remove-item.result c.remove-item.ensures.value;
       items = take_joined e c.requires.place c.remove-item.ensures.items;
       chunks = edited e (omega (arith, c.remove-item.ensures.len, same_len e old, short));
       short = λ d. omega (arith, ap vec_len (new_at e d), c.remove-item.ensures.len, same_len e old, short);
-      starts = starts_with e c.lower.new.starts.items c.lower.ensures.len c.lower.ensures.low (λ k gt lt. omega (arith, c.lower.ensures.high k gt lt, c.remove-item.ensures.len));
+      starts = starts_with e c.shift.new.starts.items c.shift.ensures.len c.shift.ensures.low (λ k gt lt. omega (arith, c.shift.ensures.high k gt lt, c.remove-item.ensures.len));
       len = refl;
       capacity = refl;
-      starts_capacity = c.lower.ensures.capacity;
+      starts_capacity = c.shift.ensures.capacity;
     }

@@ -20,7 +20,7 @@ loop-low-preserved-then-passes g c =
           (at_place (λ x. FnReturnsAt g.F.Fn c.args.passes.now x true) c.args.items.now.items middle c.index.result.now (omega arith) c.index.ensures
           (record { shown = c.index.result; shows = refl; says = record { met = c.if-passes.ensures } }));
       failed = c.loop-low.invariant.failed;
-      looks = subst (λ (n : ℕ). StepsLeft (length c.args.items.now.items) (high - (middle + 1)) c.args.steps.now n) (sym c.tick.ensures)
+      looks = subst (λ (n : ℕ). StepsLeft (length c.args.items.now.items - c.args.known) (high - (middle + 1)) c.args.steps.now n) (sym c.tick.ensures)
           (look _ (high - low) _ _ _ c.loop-low.invariant.looks (omega arith) (omega arith));
     }
 
@@ -36,7 +36,7 @@ loop-low-preserved g c =
       passed = c.loop-low.invariant.passed;
       failed = λ _. at_place (λ x. FnReturnsAt g.F.Fn c.args.passes.now x false) c.args.items.now.items middle c.index.result.now (omega arith) c.index.ensures
           (record { shown = c.index.result; shows = refl; says = record { met = c.if-passes.ensures } });
-      looks = subst (λ (n : ℕ). StepsLeft (length c.args.items.now.items) (middle - low) c.args.steps.now n) (sym c.tick.ensures)
+      looks = subst (λ (n : ℕ). StepsLeft (length c.args.items.now.items - c.args.known) (middle - low) c.args.steps.now n) (sym c.tick.ensures)
           (look _ (high - low) _ _ _ c.loop-low.invariant.looks (omega arith) (omega arith));
     }
 

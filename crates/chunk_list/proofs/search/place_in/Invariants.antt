@@ -11,7 +11,7 @@ invariant-loop-low g l = record {
   within : l.high ≤ length l.items.items;
   passed : l.known < l.low → HoldsAt (λ x. FnReturnsAt g.F.Fn l.passes x true) l.items.items (l.low - 1);
   failed : l.high < length l.items.items → HoldsAt (λ x. FnReturnsAt g.F.Fn l.passes x false) l.items.items l.high;
-  looks : StepsLeft (length l.items.items) (l.high - l.low) l.fn.steps l.steps;
+  looks : StepsLeft (length l.items.items - l.known) (l.high - l.low) l.fn.steps l.steps;
 }
 
 abbrev pub decreases-loop-low : goal.decreases-loop-low

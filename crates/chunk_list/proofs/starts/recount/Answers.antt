@@ -15,14 +15,8 @@ pub overflow_add-place : goal.overflow_add-place
 overflow_add-place g c =
     let chunk = c.index.result.now in
     let chunks = c.args.chunks.now in
-    omega (
-      arith,
-      c.loop-k.invariant.place,
-      ap vec_len c.index.ensures,
-      (get_or chunks.items c.loop-k.k chunk).ok.0,
-      start_at-inside vec_items chunks.items c.loop-k.k chunk (omega (arith, chunks.ok.0)),
-      c.requires.fits,
-    )
+    let inside = start_at-inside vec_items chunks.items c.loop-k.k chunk (omega (arith, chunks.ok.0)) in
+    omega (arith, c.loop-k.invariant.place, ap vec_len c.index.ensures, (get_or chunks.items c.loop-k.k chunk).ok.0, inside, c.requires.fits)
 
 pub loop-k-preserved : goal.loop-k-preserved
 loop-k-preserved g c =
