@@ -32,10 +32,6 @@ impl Both {
         }
     }
 
-    fn is_place(&self, place: usize) -> bool {
-        place < self.list.len() && place < self.plain.len()
-    }
-
     // Where there is room for it.
     fn insert(&mut self, place: usize, item: u64) -> Result<(), Fail> {
         if self.list.room() > 0 && place <= self.list.len() && place <= self.plain.len() {
@@ -47,12 +43,15 @@ impl Both {
 
     // Whether both gave the same item.
     fn remove(&mut self, place: usize) -> bool {
-        self.is_place(place) && self.list.remove(place) == self.plain.remove(place)
+        if place >= self.list.len() || place >= self.plain.len() {
+            return false;
+        }
+        self.list.remove(place) == self.plain.remove(place)
     }
 
     // Whether both gave the same item.
     fn replace(&mut self, place: usize, item: u64) -> bool {
-        if !self.is_place(place) {
+        if place >= self.list.len() || place >= self.plain.len() {
             return false;
         }
         let old = self.plain[place];
@@ -83,7 +82,8 @@ impl Both {
             self.list.reserve(1 + (item % 23) as usize)?;
             self.insert(if item % 7 == 6 { end } else { place }, item)?;
             if item % 3 == 2 {
-                agree &= self.remove(random.below(self.plain.len()));
+                let place = random.below(self.plain.len());
+                agree &= self.remove(place);
             }
             if item % 5 == 4 {
                 let place = random.below(self.plain.len());
@@ -101,7 +101,8 @@ impl Both {
         let mut random = Random(0x2545_f491_4f6c_dd1d);
         let mut agree = true;
         for round in left..self.plain.len() {
-            agree &= self.remove(random.below(self.plain.len()));
+            let place = random.below(self.plain.len());
+            agree &= self.remove(place);
             if round % 5000 == 0 {
                 agree &= self.agree();
             }
