@@ -8,7 +8,7 @@ use u1_base::{Memory, Position, ReplicaUid};
 pub enum PosTable {
     /// The place up to which this replica knows the peer's log.
     Known,
-    /// The place up to which the peer told that it knows this replica's log.
+    /// The place in the peer's own log up to which the peer has told this replica of it.
     Told,
 }
 
