@@ -2,24 +2,22 @@
 use Rattle.std.proofs.Common.{◌≡◌, ℕ, ◌+◌, ◌<◌, ◌≤◌, List, ◌++◌, length, get_or, set, refl, sym, subst, ◌∙◌, ap, arith, inl, inr, get_or-set_same, get_or-set_other}
 use Rattle.std.proofs.lemmas.Bool.{cases_lt, cases_eq}
 use Rattle.std.proofs.lemmas.List.{get_or_read, length-set, set-append_left, set-append_right}
+use Rattle.std.proofs.lemmas.List.Concat.{get_or-flat_map}
+use Rattle.std.proofs.lemmas.List.Elements.{All-set}
 use Rattle.std.proofs.lemmas.List.Edits.{insert-append_left, insert-append_right, remove-append_left, remove-append_right}
 use Rattle.std.specs.Global.{Vec}
 use Rattle.std.specs.Vec.{vec_items, vec_len, vec_capacity}
 use Rattle.std.specs.List.{insert, remove}
-use Rattle.chunk_list.specs.Chunks.{joined, full, AreChunks, AreChunksBut, AreLaidOut, AreStarts, IsAt, IsWide}
-use Rattle.chunk_list.proofs.Pieces.{start_at-set_low, start_at-set_high, edit-joined, get_or-joined}
+use Rattle.chunk_list.specs.Chunks.{joined, full, AreChunks, AreChunksBut, AreLaidOut, AreStarts, IsAt, IsHeld, IsWide}
+use Rattle.chunk_list.proofs.Pieces.{start_at-set_low, start_at-set_high, edit-joined}
 
 -- the chunk that was left out is like the others
-pub settled : {T : Type 0} (chunks : List (Vec T)) (at : ℕ) → AreChunksBut chunks at → ((d : Vec T) → vec_len (get_or chunks at d) ≤ full) → (0 < at → (d : Vec T) → 0 < vec_len (get_or chunks at d)) → AreChunks chunks
-settled chunks at b short some = record {
+pub settled : {T : Type 0} (chunks : List (Vec T)) (at : ℕ) → AreChunksBut chunks at → ((d : Vec T) → IsHeld at (get_or chunks at d)) → AreChunks chunks
+settled chunks at b here = record {
   wide = b.wide;
-  short = λ k d lt. elim (cases_eq k at) [
-    | inl e ↦ subst (λ (m : ℕ). vec_len (get_or chunks m d) ≤ full) (sym e) (short d)
-    | inr ne ↦ b.short k d lt ne
-  ];
-  held = λ k d more lt. elim (cases_eq k at) [
-    | inl e ↦ subst (λ (m : ℕ). 0 < vec_len (get_or chunks m d)) (sym e) (some (omega arith) d)
-    | inr ne ↦ b.held k d more lt ne
+  held = λ k d lt. elim (cases_eq k at) [
+    | inl e ↦ subst (λ (m : ℕ). IsHeld m (get_or chunks m d)) (sym e) (here d)
+    | inr ne ↦ b.others k d lt ne
   ];
 }
 
@@ -50,21 +48,12 @@ module _ {T : Type 0} {chunks : List (Vec T)} {starts : List ℕ} {p i inside : 
   same_items : vec_items old ≡ vec_items (get_or chunks i old)
   same_items = ap vec_items e.old_is
 
-  other : (k : ℕ) (d : Vec T) → (k ≡ i → ⊥) → get_or (set chunks i new) k d ≡ get_or chunks k d
-  other k d ne = get_or-set_other chunks i k new d ne
-
   pub edited : vec_len new ≤ full + 1 → AreChunksBut (set chunks i new) i
   edited fits = record {
     within = omega (arith, there, length-set chunks i new);
-    wide = λ k d lt. elim (cases_eq k i) [
-      | inl same ↦
-          subst (λ (m : ℕ). IsWide (get_or (set chunks i new) m d)) (sym same)
-          (omega (arith, ap vec_capacity (new_at d), e.capacity, ap vec_capacity e.old_is, l.chunks_are.wide i old there))
-      | inr ne ↦ subst IsWide (sym (other k d ne)) (l.chunks_are.wide k d (omega (arith, length-set chunks i new)))
-    ];
+    wide = All-set IsWide chunks i new (omega (arith, e.capacity, ap vec_capacity e.old_is, l.chunks_are.wide i old there)) l.chunks_are.wide;
     top = λ d. omega (arith, ap vec_len (new_at d));
-    short = λ k d lt ne. omega (arith, ap vec_len (other k d ne), l.chunks_are.short k d (omega (arith, length-set chunks i new)));
-    held = λ k d more lt ne. omega (arith, ap vec_len (other k d ne), l.chunks_are.held k d more (omega (arith, length-set chunks i new)));
+    others = λ k d lt ne. subst (IsHeld k) (sym (get_or-set_other chunks i k new d ne)) (l.chunks_are.held k d (omega (arith, length-set chunks i new)));
   }
 
   -- the later starts move as far as the chunk is longer or shorter
@@ -101,7 +90,7 @@ module _ {T : Type 0} {chunks : List (Vec T)} {starts : List ℕ} {p i inside : 
 
     pub value_here : (x : T) → x ≡ get_or (vec_items old) inside x → x ≡ get_or (joined chunks) p x
     value_here x is =
-        is ∙ ap (λ (xs : List T). get_or xs inside x) same_items ∙ get_or-joined vec_items chunks i inside old x there (omega (arith, held, ap length same_items))
+        is ∙ ap (λ (xs : List T). get_or xs inside x) same_items ∙ sym (get_or-flat_map vec_items chunks i inside old x there (omega (arith, held, ap length same_items)))
         ∙ ap (λ (n : ℕ). get_or (joined chunks) n x) e.is_at.is
 
     pub take_joined : vec_items new ≡ remove (vec_items old) inside → joined (set chunks i new) ≡ remove (joined chunks) p

@@ -1,10 +1,11 @@
 -- Items moved between two chunks that stand side by side.
 use Rattle.std.proofs.Common.{◌≡◌, ℕ, ◌+◌, ◌<◌, ◌⊎◌, List, ◌++◌, length, get_or, set, suc, sym, subst, ◌∙◌, ap, arith, add-one, inl, inr, get_or-set_same, get_or-set_other}
-use Rattle.std.proofs.lemmas.Bool.{cases_eq}
 use Rattle.std.proofs.lemmas.List.{get_or_read, length-set, set_comm, set-set}
+use Rattle.std.proofs.lemmas.List.Elements.{All-set}
+use Rattle.std.specs.List.{All}
 use Rattle.std.specs.Global.{Vec}
 use Rattle.std.specs.Vec.{vec_items, vec_len, vec_capacity}
-use Rattle.chunk_list.specs.Chunks.{joined, Each, IsWide}
+use Rattle.chunk_list.specs.Chunks.{joined, IsWide}
 use Rattle.chunk_list.specs.Edits.{IsGiven}
 use Rattle.chunk_list.proofs.Pieces.{parted-joined}
 
@@ -17,7 +18,7 @@ same_joined chunks i lower upper a b within a_is b_is items =
     ∙ parted-joined vec_items chunks i lower upper a (omega arith)
     (items ∙ ap (λ (v : Vec _). vec_items v ++ vec_items b) a_is ∙ ap (λ (v : Vec _). vec_items (get_or chunks i a) ++ vec_items v) (sym same_b))
 
-module _ {T : Type 0} (chunks : List (Vec T)) (from to count : ℕ) (hole giver taker a b : Vec T) (within : from < length chunks) (within_to : to < length chunks) (all : Each IsWide chunks)
+module _ {T : Type 0} (chunks : List (Vec T)) (from to count : ℕ) (hole giver taker a b : Vec T) (within : from < length chunks) (within_to : to < length chunks) (all : All IsWide chunks)
     (a_is : a ≡ get_or chunks from a) (b_is : b ≡ get_or chunks to b) (giver_len : vec_len giver + count ≡ vec_len a) (taker_len : vec_len taker ≡ vec_len b + count)
     (giver_capacity : vec_capacity giver ≡ vec_capacity a) (taker_capacity : vec_capacity taker ≡ vec_capacity b)
     (beside : ((to ≡ from + 1) × (vec_items giver ++ vec_items taker ≡ vec_items a ++ vec_items b)) ⊎ ((from ≡ to + 1) × (vec_items taker ++ vec_items giver ≡ vec_items b ++ vec_items a)))
@@ -58,13 +59,9 @@ module _ {T : Type 0} (chunks : List (Vec T)) (from to count : ℕ) (hole giver 
         (record {
           same = same;
           long = long;
-          wide = λ k d lt. elim (cases_eq k from) [
-            | inl e ↦ subst (λ (m : ℕ). IsWide (get_or new m d)) (sym e) (omega (arith, ap vec_capacity (at_from d), ap vec_capacity a_is, all from a within))
-            | inr ne ↦ elim (cases_eq k to) [
-              | inl e ↦ subst (λ (m : ℕ). IsWide (get_or new m d)) (sym e) (omega (arith, ap vec_capacity (at_to d), ap vec_capacity b_is, all to b within_to))
-              | inr ne_to ↦ subst IsWide (sym (others k d ne ne_to)) (all k d (omega (arith, long)))
-            ]
-          ];
+          wide =
+              All-set IsWide (set chunks to taker) from giver (omega (arith, giver_capacity, ap vec_capacity a_is, all from a within))
+              (All-set IsWide chunks to taker (omega (arith, taker_capacity, ap vec_capacity b_is, all to b within_to)) all);
           from_len = λ d. omega (arith, ap vec_len (at_from d), ap vec_len (get_or_read chunks from a within a_is d));
           to_len = λ d. omega (arith, ap vec_len (at_to d), ap vec_len (get_or_read chunks to b within_to b_is d));
           others = others;

@@ -1,47 +1,29 @@
 -- A list that is joined from pieces: where each piece begins, and what a change in one piece does to the whole.
-use Rattle.std.proofs.Common.{◌≡◌, ℕ, ◌+◌, ◌*◌, ◌<◌, ◌≤◌, List, [], ◌∷◌, ◌++◌, length, get_or, set, zero, suc, refl, sym, ◌∙◌, ap, arith, append_assoc, length-append}
-use Rattle.std.proofs.lemmas.List.{get_or-append-add, get_or_append_left}
+use Rattle.std.proofs.Common.{◌≡◌, ℕ, ◌+◌, ◌*◌, ◌<◌, ◌≤◌, List, [], ◌∷◌, ◌++◌, length, get_or, set, take, zero, suc, sym, ◌∙◌, ap, arith, append_assoc, length-append}
+use Rattle.std.proofs.Math.Seq.{take-set-lt}
+use Rattle.std.proofs.lemmas.List.{get_or-take, length-take, take-set-le, take-take, take_all}
+use Rattle.std.proofs.lemmas.List.Concat.{length-flat_map}
+use Rattle.std.proofs.lemmas.List.Folds.{length-flat_map-take}
+use Rattle.std.proofs.lemmas.List.Sums.{sum_by-set, sum_by-take-le, sum_by_more}
 use Rattle.std.specs.List.{flat_map, insert, remove}
 use Rattle.chunk_list.specs.Chunks.{start_at}
 
 module _ {X T : Type 0} (f : X → List T) where
-  pub start_at-first : (xs : List X) → start_at f xs 0 ≡ 0
-  start_at-first [] = refl
-  start_at-first (x ∷ xs) = refl
-
   pub start_at-end : (xs : List X) (n : ℕ) → n ≡ length xs → start_at f xs n ≡ length (flat_map f xs)
-  start_at-end [] n e = refl
-  start_at-end (x ∷ xs) zero e = absurd (omega arith)
-  start_at-end (x ∷ xs) (suc n) e = omega (arith, start_at-end xs n (omega arith), length-append (f x) (flat_map f xs))
+  start_at-end xs n e = ap (λ (l : List X). length (flat_map f l)) (take_all n xs (omega arith))
 
-  pub start_at-next : (xs : List X) (k : ℕ) (d : X) → k < length xs → start_at f xs (suc k) ≡ start_at f xs k + length (f (get_or xs k d))
-  start_at-next [] k d lt = absurd (omega arith)
-  start_at-next (x ∷ xs) zero d lt = omega (arith, start_at-first xs)
-  start_at-next (x ∷ xs) (suc k) d lt = omega (arith, start_at-next xs k d (omega arith))
+  pub start_at-next : (xs : List X) (k : ℕ) (d : X) → k < length xs → start_at f xs (k + 1) ≡ start_at f xs k + length (f (get_or xs k d))
+  start_at-next xs k d lt =
+      omega (arith, sum_by_more (λ x. length (f x)) xs k d lt, length-flat_map f (take k xs), length-flat_map f (take (k + 1) xs))
 
   -- all pieces begin inside the whole, and later ones later
   pub start_at-most : (xs : List X) (k : ℕ) → start_at f xs k ≤ length (flat_map f xs)
-  start_at-most [] k = omega arith
-  start_at-most (x ∷ xs) zero = omega arith
-  start_at-most (x ∷ xs) (suc k) = omega (arith, start_at-most xs k, length-append (f x) (flat_map f xs))
+  start_at-most xs k = omega (arith, sum_by-take-le (λ x. length (f x)) xs k, length-flat_map f (take k xs), length-flat_map f xs)
 
   pub start_at-later : (xs : List X) (i k : ℕ) (d : X) → i < length xs → i < k → start_at f xs i + length (f (get_or xs i d)) ≤ start_at f xs k
-  start_at-later [] i k d lt gt = absurd (omega arith)
-  start_at-later (x ∷ xs) i zero d lt gt = absurd (omega arith)
-  start_at-later (x ∷ xs) zero (suc k) d lt gt = omega arith
-  start_at-later (x ∷ xs) (suc i) (suc k) d lt gt = omega (arith, start_at-later xs i k d (omega arith) (omega arith))
-
-  pub start_at-inside : (xs : List X) (k : ℕ) (d : X) → k < length xs → start_at f xs k + length (f (get_or xs k d)) ≤ length (flat_map f xs)
-  start_at-inside xs k d lt = omega (arith, start_at-next xs k d lt, start_at-most xs (suc k))
-
-  -- the item at a place of a piece
-  pub get_or-joined : (xs : List X) (i j : ℕ) (d : X) (e : T) → i < length xs → j < length (f (get_or xs i d)) → get_or (f (get_or xs i d)) j e ≡ get_or (flat_map f xs) (start_at f xs i + j) e
-  get_or-joined [] i j d e lt inside = absurd (omega arith)
-  get_or-joined (x ∷ xs) zero j d e lt inside =
-      sym (get_or_append_left (f x) (flat_map f xs) e j inside) ∙ ap (λ (n : ℕ). get_or (f x ++ flat_map f xs) n e) (omega arith)
-  get_or-joined (x ∷ xs) (suc i) j d e lt inside =
-      get_or-joined xs i j d e (omega arith) inside ∙ sym (get_or-append-add (f x) (flat_map f xs) (start_at f xs i + j) e)
-      ∙ ap (λ (n : ℕ). get_or (f x ++ flat_map f xs) n e) (omega arith)
+  start_at-later xs i k d lt gt =
+      let inside = length-flat_map-take f (take k xs) i d (omega (arith, length-take k xs)) in
+      omega (arith, inside, ap (λ (l : List X). length (flat_map f l)) (take-take i k xs (omega arith)), ap (λ (x : X). length (f x)) (get_or-take k xs i d gt))
 
   -- an edit at a place of one piece is that edit of the whole, where it is one of either part of two lists that are joined
   module _ (E : List T → ℕ → List T) (W : ℕ → ℕ → Type 0) (left : (xs ys : List T) (p : ℕ) → W p (length xs) → E (xs ++ ys) p ≡ E xs p ++ ys)
@@ -52,20 +34,18 @@ module _ {X T : Type 0} (f : X → List T) where
       edit-joined (y ∷ xs) zero p c d lt inside is =
           ap (λ (l : List T). l ++ flat_map f xs) is ∙ sym (left (f y) (flat_map f xs) p inside) ∙ ap (E (f y ++ flat_map f xs)) (omega arith)
       edit-joined (y ∷ xs) (suc i) p c d lt inside is =
-          ap (λ (l : List T). f y ++ l) (edit-joined xs i p c d (omega arith) inside is) ∙ sym (right (f y) (flat_map f xs) (start_at f xs i + p)) ∙ ap (E (f y ++ flat_map f xs)) (omega arith)
+          ap (λ (l : List T). f y ++ l) (edit-joined xs i p c d (omega arith) inside is) ∙ sym (right (f y) (flat_map f xs) (start_at f xs i + p))
+          ∙ ap (E (f y ++ flat_map f xs)) (omega (arith, length-append (f y) (flat_map f (take i xs))))
 
   -- one piece changed: those up to it begin where they did, and the later ones as much later as it is longer
   pub start_at-set_low : (xs : List X) (i k : ℕ) (c : X) → k ≤ i → start_at f (set xs i c) k ≡ start_at f xs k
-  start_at-set_low [] i k c le = refl
-  start_at-set_low (y ∷ xs) i zero c le = start_at-first (set (y ∷ xs) i c)
-  start_at-set_low (y ∷ xs) zero (suc k) c le = absurd (omega arith)
-  start_at-set_low (y ∷ xs) (suc i) (suc k) c le = ap (λ (n : ℕ). length (f y) + n) (start_at-set_low xs i k c (omega arith))
+  start_at-set_low xs i k c le = ap (λ (l : List X). length (flat_map f l)) (take-set-le k xs i c le)
 
   pub start_at-set_high : (xs : List X) (i k : ℕ) (c d : X) → i < length xs → i < k → start_at f (set xs i c) k + length (f (get_or xs i d)) ≡ start_at f xs k + length (f c)
-  start_at-set_high [] i k c d lt gt = absurd (omega arith)
-  start_at-set_high (y ∷ xs) i zero c d lt gt = absurd (omega arith)
-  start_at-set_high (y ∷ xs) zero (suc k) c d lt gt = omega arith
-  start_at-set_high (y ∷ xs) (suc i) (suc k) c d lt gt = omega (arith, start_at-set_high xs i k c d (omega arith) (omega arith))
+  start_at-set_high xs i k c d lt gt =
+      let sums = sum_by-set (λ x. length (f x)) (take k xs) i c d (omega (arith, length-take k xs)) in
+      let same = ap (λ (x : X). length (f x)) (get_or-take k xs i d gt) in
+      omega (arith, sums, same, ap (λ (l : List X). length (flat_map f l)) (take-set-lt k xs i c gt), length-flat_map f (set (take k xs) i c), length-flat_map f (take k xs))
 
   -- two pieces side by side that hold the same as before
   pub parted-joined : (xs : List X) (i : ℕ) (lower upper d : X) → suc i < length xs → f lower ++ f upper ≡ f (get_or xs i d) ++ f (get_or xs (suc i) d)

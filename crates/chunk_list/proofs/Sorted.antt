@@ -54,23 +54,12 @@ module _ {K V : Type 0} (R : K → K → Ordering) (o : IsTotalOrder R) where
   rest_before k e es zero less lt = absurd (omega arith)
   rest_before k e es (suc q) less lt = subst (HoldsAt (λ (y : K × V). R y.0 k ≡ Less) es) (omega arith) (λ d. less d)
 
-  put_new : (k : K) (v : V) (es : List (K × V)) (q : ℕ) → IsTrue (is_sorted R es) → q ≤ length es → (0 < q → HoldsAt (λ e. R e.0 k ≡ Less) es (q - 1)) → (q < length es → HoldsAt (λ e. R k e.0 ≡ Less) es q)
-      → (put R k v es ≡ insert es q (k, v)) × (find R k es ≡ None)
-  put_new k v [] zero p le before after = (refl, refl)
-  put_new k v [] (suc q) p le before after = absurd (omega arith)
-  put_new k v (e ∷ es) zero p le before after =
-      let less : R k e.0 ≡ Less = after (omega arith) e in (
-        ap (λ (r : Ordering). by_order r ((k, v) ∷ e ∷ es) ((e.0, v) ∷ es) (e ∷ put R k v es)) less,
-        ap (λ (r : Ordering). cond (is_eq r) (Some e.1) (find R k es)) less ∙ find_below k es (below_more k e.0 es less (and_parts _ _ p).0),
-      )
-  put_new k v (e ∷ es) (suc q) p le before after =
-      let here : HoldsAt (λ (y : K × V). R y.0 k ≡ Less) (e ∷ es) q = subst (HoldsAt (λ (y : K × V). R y.0 k ≡ Less) (e ∷ es)) (omega arith) (before (omega arith)) in
-      let big : R k e.0 ≡ Greater = greater R o k e.0 (first_below k e es q (and_parts _ _ p).0 (omega arith) here) in
-      let rest : (put R k v es ≡ insert es q (k, v)) × (find R k es ≡ None) =
-      put_new k v es q (and_parts _ _ p).1 (omega arith) (rest_before k e es q here) (λ (lt : q < length es). λ d. after (omega arith) d) in (
-        ap (λ (r : Ordering). by_order r ((k, v) ∷ e ∷ es) ((e.0, v) ∷ es) (e ∷ put R k v es)) big ∙ ap (λ (l : List (K × V)). e ∷ l) rest.0,
-        ap (λ (r : Ordering). cond (is_eq r) (Some e.1) (find R k es)) big ∙ rest.1,
-      )
+  -- behind the first entry, which is below the key, the key would stand one place earlier
+  fits_rest : (k : K) (e : K × V) (es : List (K × V)) (q : ℕ) → IsTrue (is_sorted R (e ∷ es)) → FitsAt R (e ∷ es) k (suc q) → (R k e.0 ≡ Greater) × FitsAt R es k q
+  fits_rest k e es q p f =
+      let here : HoldsAt (λ (y : K × V). R y.0 k ≡ Less) (e ∷ es) q = subst (HoldsAt (λ (y : K × V). R y.0 k ≡ Less) (e ∷ es)) (omega arith) (f.before (omega arith)) in
+      let within : q ≤ length es = omega (arith, f.within) in
+      (greater R o k e.0 (first_below k e es q (and_parts _ _ p).0 within here), record { within = within; before = rest_before k e es q here; after = λ less d. f.after (omega arith) d })
 
   -- nothing goes where the key is not found
   where_none : (k : K) (es : List (K × V)) → find R k es ≡ None → where_key R (λ x. not (eq_by_cmp R k x)) es ≡ es
@@ -94,54 +83,58 @@ module _ {K V : Type 0} (R : K → K → Ordering) (o : IsTotalOrder R) where
   }
 
   -- the key is not there
-  module _ (k : K) (es : List (K × V)) (q : ℕ) (p : IsTrue (is_sorted R es)) (f : FitsAt R es k q) where
-    pub put_fits : (v : V) → put R k v es ≡ insert es q (k, v)
-    put_fits v = (put_new k v es q p f.within f.before f.after).0
+  pub put_fits : (k : K) (es : List (K × V)) (q : ℕ) → IsTrue (is_sorted R es) → FitsAt R es k q → (v : V) → put R k v es ≡ insert es q (k, v)
+  put_fits k [] zero p f v = refl
+  put_fits k [] (suc q) p f v = absurd (omega (arith, f.within))
+  put_fits k (e ∷ es) zero p f v = ap (λ (r : Ordering). by_order r ((k, v) ∷ e ∷ es) ((e.0, v) ∷ es) (e ∷ put R k v es)) (f.after (omega arith) e)
+  put_fits k (e ∷ es) (suc q) p f v =
+      let rest = fits_rest k e es q p f in
+      ap (λ (r : Ordering). by_order r ((k, v) ∷ e ∷ es) ((e.0, v) ∷ es) (e ∷ put R k v es)) rest.0
+      ∙ ap (λ (l : List (K × V)). e ∷ l) (put_fits k es q (and_parts _ _ p).1 rest.1 v)
 
-    pub find_fits : find R k es ≡ None
-    find_fits = find_nothing es p f
-      where
-        find_nothing : (xs : List (K × V)) → IsTrue (is_sorted R xs) → FitsAt R xs k q → find R k xs ≡ None
-        find_nothing [] s g = refl
-        find_nothing (e ∷ xs) s g = (put_new k e.1 (e ∷ xs) q s g.within g.before g.after).1
+  pub find_fits : (k : K) (es : List (K × V)) (q : ℕ) → IsTrue (is_sorted R es) → FitsAt R es k q → find R k es ≡ None
+  find_fits k [] q p f = refl
+  find_fits k (e ∷ es) zero p f =
+      let less : R k e.0 ≡ Less = f.after (omega arith) e in
+      ap (λ (r : Ordering). cond (is_eq r) (Some e.1) (find R k es)) less ∙ find_below k es (below_more k e.0 es less (and_parts _ _ p).0)
+  find_fits k (e ∷ es) (suc q) p f =
+      let rest = fits_rest k e es q p f in
+      ap (λ (r : Ordering). cond (is_eq r) (Some e.1) (find R k es)) rest.0 ∙ find_fits k es q (and_parts _ _ p).1 rest.1
 
-    pub where_fits : where_key R (λ x. not (eq_by_cmp R k x)) es ≡ es
-    where_fits = where_none k es find_fits
+  pub where_fits : (k : K) (es : List (K × V)) (q : ℕ) → IsTrue (is_sorted R es) → FitsAt R es k q → where_key R (λ x. not (eq_by_cmp R k x)) es ≡ es
+  where_fits k es q p f = where_none k es (find_fits k es q p f)
 
   -- the key stands there; keys that tie are the same
   module _ (same : (x y : K) → R x y ≡ Equal → x ≡ y) where
-    put_there : (k : K) (v : V) (es : List (K × V)) (q : ℕ) (w : K × V) → IsTrue (is_sorted R es) → q < length es → HoldsAt (λ e. R k e.0 ≡ Equal) es q → w ≡ get_or es q w
-        → (put R k v es ≡ set es q (k, v)) × (find R k es ≡ Some w.1)
-    put_there k v [] q w p lt at is = absurd (omega arith)
-    put_there k v (e ∷ es) zero w p lt at is = (
-      ap (λ (r : Ordering). by_order r ((k, v) ∷ e ∷ es) ((e.0, v) ∷ es) (e ∷ put R k v es)) (at e) ∙ ap (λ (x : K). (x, v) ∷ es) (sym (same _ _ (at e))),
-      ap (λ (r : Ordering). cond (is_eq r) (Some e.1) (find R k es)) (at e) ∙ ap (λ (y : K × V). Some y.1) (sym is),
-    )
-    put_there k v (e ∷ es) (suc q) w p lt at is =
-        let less : R e.0 (get_or es q e).0 ≡ Less = above e.0 es q e (and_parts _ _ p).0 (omega arith) in
-        let big : R k e.0 ≡ Greater = greater R o k e.0 (subst (λ (x : K). R e.0 x ≡ Less) (sym (same _ _ (at e))) less) in
-        let rest : (put R k v es ≡ set es q (k, v)) × (find R k es ≡ Some w.1) = put_there k v es q w (and_parts _ _ p).1 (omega arith) (λ d. at d) is in (
-          ap (λ (r : Ordering). by_order r ((k, v) ∷ e ∷ es) ((e.0, v) ∷ es) (e ∷ put R k v es)) big ∙ ap (λ (l : List (K × V)). e ∷ l) rest.0,
-          ap (λ (r : Ordering). cond (is_eq r) (Some e.1) (find R k es)) big ∙ rest.1,
-        )
+    -- behind the first entry it stands one place earlier
+    stands_rest : (k : K) (e : K × V) (es : List (K × V)) (q : ℕ) → IsTrue (is_sorted R (e ∷ es)) → StandsAt R (e ∷ es) k (suc q) → (R k e.0 ≡ Greater) × StandsAt R es k q
+    stands_rest k e es q p s =
+        let within : q < length es = omega (arith, s.within) in
+        let less : R e.0 (get_or es q e).0 ≡ Less = above e.0 es q e (and_parts _ _ p).0 within in
+        (greater R o k e.0 (subst (λ (x : K). R e.0 x ≡ Less) (sym (same _ _ (s.same e))) less), record { within = within; same = λ d. s.same d })
 
-    where_there : (k : K) (es : List (K × V)) (q : ℕ) → IsTrue (is_sorted R es) → q < length es → HoldsAt (λ e. R k e.0 ≡ Equal) es q → where_key R (λ x. not (eq_by_cmp R k x)) es ≡ remove es q
-    where_there k [] q p lt at = absurd (omega arith)
-    where_there k (e ∷ es) zero p lt at =
-        let none : find R k es ≡ None = find_below k es (subst (λ (x : K). IsTrue (below_all R x es)) (sym (same _ _ (at e))) (and_parts _ _ p).0) in
-        ap (λ (r : Ordering). cond (not (is_eq r)) (e ∷ where_key R (λ x. not (eq_by_cmp R k x)) es) (where_key R (λ x. not (eq_by_cmp R k x)) es)) (at e) ∙ where_none k es none
-    where_there k (e ∷ es) (suc q) p lt at =
-        let less : R e.0 (get_or es q e).0 ≡ Less = above e.0 es q e (and_parts _ _ p).0 (omega arith) in
-        let big : R k e.0 ≡ Greater = greater R o k e.0 (subst (λ (x : K). R e.0 x ≡ Less) (sym (same _ _ (at e))) less) in
-        ap (λ (r : Ordering). cond (not (is_eq r)) (e ∷ where_key R (λ x. not (eq_by_cmp R k x)) es) (where_key R (λ x. not (eq_by_cmp R k x)) es)) big
-        ∙ ap (λ (l : List (K × V)). e ∷ l) (where_there k es q (and_parts _ _ p).1 (omega arith) (λ d. at d))
+    pub find_stands : (k : K) (es : List (K × V)) (q : ℕ) → IsTrue (is_sorted R es) → StandsAt R es k q → (w : K × V) → w ≡ get_or es q w → find R k es ≡ Some w.1
+    find_stands k [] q p s w is = absurd (omega (arith, s.within))
+    find_stands k (e ∷ es) zero p s w is = ap (λ (r : Ordering). cond (is_eq r) (Some e.1) (find R k es)) (s.same e) ∙ ap (λ (y : K × V). Some y.1) (sym is)
+    find_stands k (e ∷ es) (suc q) p s w is =
+        let rest = stands_rest k e es q p s in
+        ap (λ (r : Ordering). cond (is_eq r) (Some e.1) (find R k es)) rest.0 ∙ find_stands k es q (and_parts _ _ p).1 rest.1 w is
 
-    module _ (k : K) (es : List (K × V)) (q : ℕ) (p : IsTrue (is_sorted R es)) (s : StandsAt R es k q) where
-      pub find_stands : (w : K × V) → w ≡ get_or es q w → find R k es ≡ Some w.1
-      find_stands w is = (put_there k w.1 es q w p s.within s.same is).1
+    pub put_stands : (k : K) (es : List (K × V)) (q : ℕ) → IsTrue (is_sorted R es) → StandsAt R es k q → (v : V) (w : K × V) → w ≡ get_or es q w → put R k v es ≡ set es q (k, v)
+    put_stands k [] q p s v w is = absurd (omega (arith, s.within))
+    put_stands k (e ∷ es) zero p s v w is =
+        ap (λ (r : Ordering). by_order r ((k, v) ∷ e ∷ es) ((e.0, v) ∷ es) (e ∷ put R k v es)) (s.same e) ∙ ap (λ (x : K). (x, v) ∷ es) (sym (same _ _ (s.same e)))
+    put_stands k (e ∷ es) (suc q) p s v w is =
+        let rest = stands_rest k e es q p s in
+        ap (λ (r : Ordering). by_order r ((k, v) ∷ e ∷ es) ((e.0, v) ∷ es) (e ∷ put R k v es)) rest.0
+        ∙ ap (λ (l : List (K × V)). e ∷ l) (put_stands k es q (and_parts _ _ p).1 rest.1 v w is)
 
-      pub where_stands : where_key R (λ x. not (eq_by_cmp R k x)) es ≡ remove es q
-      where_stands = where_there k es q p s.within s.same
-
-      pub put_stands : (v : V) (w : K × V) → w ≡ get_or es q w → put R k v es ≡ set es q (k, v)
-      put_stands v w is = (put_there k v es q w p s.within s.same is).0
+    pub where_stands : (k : K) (es : List (K × V)) (q : ℕ) → IsTrue (is_sorted R es) → StandsAt R es k q → where_key R (λ x. not (eq_by_cmp R k x)) es ≡ remove es q
+    where_stands k [] q p s = absurd (omega (arith, s.within))
+    where_stands k (e ∷ es) zero p s =
+        let none : find R k es ≡ None = find_below k es (subst (λ (x : K). IsTrue (below_all R x es)) (sym (same _ _ (s.same e))) (and_parts _ _ p).0) in
+        ap (λ (r : Ordering). cond (not (is_eq r)) (e ∷ where_key R (λ x. not (eq_by_cmp R k x)) es) (where_key R (λ x. not (eq_by_cmp R k x)) es)) (s.same e) ∙ where_none k es none
+    where_stands k (e ∷ es) (suc q) p s =
+        let rest = stands_rest k e es q p s in
+        ap (λ (r : Ordering). cond (not (is_eq r)) (e ∷ where_key R (λ x. not (eq_by_cmp R k x)) es) (where_key R (λ x. not (eq_by_cmp R k x)) es)) rest.0
+        ∙ ap (λ (l : List (K × V)). e ∷ l) (where_stands k es q (and_parts _ _ p).1 rest.1)

@@ -1,6 +1,6 @@
 -- The chunks behind a list, one after another, and the spare ones beside them.
-use Rattle.std.specs.Prelude.{◌≡◌, ℕ, ◌+◌, ◌*◌, ◌^◌, ◌<◌, ◌≤◌, List, [], ◌∷◌, length, zero, suc, slice_index, slice_index_or, vec_len, vec_capacity}
-use Rattle.std.specs.List.{flat_map}
+use Rattle.std.specs.Prelude.{◌≡◌, ℕ, ◌+◌, ◌*◌, ◌^◌, ◌<◌, ◌≤◌, List, length, take, slice_index, slice_index_or, vec_len, vec_capacity}
+use Rattle.std.specs.List.{All, flat_map}
 use Rattle.std.specs.Global.{Vec}
 use Rattle.std.specs.Vec.{vec_items}
 
@@ -10,13 +10,13 @@ full = 512
 
 -- where the k-th piece begins in the whole
 abbrev pub start_at : {X T : Type 0} → (X → List T) → List X → ℕ → ℕ
-start_at f [] k = 0
-start_at f (x ∷ xs) zero = 0
-start_at f (x ∷ xs) (suc k) = length (f x) + start_at f xs k
+start_at f xs k = length (flat_map f (take k xs))
 
--- P holds of each item
-abbrev pub Each : {X : Type 0} → (X → Type 0) → List X → Type 0
-Each {X} P xs = (k : ℕ) (d : X) → k < length xs → P (slice_index_or xs k d)
+-- a run is some items of the list from a place on, and not none where there are some
+pub record IsRun {T : Type 0} (items : List T) (begin : ℕ) (run : List T) : Type 0 where
+  pub within : (k : ℕ) → k < length run → begin + k < length items
+  pub same : (k : ℕ) (d : T) → k < length run → slice_index_or run k d ≡ slice_index_or items (begin + k) d
+  pub some : begin < length items → 0 < length run
 
 module _ {T : Type 0} where
   -- the chunks, one after another
@@ -32,20 +32,22 @@ module _ {T : Type 0} where
     pub wide : IsWide chunk
     pub empty : vec_len chunk ≡ 0
 
-  -- each chunk but the one at `at`, which may be empty or have one item too many, holds some items and no more than
-  -- fill it; the first chunk may always be empty
+  -- the k-th chunk holds no more items than fill it, and some, unless it is the first
+  pub record IsHeld (k : ℕ) (chunk : Vec T) : Type 0 where
+    pub short : vec_len chunk ≤ full
+    pub some : 0 < k → 0 < vec_len chunk
+
+  -- the chunks of a list, but that the one at `at` may be empty or have one item too many
   pub record AreChunksBut (chunks : List (Vec T)) (at : ℕ) : Type 0 where
     pub within : at < length chunks
-    pub wide : Each IsWide chunks
+    pub wide : All IsWide chunks
     pub top : (d : Vec T) → vec_len (slice_index_or chunks at d) ≤ full + 1
-    pub short : (k : ℕ) (d : Vec T) → k < length chunks → (k ≡ at → ⊥) → vec_len (slice_index_or chunks k d) ≤ full
-    pub held : (k : ℕ) (d : Vec T) → 0 < k → k < length chunks → (k ≡ at → ⊥) → 0 < vec_len (slice_index_or chunks k d)
+    pub others : (k : ℕ) (d : Vec T) → k < length chunks → (k ≡ at → ⊥) → IsHeld k (slice_index_or chunks k d)
 
-  -- each chunk holds no more items than fill it, and none but perhaps the first is empty
+  -- the chunks of a list
   pub record AreChunks (chunks : List (Vec T)) : Type 0 where
-    pub wide : Each IsWide chunks
-    pub short : (k : ℕ) (d : Vec T) → k < length chunks → vec_len (slice_index_or chunks k d) ≤ full
-    pub held : (k : ℕ) (d : Vec T) → 0 < k → k < length chunks → 0 < vec_len (slice_index_or chunks k d)
+    pub wide : All IsWide chunks
+    pub held : (k : ℕ) (d : Vec T) → k < length chunks → IsHeld k (slice_index_or chunks k d)
 
   -- the places where the chunks begin
   pub record AreStarts (chunks : List (Vec T)) (starts : List ℕ) : Type 0 where
@@ -67,7 +69,7 @@ module _ {T : Type 0} where
   -- each spare chunk can come in among the others, and each of these can go out, without memory; the first chunk is in
   -- use from the beginning
   pub record CanTurn (chunks spare : Vec (Vec T)) (starts : Vec ℕ) : Type 0 where
-    pub each : Each IsSpare spare.items
+    pub each : All IsSpare spare.items
     pub chunks_fit : vec_len chunks + vec_len spare ≤ vec_capacity chunks
     pub spare_fit : vec_len chunks + vec_len spare ≤ vec_capacity spare
     pub starts_fit : vec_len chunks + vec_len spare ≤ vec_capacity starts

@@ -1,14 +1,15 @@
 -- What is done to two chunks that stand side by side.
 use Rattle.std.specs.Prelude.{◌≡◌, ℕ, ◌+◌, ◌<◌, ◌≤◌, List, length, slice_index_or, vec_len, vec_capacity}
 use Rattle.std.specs.Global.{Vec}
-use Rattle.chunk_list.specs.Chunks.{Each, IsSpare, IsWide, full, joined}
+use Rattle.std.specs.List.{All}
+use Rattle.chunk_list.specs.Chunks.{IsSpare, IsWide, full, joined}
 
 module _ {T : Type 0} where
   -- the list is the same, and `count` items of the chunk at `from` are in the one at `to` now
   pub record IsGiven (old : List (Vec T)) (from to count : ℕ) (new : List (Vec T)) : Type 0 where
     pub same : joined new ≡ joined old
     pub long : length new ≡ length old
-    pub wide : Each IsWide new
+    pub wide : All IsWide new
     pub from_len : (d : Vec T) → vec_len (slice_index_or new from d) + count ≡ vec_len (slice_index_or old from d)
     pub to_len : (d : Vec T) → vec_len (slice_index_or new to d) ≡ vec_len (slice_index_or old to d) + count
     pub others : (k : ℕ) (d : Vec T) → (k ≡ from → ⊥) → (k ≡ to → ⊥) → slice_index_or new k d ≡ slice_index_or old k d
@@ -25,7 +26,7 @@ module _ {T : Type 0} where
 
   -- spare chunks may have come in among the others, and others may have gone out, in the memory that there was
   pub record AreTurned (chunks spare new_chunks new_spare : Vec (Vec T)) : Type 0 where
-    pub each : Each IsSpare new_spare.items
+    pub each : All IsSpare new_spare.items
     pub fewer : vec_len new_chunks + vec_len new_spare ≤ vec_len chunks + vec_len spare
     pub chunks_capacity : vec_capacity new_chunks ≡ vec_capacity chunks
     pub spare_capacity : vec_capacity new_spare ≡ vec_capacity spare

@@ -3,4 +3,3 @@ pub mod Edits
 pub mod Halves
 pub mod Kept
 pub mod Sorted
-pub mod Walks

@@ -1,7 +1,7 @@
 //! Items that move between chunks, and chunks that come in and go out.
 ghost use Rattle.std.specs.Prelude.{◌≡◌, ◌+◌, ◌<◌, ◌≤◌, ◌⊎◌, ◌++◌, ℕ, length, slice_index_or, slice_set, OnOk, vec_len, vec_capacity};
-ghost use Rattle.std.specs.List.{insert};
-ghost use Rattle.chunk_list.specs.Chunks.{AreChunks, AreChunksBut, AreLaidOut, CanTurn, Each, IsSpare, IsWide, full, joined};
+ghost use Rattle.std.specs.List.{All, insert};
+ghost use Rattle.chunk_list.specs.Chunks.{AreChunks, AreChunksBut, AreLaidOut, CanTurn, IsSpare, IsWide, full, joined};
 ghost use Rattle.chunk_list.specs.Edits.{AreTurned, IsGiven};
 
 use crate::list::CHUNK;
@@ -51,7 +51,7 @@ pub(crate) fn give<T: Drop>(chunks: &mut Vec<Vec<T>>, from: usize, to: usize, co
     requires beside { (to ≡ from + 1) ⊎ (from ≡ to + 1) }
     requires from { from < length chunks.old.items }
     requires to { to < length chunks.old.items }
-    requires wide { Each IsWide chunks.old.items }
+    requires wide { All IsWide chunks.old.items }
     requires enough { (d : _) → count ≤ vec_len (slice_index_or chunks.old.items from d) }
     requires fits_from { (d : _) → vec_len (slice_index_or chunks.old.items from d) ≤ full + 1 }
     requires fits_to { (d : _) → vec_len (slice_index_or chunks.old.items to d) + count ≤ full }
@@ -76,7 +76,7 @@ pub(crate) fn give<T: Drop>(chunks: &mut Vec<Vec<T>>, from: usize, to: usize, co
 pub(crate) fn cut<T: Drop>(chunks: &mut Vec<Vec<T>>, spare: &mut Vec<Vec<T>>, at: usize)
     requires chunks { AreChunksBut chunks.old.items at }
     requires over { (d : _) → vec_len (slice_index_or chunks.old.items at d) ≡ full + 1 }
-    requires each { Each IsSpare spare.old.items }
+    requires each { All IsSpare spare.old.items }
     requires some { 0 < vec_len spare.old }
     requires fits { vec_len chunks.old < vec_capacity chunks.old }
     ensures same { joined chunks.new.items ≡ joined chunks.old.items }
@@ -100,10 +100,9 @@ pub(crate) fn set_out<T: Drop>(
     requires chunks { AreChunksBut chunks.old.items at }
     requires some { 0 < at }
     requires empty { (d : _) → vec_len (slice_index_or chunks.old.items at d) ≡ 0 }
-    requires each { Each IsSpare spare.old.items }
+    requires each { All IsSpare spare.old.items }
     requires fits { vec_len chunks.old + vec_len spare.old ≤ vec_capacity spare.old }
-    ensures same { joined chunks.new.items ≡ joined chunks.old.items }
-    ensures chunks { AreChunks chunks.new.items }
+    ensures same { (joined chunks.new.items ≡ joined chunks.old.items) × AreChunks chunks.new.items }
     ensures turned { AreTurned chunks.old spare.old chunks.new spare.new }
     ensures some { 0 < vec_len chunks.new }
     ensures needed { needed ≤ vec_len chunks.old + vec_len spare.old → needed ≤ vec_len chunks.new + vec_len spare.new }

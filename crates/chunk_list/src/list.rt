@@ -3,7 +3,7 @@ ghost use Rattle.std.specs.Prelude.{◌≡◌, ◌+◌, ◌*◌, ◌-◌, ◌^�
 ghost use Rattle.std.specs.Fn.{FnReturnsAt};
 ghost use Rattle.std.specs.Option.{option_copied};
 ghost use Rattle.std.specs.List.{HoldsAt, insert, remove};
-ghost use Rattle.chunk_list.specs.Walks.{IsRun};
+ghost use Rattle.chunk_list.specs.Chunks.{IsRun};
 
 use crate::chunks::{grow, set_out};
 use crate::room::{put_in, relieve, take_out};
@@ -90,6 +90,7 @@ impl<T> ChunkList<T> {
     }
 
     // The items from a place to the end of its chunk.
+    #[tactic(auto, using(crate::proofs::Places::some_chunk))]
     pub(crate) fn run(&self, place: usize) -> &[T]
         ensures { IsRun self.now.items place result.now }
     {
@@ -110,6 +111,7 @@ impl<T> ChunkList<T> {
 
     /// The place of the first item that does not pass the test, where those that pass stand first, and that item; the
     /// length and None where all pass. It looks at no more than two times as many items as the length has bits.
+    #[tactic(auto, using(crate::proofs::Places::some_chunk))]
     pub fn search<L: Ledger, F: Fn(&T) -> bool>(
         &self,
         passes: F,

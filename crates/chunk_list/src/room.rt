@@ -1,7 +1,7 @@
 //! Items that go into a chunk and out of it, and places for one item too many.
 ghost use Rattle.std.specs.Prelude.{◌≡◌, ◌≢◌, ◌⊎◌, ◌+◌, ◌*◌, ◌^◌, ◌<◌, ◌≤◌, length, slice_index_or, MatchOption, vec_len, vec_capacity};
-ghost use Rattle.std.specs.List.{insert, remove};
-ghost use Rattle.chunk_list.specs.Chunks.{AreChunks, AreChunksBut, AreLaidOut, AreStarts, Each, IsSpare, full, joined};
+ghost use Rattle.std.specs.List.{All, insert, remove};
+ghost use Rattle.chunk_list.specs.Chunks.{AreChunks, AreChunksBut, AreLaidOut, AreStarts, IsSpare, full, joined};
 ghost use Rattle.chunk_list.specs.Edits.{AreTurned, HasFree, NoneFree};
 
 use crate::chunks::{cut, give, put};
@@ -71,7 +71,7 @@ fn share<T: Drop>(chunks: &mut Vec<Vec<T>>, at: usize, free: usize)
 pub(crate) fn relieve<T: Drop>(chunks: &mut Vec<Vec<T>>, spare: &mut Vec<Vec<T>>, at: usize)
     requires chunks { AreChunksBut chunks.old.items at }
     requires over { (d : _) → vec_len (slice_index_or chunks.old.items at d) ≡ full + 1 }
-    requires each { Each IsSpare spare.old.items }
+    requires each { All IsSpare spare.old.items }
     requires fits { vec_len chunks.old + vec_len spare.old ≤ vec_capacity chunks.old }
     requires enough { length (joined chunks.old.items) ≤ (vec_len chunks.old + vec_len spare.old) * full }
     ensures same { joined chunks.new.items ≡ joined chunks.old.items }
@@ -119,6 +119,7 @@ pub(crate) fn put_in<T: Drop>(
 }
 
 // Takes an item out of the chunk that its place falls into, which may then be empty, and says which one that is.
+#[tactic(auto, using(crate::proofs::Places::some_chunk))]
 pub(crate) fn take_out<T>(
     chunks: &mut Vec<Vec<T>>,
     starts: &mut Vec<usize>,

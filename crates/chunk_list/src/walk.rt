@@ -17,7 +17,7 @@ pub struct Walk<'a, T> {
 impl<'a, T> Model for Walk<'a, T> {
     ghost use Rattle.std.specs.Prelude.{List};
     ghost use Rattle.std.specs.Coded.{coded_list};
-    ghost use Rattle.chunk_list.specs.Walks.{IsRun};
+    ghost use Rattle.chunk_list.specs.Chunks.{IsRun};
 
     ghost Value = { List T };
 

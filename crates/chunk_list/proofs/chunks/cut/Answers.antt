@@ -1,12 +1,13 @@
 -- The chunk and the spare one hold what the chunk held.
-use Rattle.std.proofs.Common.{◌≡◌, ◌+◌, ◌++◌, [], ◌∷◌, List, get_or, set, arith, ap, sym, subst, ◌∙◌, append-nil, add-one}
+use Rattle.std.proofs.Common.{◌≡◌, ◌+◌, ◌++◌, [], List, Some, get_or, set, arith, ap, sym, subst, ◌∙◌, append-nil, add-one}
 use Rattle.std.proofs.lemmas.List.{nil_from_length}
+use Rattle.std.proofs.lemmas.List.Elements.{All-pop}
 use Rattle.std.specs.Global.{Vec}
-use Rattle.std.specs.List.{insert}
+use Rattle.std.specs.List.{All, insert}
 use Rattle.std.specs.Vec.{vec_items, vec_len, vec_capacity}
-use Rattle.chunk_list.specs.Chunks.{full, joined, AreChunks, Each, IsSpare}
+use Rattle.chunk_list.specs.Chunks.{full, joined, AreChunks, IsSpare}
 use Rattle.chunk_list.proofs.Pieces.{cut-joined}
-use Rattle.chunk_list.proofs.Turned.{cut_chunks, each_last, each_rest}
+use Rattle.chunk_list.proofs.Turned.{cut_chunks}
 use Rattle.chunk_list.proofs.chunks.cut.Goals as goal
 
 pub returns : goal.returns
@@ -17,8 +18,8 @@ returns g c =
     let was_is : was ≡ get_or old at was = c.index_mut-lower.ensures.value in
     let rest = c.take_last-upper.new.self.items in
     let fresh = c.take_last-upper.result in
-    let all : Each IsSpare (rest ++ fresh ∷ []) = subst (λ (l : List (Vec g.row.T.Denot)). Each IsSpare l) c.take_last-upper.ensures.items c.requires.each in
-    let spare : IsSpare fresh = each_last IsSpare rest fresh all in
+    let all : All IsSpare rest × IsSpare fresh = All-pop IsSpare c.args.spare.now.items rest (Some fresh) c.take_last-upper.ensures.items c.requires.each in
+    let spare : IsSpare fresh = all.1 in
     let none : vec_items fresh ≡ [] = nil_from_length (vec_items fresh) (omega (arith, spare.empty, fresh.ok.0)) in
     let lower = c.level.new.lower in
     let upper = c.level.new.upper in
@@ -31,10 +32,10 @@ returns g c =
           (cut_chunks old at c.requires.chunks lower upper
           (omega (arith, c.level.ensures.lower_capacity, ap vec_capacity was_is, c.requires.chunks.wide at was c.requires.chunks.within))
           (omega (arith, c.level.ensures.upper_capacity, spare.wide))
-          (omega (arith, c.level.ensures.len), omega (arith, c.level.ensures.len))
-          (omega (arith, c.level.ensures.len, c.level.ensures.both, over, spare.empty), omega (arith, c.level.ensures.len, c.level.ensures.both, over, spare.empty)));
+          (record { short = omega (arith, c.level.ensures.len); some = λ _. omega (arith, c.level.ensures.len) })
+          (record { short = omega (arith, c.level.ensures); some = λ _. omega (arith, c.level.ensures) }));
       turned = record {
-        each = each_rest IsSpare rest fresh all;
+        each = all.0;
         fewer = omega (arith, c.put.ensures.len, c.take_last-upper.ensures.len);
         chunks_capacity = c.put.ensures.capacity;
         spare_capacity = c.take_last-upper.ensures.capacity;

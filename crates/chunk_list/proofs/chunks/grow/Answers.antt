@@ -1,9 +1,11 @@
 -- One spare chunk more, or the first chunk of all.
 use Rattle.std.proofs.Common.{◌++◌, [], ◌∷◌, ◌∙◌, List, length, ap, arith, sym, subst}
 use Rattle.std.proofs.lemmas.List.{nil_from_length}
+use Rattle.std.proofs.lemmas.List.Elements.{All-push}
 use Rattle.std.specs.Global.{Vec}
-use Rattle.chunk_list.specs.Chunks.{joined, Each, IsSpare}
-use Rattle.chunk_list.proofs.Turned.{each_more, only_spare, same_laid_out}
+use Rattle.std.specs.List.{All}
+use Rattle.chunk_list.specs.Chunks.{joined, IsSpare}
+use Rattle.chunk_list.proofs.Turned.{only_spare, same_laid_out}
 use Rattle.chunk_list.proofs.chunks.grow.Goals as goal
 
 pub loop-chunks-preserved : goal.loop-chunks-preserved
@@ -17,7 +19,7 @@ loop-chunks-preserved g c =
       same = ap joined e.same.0 ∙ v.same;
       laid_out = same_laid_out e.same.0 e.same.2 v.laid_out;
       turns = record {
-        each = subst (λ (l : List (Vec g.row.T.Denot)). Each IsSpare l) (sym p.items) (each_more IsSpare c.extend.new.spare.items c.in_ok-chunk.chunk e.turns.each chunk);
+        each = subst (λ (l : List (Vec g.row.T.Denot)). All IsSpare l) (sym p.items) (All-push IsSpare c.extend.new.spare.items c.in_ok-chunk.chunk e.turns.each chunk);
         chunks_fit = omega (arith, ok.0, p.len);
         spare_fit = omega (arith, ok.1, p.len, p.capacity);
         starts_fit = omega (arith, ok.2, p.len);

@@ -1,9 +1,11 @@
 -- The chunks that are left hold what all held.
 use Rattle.std.proofs.Common.{List, ap, arith, sym, subst}
+use Rattle.std.proofs.lemmas.List.Elements.{All-push}
 use Rattle.std.specs.Global.{Vec}
+use Rattle.std.specs.List.{All}
 use Rattle.std.specs.Vec.{vec_len, vec_capacity}
-use Rattle.chunk_list.specs.Chunks.{Each, IsSpare}
-use Rattle.chunk_list.proofs.Turned.{each_more, out_chunks, out_same}
+use Rattle.chunk_list.specs.Chunks.{IsSpare}
+use Rattle.chunk_list.proofs.Turned.{out_chunks}
 use Rattle.chunk_list.proofs.chunks.set_out.Goals as goal
 
 pub returns-then-left-needed-clause-turned : goal.returns-then-left-needed-clause-turned
@@ -13,20 +15,18 @@ returns-then-left-needed-clause-turned g c =
     let b = c.requires.chunks in
     let spare : IsSpare chunk = record { wide = omega (arith, ap vec_capacity is, b.wide c.args.at chunk b.within); empty = omega (arith, ap vec_len is, c.requires.empty chunk) } in
     record {
-      each = subst (λ (l : List (Vec g.row.T.Denot)). Each IsSpare l) (sym c.push_reserved.ensures.items) (each_more IsSpare c.args.spare.now.items chunk c.requires.each spare);
+      each = subst (λ (l : List (Vec g.row.T.Denot)). All IsSpare l) (sym c.push_reserved.ensures.items) (All-push IsSpare c.args.spare.now.items chunk c.requires.each spare);
       fewer = omega (arith, c.push_reserved.ensures.len, c.remove-chunk.ensures.len);
       chunks_capacity = c.remove-chunk.ensures.capacity;
       spare_capacity = c.push_reserved.ensures.capacity;
     }
 
 pub returns-then-left-needed-clause-same : goal.returns-then-left-needed-clause-same
-returns-then-left-needed-clause-same g c = out_same c.args.chunks.now.items c.remove-chunk.new.self.items c.args.at c.remove-chunk.result c.requires.chunks c.requires.empty c.remove-chunk.ensures.value c.remove-chunk.ensures.items
+returns-then-left-needed-clause-same g c =
+    let chunk = c.remove-chunk.result in
+    out_chunks c.args.chunks.now.items c.args.at c.requires.chunks c.remove-chunk.new.self.items chunk c.requires.some (c.requires.empty chunk) c.remove-chunk.ensures.items
 
 pub returns-else-left-needed-clause-same : goal.returns-else-left-needed-clause-same
-returns-else-left-needed-clause-same g c = out_same c.args.chunks.now.items c.remove-chunk.new.self.items c.args.at c.remove-chunk.result c.requires.chunks c.requires.empty c.remove-chunk.ensures.value c.remove-chunk.ensures.items
-
-pub returns-then-left-needed-clause-chunks : goal.returns-then-left-needed-clause-chunks
-returns-then-left-needed-clause-chunks g c = out_chunks c.args.chunks.now.items c.remove-chunk.new.self.items c.args.at c.requires.chunks c.requires.some c.remove-chunk.ensures.items
-
-pub returns-else-left-needed-clause-chunks : goal.returns-else-left-needed-clause-chunks
-returns-else-left-needed-clause-chunks g c = out_chunks c.args.chunks.now.items c.remove-chunk.new.self.items c.args.at c.requires.chunks c.requires.some c.remove-chunk.ensures.items
+returns-else-left-needed-clause-same g c =
+    let chunk = c.remove-chunk.result in
+    out_chunks c.args.chunks.now.items c.args.at c.requires.chunks c.remove-chunk.new.self.items chunk c.requires.some (c.requires.empty chunk) c.remove-chunk.ensures.items

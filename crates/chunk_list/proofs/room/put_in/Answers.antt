@@ -21,10 +21,10 @@ returns g c =
     let l = c.requires.laid_out in
     let old = c.index_mut-chunk.result.now in
     let e = edit c.put.new.items l c.locate-at.ensures c.index_mut-chunk.ensures.value c.put.ensures.capacity in
-    let short = l.chunks_are.short c.locate-at.result.0 old c.locate-at.ensures.within in
+    let held = l.chunks_are.held c.locate-at.result.0 old c.locate-at.ensures.within in
     record {
       items = put_joined e c.args.item c.put.ensures.items;
-      chunks = edited e (omega (arith, c.put.ensures.len, same_len e old, short));
+      chunks = edited e (omega (arith, c.put.ensures.len, same_len e old, held.short));
       some = λ d. omega (arith, ap vec_len (new_at e d), c.put.ensures.len);
       starts = starts_with e c.shift.new.starts.items c.shift.ensures.len c.shift.ensures.low (λ k gt lt. omega (arith, c.shift.ensures.high k gt lt, c.put.ensures.len));
       len = refl;

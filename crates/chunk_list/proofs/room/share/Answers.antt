@@ -28,7 +28,7 @@ loop-to-preserved-then-most-len g c =
       len = omega (arith, given.long, c.give.new.chunks.ok.0, c.loop-to.chunks.ok.0, v.len);
       capacity = c.give.ensures.capacity ∙ v.capacity;
       within = omega (arith, lt, given.long);
-      free = λ ne d. (omega (arith, ap vec_len (given.others c.args.at d (λ e. ne (sym e)) (λ e. c.loop-to-test.true (sym e))), (v.free c.loop-to-test.true d).0), omega (arith, given.from_len d, v.chunks.short from d lt ne));
+      free = λ ne d. (omega (arith, ap vec_len (given.others c.args.at d (λ e. ne (sym e)) (λ e. c.loop-to-test.true (sym e))), (v.free c.loop-to-test.true d).0), omega (arith, given.from_len d, (v.chunks.others from d lt ne).short));
       given = λ e d. subst (λ (m : ℕ). vec_len (get_or new m d) + c.div_ceil-count.result ≡ full + 1) e
           (given.from_len d ∙ subst (λ (m : ℕ). vec_len (get_or now m d) ≡ full + 1) (sym e) (v.free c.loop-to-test.true d).0);
     }

@@ -3,11 +3,7 @@ use Rattle.std.proofs.Common.{get_or, arith, refl, ap}
 use Rattle.std.specs.Vec.{vec_items, vec_len}
 use Rattle.chunk_list.proofs.Edits.{edit, edited, new_at, same_len, starts_with, take_joined, value_here}
 use Rattle.chunk_list.proofs.Pieces.{start_at-later}
-use Rattle.chunk_list.proofs.Places.{some_chunk}
 use Rattle.chunk_list.proofs.room.take_out.Goals as goal
-
-pub locate-at-requires-clause-some : goal.locate-at-requires-clause-some
-locate-at-requires-clause-some g c = some_chunk c.args.chunks.now.items c.args.place c.requires.place
 
 pub remove-item-requires : goal.remove-item-requires
 remove-item-requires g c =
@@ -27,12 +23,12 @@ returns g c =
     let l = c.requires.laid_out in
     let old = c.index_mut-chunk.result.now in
     let e = edit c.remove-item.new.self l c.locate-at.ensures c.index_mut-chunk.ensures.value c.remove-item.ensures.capacity in
-    let short = l.chunks_are.short c.locate-at.result.0 old c.locate-at.ensures.within in
+    let held = l.chunks_are.held c.locate-at.result.0 old c.locate-at.ensures.within in
     record {
       value = value_here e c.requires.place c.remove-item.result c.remove-item.ensures.value;
       items = take_joined e c.requires.place c.remove-item.ensures.items;
-      chunks = edited e (omega (arith, c.remove-item.ensures.len, same_len e old, short));
-      short = λ d. omega (arith, ap vec_len (new_at e d), c.remove-item.ensures.len, same_len e old, short);
+      chunks = edited e (omega (arith, c.remove-item.ensures.len, same_len e old, held.short));
+      short = λ d. omega (arith, ap vec_len (new_at e d), c.remove-item.ensures.len, same_len e old, held.short);
       starts = starts_with e c.shift.new.starts.items c.shift.ensures.len c.shift.ensures.low (λ k gt lt. omega (arith, c.shift.ensures.high k gt lt, c.remove-item.ensures.len));
       len = refl;
       capacity = refl;

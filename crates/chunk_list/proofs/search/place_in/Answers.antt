@@ -1,9 +1,9 @@
 -- A look at one item.
-use Rattle.std.proofs.Common.{◌≡◌, ◌+◌, ◌-◌, ◌/◌, ◌<◌, ℕ, length, arith, true, false, refl, sym, subst}
+use Rattle.std.proofs.Common.{◌≡◌, ◌+◌, ◌-◌, ◌/◌, ◌<◌, ℕ, length, arith, true, false, refl, subst}
+use Rattle.std.proofs.lemmas.List.Elements.{at_read}
 use Rattle.std.specs.Fn.{FnReturnsAt}
 use Rattle.std.specs.List.{HoldsAt}
-use Rattle.chunk_list.specs.Halves.{StepsLeft}
-use Rattle.chunk_list.proofs.Halves.{look, at_place}
+use Rattle.chunk_list.proofs.Halves.{look}
 use Rattle.chunk_list.proofs.search.place_in.Goals as goal
 
 pub loop-low-preserved-then-passes : goal.loop-low-preserved-then-passes
@@ -17,11 +17,10 @@ loop-low-preserved-then-passes g c =
       rising = omega arith;
       within = c.loop-low.invariant.within;
       passed = λ _. subst (HoldsAt (λ x. FnReturnsAt g.F.Fn c.args.passes.now x true) c.args.items.now.items) back
-          (at_place (λ x. FnReturnsAt g.F.Fn c.args.passes.now x true) c.args.items.now.items middle c.index.result.now (omega arith) c.index.ensures
+          (at_read c.args.items.now.items (λ x. FnReturnsAt g.F.Fn c.args.passes.now x true) middle c.index.result.now (omega arith) c.index.ensures
           (record { shown = c.index.result; shows = refl; says = record { met = c.if-passes.ensures } }));
       failed = c.loop-low.invariant.failed;
-      looks = subst (λ (n : ℕ). StepsLeft (length c.args.items.now.items - c.args.known) (high - (middle + 1)) c.args.steps.now n) (sym c.tick.ensures)
-          (look _ (high - low) _ _ _ c.loop-low.invariant.looks (omega arith) (omega arith));
+      looks = look _ (high - low) _ _ _ _ c.loop-low.invariant.looks c.tick.ensures (omega arith) (omega arith);
     }
 
 pub loop-low-preserved : goal.loop-low-preserved
@@ -34,10 +33,9 @@ loop-low-preserved g c =
       rising = omega arith;
       within = omega arith;
       passed = c.loop-low.invariant.passed;
-      failed = λ _. at_place (λ x. FnReturnsAt g.F.Fn c.args.passes.now x false) c.args.items.now.items middle c.index.result.now (omega arith) c.index.ensures
+      failed = λ _. at_read c.args.items.now.items (λ x. FnReturnsAt g.F.Fn c.args.passes.now x false) middle c.index.result.now (omega arith) c.index.ensures
           (record { shown = c.index.result; shows = refl; says = record { met = c.if-passes.ensures } });
-      looks = subst (λ (n : ℕ). StepsLeft (length c.args.items.now.items - c.args.known) (middle - low) c.args.steps.now n) (sym c.tick.ensures)
-          (look _ (high - low) _ _ _ c.loop-low.invariant.looks (omega arith) (omega arith));
+      looks = look _ (high - low) _ _ _ _ c.loop-low.invariant.looks c.tick.ensures (omega arith) (omega arith);
     }
 
 pub returns-clause-after : goal.returns-clause-after

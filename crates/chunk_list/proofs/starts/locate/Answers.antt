@@ -1,20 +1,8 @@
--- The first chunk begins where the list does, and the last one that begins at the place or before it has the place.
+-- The last chunk that begins at the place or before it has the place.
 use Rattle.std.proofs.Common.{◌≡◌, ◌+◌, ◌<◌, ℕ, length, get_or, arith, subst}
 use Rattle.std.proofs.lemmas.List.{get_or_read}
-use Rattle.std.specs.Vec.{vec_items}
-use Rattle.chunk_list.proofs.Pieces.{start_at-first}
 use Rattle.chunk_list.proofs.Places.{is_at}
 use Rattle.chunk_list.proofs.starts.locate.Goals as goal
-
-pub loop-high-init : goal.loop-high-init
-loop-high-init g c =
-    let chunks = c.args.chunks.now in
-    record {
-      rising = omega (arith, c.requires.some, chunks.ok.0);
-      within = omega (arith, chunks.ok.0);
-      here = omega (arith, c.requires.starts.begins 0 c.requires.some, start_at-first vec_items chunks.items);
-      next = λ lt. absurd (omega (arith, chunks.ok.0));
-    }
 
 pub returns : goal.returns
 returns g c =

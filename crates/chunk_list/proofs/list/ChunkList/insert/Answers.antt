@@ -1,8 +1,9 @@
 -- A chunk that had one item too many was relieved of some.
-use Rattle.std.proofs.Common.{◌≡◌, ◌+◌, length, arith, ap}
+use Rattle.std.proofs.Common.{◌≡◌, ◌+◌, ◌∙◌, length, arith, ap}
 use Rattle.std.proofs.lemmas.List.Edits.{length-insert}
 use Rattle.chunk_list.specs.Chunks.{joined}
 use Rattle.chunk_list.proofs.Places.{some_chunk}
+use Rattle.chunk_list.proofs.Turned.{can_turn}
 use Rattle.chunk_list.proofs.list.ChunkList.insert.Goals as goal
 
 pub invariant_of-self : goal.invariant_of-self
@@ -17,13 +18,7 @@ invariant_of-self g c =
     let long : length (joined new.items) ≡ length old + 1 = omega (arith, ap length r.same, ap length p.items, length-insert old c.args.place c.args.item place) in
     record {
       laid_out = record { chunks_are = r.chunks; starts_are = c.recount.ensures.starts };
-      turns = record {
-        each = r.turned.each;
-        chunks_fit = omega (arith, v.turns.chunks_fit, r.long, p.len, p.capacity, r.turned.chunks_capacity);
-        spare_fit = omega (arith, v.turns.spare_fit, r.long, p.len, r.turned.spare_capacity);
-        starts_fit = omega (arith, v.turns.starts_fit, r.long, p.len, p.starts_capacity, c.recount.ensures.capacity);
-        first = λ _. omega (arith, new.ok.0, some_chunk new.items 0 (omega (arith, long)));
-      };
+      turns = can_turn v.turns p.len p.capacity r.turned (c.recount.ensures.capacity ∙ p.starts_capacity) (λ _. omega (arith, new.ok.0, some_chunk new.items (omega (arith, long))));
       counted = omega (arith, v.counted, long);
       enough = omega (arith, v.enough, r.long, p.len, room);
       fits = omega (arith, v.fits, room);

@@ -1,11 +1,7 @@
 -- The rest of the chunk that the place falls into.
 use Rattle.std.proofs.Common.{arith}
-use Rattle.chunk_list.proofs.Places.{some_chunk}
 use Rattle.chunk_list.proofs.Walking.{run_is}
 use Rattle.chunk_list.proofs.list.ChunkList.run.Goals as goal
-
-pub locate-at-requires-clause-some : goal.locate-at-requires-clause-some
-locate-at-requires-clause-some g c = some_chunk c.self.inside.chunks.items c.args.place (omega (arith, c.self.invariant.counted, c.if-place-self.false))
 
 pub returns : goal.returns
 returns g c =

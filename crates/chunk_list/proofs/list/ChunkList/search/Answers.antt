@@ -1,19 +1,17 @@
 -- First the chunk, then the place inside it.
 use Rattle.std.proofs.Common.{◌≡◌, ◌∙◌, ◌+◌, ◌^◌, ◌<◌, ◌≤◌, List, true, false, length, get_or, arith, ap}
 use Rattle.std.proofs.lemmas.List.{get_or_read}
+use Rattle.std.proofs.lemmas.List.Folds.{length-flat_map-take}
 use Rattle.std.specs.Fn.{FnReturnsAt}
 use Rattle.std.specs.Option.{option_copied}
 use Rattle.std.specs.Prelude.{slice_get}
 use Rattle.std.specs.Vec.{vec_items, vec_len}
 use Rattle.chunk_list.specs.Chunks.{joined}
 use Rattle.chunk_list.proofs.Found.{IsSearched, begin_is, found_within, chunk_within, found_before, found_after}
-use Rattle.chunk_list.proofs.Pieces.{length-pieces, start_at-inside}
-use Rattle.chunk_list.proofs.Places.{item_of_chunk, some_chunk}
+use Rattle.chunk_list.proofs.Pieces.{length-pieces}
+use Rattle.chunk_list.proofs.Places.{item_of_chunk}
 use Rattle.chunk_list.proofs.list.ChunkList.search.Goals as goal
 use Rattle.chunk_list.proofs.list.ChunkList.search.Goals.{in-Some, in-None}
-
-pub chunk_of-at-requires-clause-some : goal.chunk_of-at-requires-clause-some
-chunk_of-at-requires-clause-some g c = some_chunk c.self.inside.chunks.items 0 (omega (arith, c.self.invariant.counted, c.if-self-eq0.false))
 
 pub overflow_add-found : goal.overflow_add-found
 overflow_add-found g c =
@@ -24,7 +22,7 @@ overflow_add-found g c =
     let chunk = c.index-chunk.result.now in
     let begins = get_or_read c.self.inside.starts.items at c.index-start.result.now (omega (arith, within, v.laid_out.starts_are.as_many)) c.index-start.ensures 0 in
     let same = ap vec_len c.index-chunk.ensures in
-    omega (arith, v.counted, v.fits, begins, v.laid_out.starts_are.begins at within, start_at-inside vec_items chunks at chunk within, same, (get_or chunks at chunk).ok.0, c.place_in-place.ensures.high, chunk.ok.0)
+    omega (arith, v.counted, v.fits, begins, v.laid_out.starts_are.begins at within, length-flat_map-take vec_items chunks at chunk within, same, (get_or chunks at chunk).ok.0, c.place_in-place.ensures.high, chunk.ok.0)
 
 pub returns : goal.returns
 returns g c =
@@ -40,7 +38,7 @@ returns g c =
       low = c.place_in-place.ensures.low;
       high = omega (arith, c.place_in-place.ensures.high, c.index-chunk.result.now.ok.0);
     } in
-    let few : length chunks ≤ length (joined chunks) + 1 = length-pieces vec_items chunks (λ k d some lt. omega (arith, v.laid_out.chunks_are.held k d some lt, (get_or chunks k d).ok.0)) in
+    let few : length chunks ≤ length (joined chunks) + 1 = length-pieces vec_items chunks (λ k d some lt. omega (arith, (v.laid_out.chunks_are.held k d lt).some some, (get_or chunks k d).ok.0)) in
     record {
       within = rw (← c.self.view_is) (found_within s);
       before = rw (← c.self.view_is) (found_before s (λ x. FnReturnsAt g.F.Fn c.args.passes x true) c.chunk_of-at.ensures.here c.place_in-place.ensures.before);

@@ -1,10 +1,10 @@
 -- A look at the first item.
 use Rattle.std.proofs.Common.{refl}
+use Rattle.std.proofs.lemmas.List.Elements.{at_read}
 use Rattle.std.specs.Fn.{FnReturnsAt}
-use Rattle.chunk_list.proofs.Halves.{at_place}
 use Rattle.chunk_list.proofs.search.fn.chunk_of.first_passes.Goals as goal
 
 pub returns : goal.returns
 returns g c some =
-    at_place (λ x. FnReturnsAt g.F.Fn c.captures.passes.now x c.passes.result) c.args.chunk.now.items 0 c.index.result.now some c.index.ensures
+    at_read c.args.chunk.now.items (λ x. FnReturnsAt g.F.Fn c.captures.passes.now x c.passes.result) 0 c.index.result.now some c.index.ensures
     (record { shown = c.index.result; shows = refl; says = record { met = c.passes.ensures } })
