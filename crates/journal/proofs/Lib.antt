@@ -3,6 +3,7 @@ pub mod Places
 pub mod Appends
 pub mod Entries
 pub mod Restarts
+pub mod Spells
 pub mod ReaderFields
 pub mod Readings
 mod Examples

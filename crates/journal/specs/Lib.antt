@@ -7,3 +7,4 @@ pub mod Faults
 pub mod Fields
 pub mod Adding
 pub mod Restarting
+pub mod Spelled

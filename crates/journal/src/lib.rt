@@ -7,6 +7,7 @@
 
 mod appending;
 mod header;
+mod new_image;
 mod opening;
 mod parsed;
 mod reading;
@@ -18,6 +19,7 @@ mod writing;
 
 pub use appending::{AppendFault, Journal};
 pub use header::{Bodies, Header};
+pub use new_image::NewImage;
 pub use opening::{OpenFault, Opened, open_image};
 pub use restarting::restart_image;
 pub use writing::{ImageFault, write_image};

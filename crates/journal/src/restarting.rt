@@ -9,8 +9,7 @@ ghost use Rattle.journal.specs.Journal.{Holds, IsOnTheWay, IsExtent};
 ghost use Rattle.journal.specs.Restarting.{IsAnew, IsKeptOrSpoilt};
 
 use crate::reading::behind;
-use crate::spelling::image_in_bytes;
-use crate::{Header, ImageFault, Journal};
+use crate::{Header, ImageFault, Journal, NewImage};
 use disk_model::{Disk, DiskFailed, cut_synced, first_byte, write_synced};
 use std::alloc::Global;
 
@@ -36,11 +35,11 @@ pub fn restart_image<D: Disk>(
     ensures most_calls { (D.known disk.new).made ≤ called 10 (D.known disk.old).made }
     ensures cause { HasCauseOf ImageFault.Disk (D.known disk.old).faults (D.known disk.new).faults result }
 {
-    let Ok(image) = image_in_bytes(alloc, header, &[]) else {
+    let Ok(image) = NewImage::of(alloc, header, &[]) else {
         return Err(ImageFault::Memory);
     };
     match begin_anew(disk, image.as_slice()) {
-        Ok(()) => Ok(Journal::of(image.len() as u64, header.limit)),
+        Ok(()) => Ok(image.journal()),
         Err(DiskFailed) => Err(ImageFault::Disk),
     }
 }

@@ -1,7 +1,7 @@
 //! The worked images, their damage, and what a stop at each device call leaves.
 use crate::{
-    AppendFault, Bodies, Header, ImageFault, Journal, OpenFault, Opened, open_image, restart_image,
-    write_image,
+    AppendFault, Bodies, Header, ImageFault, Journal, NewImage, OpenFault, Opened, open_image,
+    restart_image, write_image,
 };
 use disk_model::{Choice, MemDisk};
 use std::alloc::Global;
@@ -104,24 +104,41 @@ fn is_none_or_one(bodies: &Bodies) -> bool {
 }
 
 #[test]
-fn writes_the_worked_images(rt: HostRuntime) -> Result<(), Fail> {
+fn writes_the_empty_image(rt: HostRuntime) -> Result<(), Fail> {
     let alloc = rt.alloc();
+    let head = header(alloc, GREATEST_IMAGE_LIMIT)?;
     let mut disk = disk_of(alloc, b"what was here", &[])?;
-    let journal = write_image(
-        alloc,
-        &mut disk,
-        &header(alloc, GREATEST_IMAGE_LIMIT)?,
-        &Bodies::new(alloc),
-    );
+    let journal = write_image(alloc, &mut disk, &head, &Bodies::new(alloc));
     assert_eq!(rt; journal.ok().map(|j| j.length()), Some(24));
     assert_eq!(rt; disk.bytes(), EMPTY);
     assert_eq!(rt; disk.calls(), 3);
-    let before = disk.calls();
+    Ok(())
+}
+
+// Opening is three calls here: a sync, a look and a read. Adding is four.
+#[test]
+fn adds_the_worked_body(rt: HostRuntime) -> Result<(), Fail> {
+    let alloc = rt.alloc();
+    let mut disk = disk_of(alloc, EMPTY, &[])?;
     let journal = add(alloc, &mut disk, BODY)?.ok();
     assert_eq!(rt; journal.map(|j| j.length()), Some(110));
-    assert_eq!(rt; disk.calls().saturating_sub(before), 7);
+    assert_eq!(rt; disk.calls(), 7);
     assert_eq!(rt; disk.bytes(), worked(alloc, EMPTY)?.as_slice());
     assert_eq!(rt; disk.bytes().len(), 110);
+    Ok(())
+}
+
+#[test]
+fn a_new_image_is_written_on_more_than_one_disk(rt: HostRuntime) -> Result<(), Fail> {
+    let alloc = rt.alloc();
+    let image = NewImage::of(alloc, &header(alloc, GREATEST_IMAGE_LIMIT)?, &[])?;
+    assert_eq!(rt; image.as_slice(), EMPTY);
+    for old in [&b""[..], b"what was here, and longer than an image"] {
+        let mut disk = disk_of(alloc, old, &[])?;
+        let journal = image.write(&mut disk).ok();
+        assert_eq!(rt; journal.map(|j| j.length()), Some(24));
+        assert_eq!(rt; disk.bytes(), EMPTY);
+    }
     Ok(())
 }
 
@@ -129,17 +146,23 @@ fn writes_the_worked_images(rt: HostRuntime) -> Result<(), Fail> {
 fn opens_both_formats(rt: HostRuntime) -> Result<(), Fail> {
     let alloc = rt.alloc();
     for (empty, format) in [(EMPTY_1, 1), (EMPTY, 2)] {
-        let image = worked(alloc, empty)?;
-        let found = opened(alloc, &image)??;
+        let found = opened(alloc, &worked(alloc, empty)?)??;
         assert_eq!(rt; found.format, format);
-        assert_eq!(rt; found.header.name.as_str(), "db");
-        assert_eq!(rt; found.header.uid.as_str(), "a");
-        assert_eq!(rt; found.header.limit, GREATEST_IMAGE_LIMIT);
         assert_eq!(rt; found.bodies.len(), 1);
         assert!(rt; is_none_or_one(&found.bodies));
-        assert_eq!(rt; found.journal.length(), 110);
         assert_eq!(rt; opened(alloc, empty)??.bodies.len(), 0);
     }
+    Ok(())
+}
+
+#[test]
+fn opens_the_header(rt: HostRuntime) -> Result<(), Fail> {
+    let alloc = rt.alloc();
+    let found = opened(alloc, &worked(alloc, EMPTY)?)??;
+    assert_eq!(rt; found.header.name.as_str(), "db");
+    assert_eq!(rt; found.header.uid.as_str(), "a");
+    assert_eq!(rt; found.header.limit, GREATEST_IMAGE_LIMIT);
+    assert_eq!(rt; found.journal.length(), 110);
     Ok(())
 }
 
@@ -182,25 +205,27 @@ fn changed(alloc: Global, changes: &[(usize, u8)]) -> Result<Vec<u8>, Fail> {
     Ok(image)
 }
 
+// Where these bytes are changed, this place is damaged, if any.
+const CHANGED: [(&[(usize, u8)], Option<u64>); 13] = [
+    (&[(0, 0)], Some(0)),
+    (&[(7, 0)], Some(0)),
+    (&[(7, 3)], Some(0)),
+    (&[(9, 0)], Some(8)),
+    (&[(8, 255)], Some(8)),
+    (&[(10, 47)], Some(8)),
+    (&[(10, 255)], Some(8)),
+    (&[(14, 46)], Some(12)),
+    (&[(16, 0), (17, 0), (22, 1)], Some(15)),
+    (&[(22, 1)], Some(15)),
+    (&[(24, 255), (25, 255), (26, 255), (27, 255)], Some(24)),
+    (&[(27, 0)], Some(24)),
+    (&[(109, 1)], Some(110)),
+];
+
 #[test]
 fn finds_what_is_changed(rt: HostRuntime) -> Result<(), Fail> {
     let alloc = rt.alloc();
-    let rows: [(&[(usize, u8)], Option<u64>); 13] = [
-        (&[(0, 0)], Some(0)),
-        (&[(7, 0)], Some(0)),
-        (&[(7, 3)], Some(0)),
-        (&[(9, 0)], Some(8)),
-        (&[(8, 255)], Some(8)),
-        (&[(10, 47)], Some(8)),
-        (&[(10, 255)], Some(8)),
-        (&[(14, 46)], Some(12)),
-        (&[(16, 0), (17, 0), (22, 1)], Some(15)),
-        (&[(22, 1)], Some(15)),
-        (&[(24, 255), (25, 255), (26, 255), (27, 255)], Some(24)),
-        (&[(27, 0)], Some(24)),
-        (&[(109, 1)], Some(110)),
-    ];
-    for (changes, place) in rows {
+    for (changes, place) in CHANGED {
         let image = changed(alloc, changes)?;
         let found = opened(alloc, &image)?.err();
         assert_eq!(rt; found, place.map(OpenFault::Damaged), "{changes:?}");
@@ -219,24 +244,38 @@ fn reads_no_body_behind_a_closed_gate(rt: HostRuntime) -> Result<(), Fail> {
     Ok(())
 }
 
-#[test]
-fn is_full_at_its_limit(rt: HostRuntime) -> Result<(), Fail> {
-    let alloc = rt.alloc();
+// A disk with the empty image that may have 4,096 bytes.
+fn small(alloc: Global) -> Result<MemDisk, Fail> {
     let mut disk = disk_of(alloc, b"", &[])?;
-    let made = write_image(alloc, &mut disk, &header(alloc, 4096)?, &Bodies::new(alloc));
-    assert!(rt; made.is_ok());
-    let body = vec![in alloc; 7u8; 4068]?;
+    let head = header(alloc, 4096)?;
+    match write_image(alloc, &mut disk, &head, &Bodies::new(alloc)) {
+        Ok(_) => Ok(disk),
+        Err(_) => Err(Fail::from(Memory)),
+    }
+}
+
+#[test]
+fn is_full_above_its_limit(rt: HostRuntime) -> Result<(), Fail> {
+    let alloc = rt.alloc();
+    let mut disk = small(alloc)?;
     let before = disk.calls();
+    let body = vec![in alloc; 7u8; 4068]?;
     let fault = add(alloc, &mut disk, &body)?.err();
-    assert_eq!(rt;
-        fault,
-        Some(AppendFault::Full {
-            need: 4097,
-            limit: 4096
-        })
-    );
+    let full = AppendFault::Full {
+        need: 4097,
+        limit: 4096,
+    };
+    assert_eq!(rt; fault, Some(full));
     assert_eq!(rt; disk.calls().saturating_sub(before), 3);
-    let journal = add(alloc, &mut disk, &body[1..])?.ok();
+    Ok(())
+}
+
+#[test]
+fn is_not_full_at_its_limit(rt: HostRuntime) -> Result<(), Fail> {
+    let alloc = rt.alloc();
+    let mut disk = small(alloc)?;
+    let body = vec![in alloc; 7u8; 4067]?;
+    let journal = add(alloc, &mut disk, &body)?.ok();
     assert_eq!(rt; journal.map(|j| j.length()), Some(4096));
     assert_eq!(rt; disk.bytes().len(), 4096);
     Ok(())
@@ -254,18 +293,22 @@ fn check_append(rt: &impl Abort, alloc: Global, disk: &MemDisk) -> Result<(), Fa
     Ok(())
 }
 
+// What opening and adding answer where the call of this number fails.
+fn added_where_fails(number: u64) -> Result<Option<AppendFault>, OpenFault> {
+    match number {
+        0..=2 => Err(OpenFault::Disk),
+        3..=6 => Ok(Some(AppendFault::Disk)),
+        _ => Ok(None),
+    }
+}
+
 #[test]
 fn an_append_is_there_or_not(rt: HostRuntime) -> Result<(), Fail> {
     let alloc = rt.alloc();
     for failing in 0..9u64 {
         let mut disk = disk_of(alloc, EMPTY, &[failing])?;
-        let fails = add(alloc, &mut disk, BODY);
-        let want = match failing {
-            0..=2 => Err(OpenFault::Disk),
-            3..=6 => Ok(Some(AppendFault::Disk)),
-            _ => Ok(None),
-        };
-        assert_eq!(rt; fails.map(|done| done.err()), want, "{failing}");
+        let done = add(alloc, &mut disk, BODY).map(|done| done.err());
+        assert_eq!(rt; done, added_where_fails(failing), "{failing}");
         check_append(&rt, alloc, &disk)?;
         let again = opened(alloc, disk.bytes())??;
         assert!(rt; is_none_or_one(&again.bodies));
@@ -273,45 +316,61 @@ fn an_append_is_there_or_not(rt: HostRuntime) -> Result<(), Fail> {
     Ok(())
 }
 
+// The bytes are damaged from the first one on.
+fn is_damaged(alloc: Global, bytes: &[u8]) -> Result<bool, Memory> {
+    match opened(alloc, bytes)? {
+        Err(OpenFault::Damaged(place)) => Ok(place == 0),
+        _ => Ok(false),
+    }
+}
+
 // Whatever a stop at any of the calls leaves is the old file, does not read, or is the empty image.
 fn check_restart(rt: &impl Abort, alloc: Global, disk: &MemDisk, old: &[u8]) -> Result<(), Fail> {
     for call in 0..disk.calls() {
         for choice in CHOICES {
-            let image = disk.crash_image(alloc, call, choice)?;
-            let is_old = image.as_slice() == old;
-            let is_empty = image.as_slice() == EMPTY;
-            let is_damaged = match opened(alloc, image.as_slice())? {
-                Err(OpenFault::Damaged(place)) => place == 0,
-                _ => false,
-            };
-            assert!(rt; is_old || is_empty || is_damaged, "{call} {choice:?}");
+            let left = disk.crash_image(alloc, call, choice)?;
+            let image = left.as_slice();
+            let is_one = image == old || image == EMPTY;
+            assert!(rt; is_one || is_damaged(alloc, image)?, "{call} {choice:?}");
         }
     }
     Ok(())
 }
 
+// Whether the image was begun anew where the call of this number fails.
+fn check_begin(rt: &impl Abort, alloc: Global, old: &[u8], failing: u64) -> Result<bool, Fail> {
+    let head = header(alloc, GREATEST_IMAGE_LIMIT)?;
+    let mut disk = disk_of(alloc, old, &[failing])?;
+    let done = begin(alloc, &mut disk, &head);
+    check_restart(rt, alloc, &disk, old)?;
+    let Ok(Ok(journal)) = done else {
+        return Ok(false);
+    };
+    assert_eq!(rt; disk.bytes(), EMPTY);
+    assert_eq!(rt; journal.length(), 24);
+    Ok(true)
+}
+
+// Opening and beginning anew make at most thirteen calls here.
 #[test]
 fn begins_anew(rt: HostRuntime) -> Result<(), Fail> {
     let alloc = rt.alloc();
     let image = worked(alloc, EMPTY)?;
-    let head = header(alloc, GREATEST_IMAGE_LIMIT)?;
     let olds: [&[u8]; 5] = [&image, b"", b"U", b"hello, this is no image", EMPTY_1];
     for old in olds {
         for failing in 0..14u64 {
-            let mut disk = disk_of(alloc, old, &[failing])?;
-            let done = begin(alloc, &mut disk, &head);
-            check_restart(&rt, alloc, &disk, old)?;
-            if let Ok(Ok(journal)) = done {
-                assert_eq!(rt; disk.bytes(), EMPTY);
-                assert_eq!(rt; journal.length(), 24);
-            }
+            let done = check_begin(&rt, alloc, old, failing)?;
+            assert!(rt; done == (failing >= calls_of_begin(alloc, old)?));
         }
-        let mut disk = disk_of(alloc, old, &[])?;
-        let journal = begin(alloc, &mut disk, &head)?.ok();
-        assert_eq!(rt; journal.map(|j| j.length()), Some(24));
-        assert_eq!(rt; disk.bytes(), EMPTY);
     }
     Ok(())
+}
+
+// How many calls they make.
+fn calls_of_begin(alloc: Global, old: &[u8]) -> Result<u64, Fail> {
+    let mut disk = disk_of(alloc, old, &[])?;
+    let _ = begin(alloc, &mut disk, &header(alloc, GREATEST_IMAGE_LIMIT)?);
+    Ok(disk.calls())
 }
 
 #[test]
@@ -320,13 +379,9 @@ fn a_failed_call_is_told(rt: HostRuntime) -> Result<(), Fail> {
     let head = header(alloc, GREATEST_IMAGE_LIMIT)?;
     for failing in 0..4u64 {
         let mut disk = disk_of(alloc, b"old", &[failing])?;
-        let done = write_image(alloc, &mut disk, &head, &Bodies::new(alloc));
-        let want = if failing < 3 {
-            Some(ImageFault::Disk)
-        } else {
-            None
-        };
-        assert_eq!(rt; done.err(), want, "{failing}");
+        let done = write_image(alloc, &mut disk, &head, &Bodies::new(alloc)).err();
+        let want = (failing < 3).then_some(ImageFault::Disk);
+        assert_eq!(rt; done, want, "{failing}");
         assert_eq!(rt; disk.calls(), failing.min(2) + 1);
     }
     Ok(())

@@ -8,9 +8,8 @@ ghost use Rattle.disk_model.specs.Counts.{MakesCalls};
 ghost use Rattle.journal.specs.Image.{AreBodies, image};
 ghost use Rattle.journal.specs.Journal.{Holds, IsExtent};
 
-use crate::spelling::image_in_bytes;
-use crate::{Bodies, Header, Journal};
-use disk_model::{Disk, DiskFailed, cut_write_synced};
+use crate::{Bodies, Header, Journal, NewImage};
+use disk_model::{Disk, DiskFailed};
 use std::alloc::Global;
 use std::error::Error;
 use std::fmt;
@@ -57,11 +56,11 @@ pub fn write_image<D: Disk>(
     ensures calls { MakesCalls 3 (D.known disk.old) (D.known disk.new) result }
     ensures cause { HasCauseOf ImageFault.Disk (D.known disk.old).faults (D.known disk.new).faults result }
 {
-    let Ok(image) = image_in_bytes(alloc, header, bodies.as_slice()) else {
+    let Ok(image) = NewImage::of(alloc, header, bodies.as_slice()) else {
         return Err(ImageFault::Memory);
     };
-    match cut_write_synced(disk, image.as_slice()) {
-        Ok(()) => Ok(Journal::of(image.len() as u64, header.limit)),
+    match image.write(disk) {
+        Ok(journal) => Ok(journal),
         Err(DiskFailed) => Err(ImageFault::Disk),
     }
 }
