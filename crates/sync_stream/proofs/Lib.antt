@@ -1,0 +1,12 @@
+pub mod Trims
+pub mod Stands
+pub mod Unique
+pub mod FirstFault
+pub mod Bodies
+pub mod WholeStreams
+pub mod CleanTexts
+pub mod ClockTexts
+pub mod ObjectsBack
+pub mod StreamBack
+pub mod Came
+pub mod Serving

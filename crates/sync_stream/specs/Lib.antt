@@ -1,0 +1,15 @@
+pub mod Lines
+pub mod Seen
+pub mod Objects
+pub mod Says
+pub mod Stream
+pub mod Kept
+pub mod Came
+pub mod Format
+pub mod Written
+pub mod Messages
+pub mod Replies
+pub mod Serving
+pub mod Early
+pub mod Worked
+pub mod Laws

@@ -1,0 +1,182 @@
+-- Serving: what a target replies to a request and which steps it makes, by its state, the request as far as it came, and the
+-- seed of its transaction ids.
+use Rattle.std.specs.Prelude.{◌≡◌, ℕ, ◌+◌, Bool, false, not, ◌&&◌, nat_le, if◌then◌else◌, List, [], ◌∷◌, ◌++◌, length, filter, Option, Some, None, unwrap_or}
+use Rattle.std.specs.List.{flat_map, list_any}
+use Rattle.u1_base.specs.Ids.{same_id}
+use Rattle.u1_base.specs.NewId.{new_id_text}
+use Rattle.u1_base.specs.Places.{Place, nowhere, same_place}
+use Rattle.u1_base.specs.declared.made.IdKind.TheVariants.{Trans}
+use Rattle.translog.specs.Entries.{changes_since}
+use Rattle.translog.specs.Log.{end_of, fits_log}
+use Rattle.translog.specs.Source.{passes}
+use Rattle.translog.specs.declared.entry.Change.{Change}
+use Rattle.vector_rev.specs.Counts.{Uid}
+use Rattle.conflicts.specs.Decision.{decides}
+use Rattle.conflicts.specs.Document.{current_member}
+use Rattle.conflicts.specs.State.{Text, State, Step, Accepted, Moved, after_all}
+use Rattle.conflicts.specs.declared.accept.Accept.{Accept}
+use Rattle.conflicts.specs.declared.member.Member.{Member}
+use Rattle.conflicts.specs.declared.moves.Move.{Move}
+use Rattle.conflicts.specs.declared.moves.PosTable.{PosTable}
+use Rattle.conflicts.specs.declared.moves.PosTable.TheVariants.{Told}
+use Rattle.conflicts.specs.declared.receipts.Outcome4.{Outcome4}
+use Rattle.conflicts.specs.declared.receipts.Outcome4.TheVariants.{Inserted, Superseded, Converged, Conflicted}
+use Rattle.conflicts.specs.declared.receipts.Taken.{Taken}
+use Rattle.sync_http.specs.declared.info.Info.{Info}
+use Rattle.sync_stream.specs.Came.{Ending, Whole, Faulty, Cut}
+use Rattle.sync_stream.specs.Lines.{GoOn}
+use Rattle.sync_stream.specs.Messages.{Ask, AskInfo, Tell, Exchange, Request, EndsEarly, Refused, Asks, ReadsRequest, Says, Unread, Short, Over}
+use Rattle.sync_stream.specs.Replies.{Refusal, BadRequest, NotFound, LogCheck, TooLarge, StoreFailed, StoreFull, NoMemory, Reply, Tells, Keeps, Returns, Refuses, head_refusal, reply_text}
+use Rattle.sync_stream.specs.declared.fault.LineFault.TheVariants.{At, TooLong}
+use Rattle.sync_stream.specs.declared.line.SyncDoc.{SyncDoc}
+
+-- the reply to a request, and the steps that are made before it
+pub record Served : Type 0 where
+  pub reply : Reply
+  pub steps : List Step
+
+abbrev pub refused : Refusal → Served
+refused refusal = record { reply = Refuses refusal; steps = [] }
+
+-- these steps come before those
+abbrev pub first : List Step → Served → Served
+first made later = record { reply = later.reply; steps = made ++ later.steps }
+
+-- ---- one document
+
+-- the place that is kept of a peer; where none was ever kept, the one before the first entry
+abbrev pub kept_at : State → PosTable → Uid → Place
+kept_at s table uid = unwrap_or (s.position table uid) nowhere
+
+-- the step that moves a place, none where it stands there
+abbrev pub steps_to : State → Move → List Step
+steps_to s move = if same_place (kept_at s move.table move.uid) move.at then [] else Moved move ∷ []
+
+-- what becomes of a document that is handed over; `save` is set where this replica asked for it
+abbrev pub taken_of : State → SyncDoc → Bool → Taken
+taken_of s doc save = decides (s.document doc.id) doc.member save s.uid
+
+-- what is accepted and the move are one step, which the next entry of the log names; where nothing is accepted there is
+-- the move alone
+abbrev pub steps_by : State → ℕ → Text → Option Accept → Move → List Step
+steps_by s seed doc None move = steps_to s move
+steps_by s seed doc (Some accept) move =
+    Accepted doc accept (new_id_text seed Trans (length s.log + 1)) (Some move) ∷ []
+
+abbrev pub steps_for : State → ℕ → Bool → SyncDoc → Move → List Step
+steps_for s seed save doc move = steps_by s seed doc.id (taken_of s doc save).accepted move
+
+-- ---- what is returned
+
+-- a document that the source has as it was at this generation of the target's log
+pub record Held : Type 0 where
+  pub doc : Text
+  pub generation : ℕ
+
+-- after this outcome the source has the document as the target has it
+abbrev pub held_after : Outcome4 → Text → State → List Held
+held_after Inserted doc s = record { doc = doc; generation = length s.log } ∷ []
+held_after Converged doc s = record { doc = doc; generation = length s.log } ∷ []
+held_after Superseded doc s = []
+held_after Conflicted doc s = []
+
+abbrev pub is_held : List Held → Change → Bool
+is_held held change = list_any (λ h. same_id h.doc change.doc && nat_le change.generation h.generation) held
+
+-- the current member of a document, on its way
+abbrev pub sent_if : Change → Option Member → List SyncDoc
+sent_if change None = []
+sent_if change (Some member) =
+    record { id = change.doc; member = member; at = record { generation = change.generation; trans = Some change.trans } } ∷ []
+
+-- the documents that changed, each with its current member
+abbrev pub sent : State → List Change → List SyncDoc
+sent s changes = flat_map (λ c. sent_if c (current_member (s.document c.doc))) changes
+
+-- the end of the log, and the changes since the known place that the source does not have
+abbrev pub returned : State → Place → List Held → Reply
+returned s known held =
+    Returns (end_of s.log) (sent s (filter (λ c. not (is_held held c)) (changes_since s.log known.generation)))
+
+-- ---- an exchange
+
+-- the reply where the body ends so: a refusal unless it is whole
+abbrev pub ended_so : Ending → Reply → Reply
+ended_so Whole reply = reply
+ended_so (Faulty (At n)) reply = Refuses BadRequest
+ended_so (Faulty (TooLong n)) reply = Refuses TooLarge
+ended_so (Cut n) reply = Refuses BadRequest
+
+-- each document in order, with the told place moved to its own, and then the end of the body
+abbrev pub exchanged : State → ℕ → Uid → Place → List Held → List SyncDoc → Ending → Served
+exchanged s seed source known held [] ending = record { reply = ended_so ending (returned s known held); steps = [] }
+exchanged s seed source known held (doc ∷ docs) ending =
+    if passes (kept_at s Told source) doc.at
+    then (let made = steps_for s seed false doc (record { table = Told; uid = source; at = doc.at }) in
+    let after = after_all s made in
+    first made (exchanged after seed source known (held ++ held_after (taken_of s doc false).outcome doc.id after) docs ending))
+    else refused LogCheck
+
+-- the head is checked before the documents; only a body that is not whole has none
+abbrev pub exchange : State → ℕ → Uid → Option Place → List SyncDoc → Ending → Served
+exchange s seed source None docs ending = record { reply = ended_so ending (Refuses BadRequest); steps = [] }
+exchange s seed source (Some known) docs ending =
+    if fits_log s.log known then exchanged s seed source known [] docs ending else refused LogCheck
+
+-- ---- the other asks
+
+abbrev pub info_of : State → Uid → Info
+info_of s source = record { target = s.uid; target_at = end_of s.log; source = source; source_at = kept_at s Told source }
+
+abbrev pub told : State → Uid → Place → Served
+told s source at =
+    if passes (kept_at s Told source) at
+    then record { reply = Keeps; steps = steps_to s (record { table = Told; uid = source; at = at }) }
+    else refused LogCheck
+
+abbrev pub asked : State → ℕ → Uid → Ask → Served
+asked s seed source AskInfo = record { reply = Tells (info_of s source); steps = [] }
+asked s seed source (Tell (Says at)) = told s source at
+asked s seed source (Tell Unread) = refused BadRequest
+asked s seed source (Tell Short) = refused BadRequest
+asked s seed source (Tell Over) = refused TooLarge
+asked s seed source (Exchange stream) = exchange s seed source stream.head stream.docs stream.ending
+
+-- ---- serving
+
+-- what a state replies to a request, and the steps, where nothing stops it
+abbrev pub serve : State → ℕ → Request → Served
+serve s seed EndsEarly = refused BadRequest
+serve s seed (Refused fault) = refused (head_refusal fault)
+serve s seed (Asks db source ask) = if same_id s.name db then asked s seed source ask else refused NotFound
+
+-- why serving stops early: the store has no room for this step, the store failed at it, or memory ran out
+pub data Stop : Type 0 where
+  Full : Step → Stop
+  Failed : Step → Stop
+  Memory : Stop
+
+abbrev pub stop_refusal : Stop → Refusal
+stop_refusal (Full x) = StoreFull
+stop_refusal (Failed x) = StoreFailed
+stop_refusal Memory = NoMemory
+
+-- of all the steps these were made before it stopped
+abbrev pub StopsAfter : List Step → List Step → Stop → Type 0
+StopsAfter made steps (Full x) = GoOn (made ++ x ∷ []) steps
+StopsAfter made steps (Failed x) = GoOn (made ++ x ∷ []) steps
+StopsAfter made steps Memory = GoOn made steps
+
+-- the reply to a request and the steps that were made, as defined, or to a stop
+pub data Serves (s : State) (seed : ℕ) (request : Request) (reply : Reply) (made : List Step) : Type 0 where
+  whole : reply ≡ (serve s seed request).reply → made ≡ (serve s seed request).steps → Serves s seed request reply made
+  stopped : (stop : Stop) → reply ≡ Refuses (stop_refusal stop) → StopsAfter made (serve s seed request).steps stop
+      → Serves s seed request reply made
+
+-- the bytes that were read say a request, to which the state replies with these bytes and makes these steps
+pub record ServesBytes (s : State) (seed : ℕ) (read written : List ℕ) (made : List Step) : Type 0 where
+  pub request : Request
+  pub reply : Reply
+  pub reads : ReadsRequest read request
+  pub serves : Serves s seed request reply made
+  pub writes : written ≡ reply_text reply

@@ -1,0 +1,42 @@
+//! What holds of all streams, each as the contract of a function that does nothing.
+ghost use Rattle.sync_stream.specs.Laws.{BodiesPass, OneFirstFault, OneReading, OneSaying, ReadersSay, ServingIs, StreamsReadBack, WholeStreams};
+
+/// A text says one list of lines, however it is cut.
+pub fn law_one_reading()
+    ensures { OneReading }
+{}
+
+/// A text has at most one first faulty line.
+pub fn law_first_fault()
+    ensures { OneFirstFault }
+{}
+
+/// Lines are good up to the end exactly when they are those of a whole stream.
+pub fn law_bodies()
+    ensures { BodiesPass }
+{}
+
+/// A body has no fault exactly if it is a whole stream.
+pub fn law_whole_streams()
+    ensures { WholeStreams }
+{}
+
+/// A stream that was written is whole, and is read as what it was written for.
+pub fn law_streams()
+    ensures { StreamsReadBack }
+{}
+
+/// What a reader stands for is what the bytes say that came: cut, faulty or whole.
+pub fn law_readers()
+    ensures { ReadersSay }
+{}
+
+/// What came of a body says one list of lines, and one ending.
+pub fn law_one_saying()
+    ensures { OneSaying }
+{}
+
+/// What is served, at small states, and of an exchange that came in part.
+pub fn law_serving()
+    ensures { ServingIs }
+{}

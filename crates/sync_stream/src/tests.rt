@@ -1,0 +1,343 @@
+//! Worked streams in pieces of several sizes.
+//!
+//! A row is a stream and what is told of it: its lines, and that it is whole or its fault. In a row `~` stands for CR LF,
+//! `$t`, `$n` and `$r` for a tab, LF and CR, and `$h`, `$1` and `$2` for a head and two documents.
+use crate::telling::{tells, tells_cut};
+use crate::{HeadKind, Reader, StreamFault};
+use std::alloc::{AllocError, Global};
+use std::process::Abort;
+use std::test::Fail;
+
+const HEAD: &str = r#"{"new_generation":2,"new_transaction_id":"T-2"}"#;
+
+const FIRST: &str = r#"{"content":null,"gen":1,"id":"d1","rev":"a:1","trans_id":"T-1"}"#;
+
+const SECOND: &str = r#"{"content":"{}","gen":2,"id":"d2","rev":"a:1|b:2","trans_id":"T-2"}"#;
+
+// What a row says.
+fn meant(alloc: Global, row: &str) -> Result<String, AllocError> {
+    let mut text = String::from_str(alloc, row)?;
+    for (name, bytes) in [
+        ("$h", HEAD),
+        ("$1", FIRST),
+        ("$2", SECOND),
+        ("$t", "\t"),
+        ("$n", "\n"),
+        ("$r", "\r"),
+        ("~", "\r\n"),
+    ] {
+        text = text.replace(alloc, name, bytes)?;
+    }
+    Ok(text)
+}
+
+// Of the stream of each row this is told, in pieces of each size.
+fn rows(rt: &impl Abort, alloc: Global, kind: HeadKind, rows: &str) -> Result<(), Fail> {
+    for row in rows.lines() {
+        if row.is_empty() {
+            continue;
+        }
+        let (stream, want) = row.split_once(" => ").ok_or("nothing is told")?;
+        tells(rt, alloc, kind, meant(alloc, stream)?.as_bytes(), want)?;
+    }
+    Ok(())
+}
+
+// The same of a document that is the only one of a reply.
+fn docs(rt: &impl Abort, alloc: Global, docs: &str) -> Result<(), Fail> {
+    for row in docs.lines() {
+        if row.is_empty() {
+            continue;
+        }
+        let (doc, want) = row.split_once(" => ").ok_or("nothing is told")?;
+        let row = format!(in alloc; "[~$h,~{doc}~]~ => head 2 T-2; {want}")?;
+        rows(rt, alloc, HeadKind::Reply, row.as_str())?;
+    }
+    Ok(())
+}
+
+pub(crate) const EXCHANGE: &str = "[\r\n\
+    {\"ensure\":false,\"last_known_generation\":0,\"last_known_trans_id\":\"\"},\r\n\
+    {\"content\":\"{\\\"v\\\":1}\",\"gen\":1,\"id\":\"d1\",\"rev\":\"a:1\",\"trans_id\":\"T-1\"}\r\n\
+    ]\r\n";
+
+const EXCHANGED: &str = "head 0 -; d1 a:1 {\"v\":1} 1 T-1; end; whole";
+
+#[test]
+fn one_document(rt: HostRuntime) -> Result<(), Fail> {
+    assert_eq!(rt; EXCHANGE.len(), 148);
+    tells(
+        &rt,
+        rt.alloc(),
+        HeadKind::Request,
+        EXCHANGE.as_bytes(),
+        EXCHANGED,
+    )
+}
+
+#[test]
+fn one_document_cut_at_each_byte(rt: HostRuntime) -> Result<(), Fail> {
+    tells_cut(
+        &rt,
+        rt.alloc(),
+        HeadKind::Request,
+        EXCHANGE.as_bytes(),
+        EXCHANGED,
+    )
+}
+
+#[test]
+fn one_byte_behind_the_end(rt: HostRuntime) -> Result<(), Fail> {
+    let alloc = rt.alloc();
+    let stream = format!(in alloc; "{EXCHANGE} ")?;
+    let want = "head 0 -; d1 a:1 {\"v\":1} 1 T-1; end; At(5)";
+    tells(&rt, alloc, HeadKind::Request, stream.as_bytes(), want)
+}
+
+// Two replicas have each made a document: the request, and the reply to it.
+const SYNC_REQUEST: &str = r#"
+[~{"ensure":false,"last_known_generation":0,"last_known_trans_id":""},~{"content":"{\"v\":\"a\"}","gen":1,"id":"d1","rev":"a:1","trans_id":"T-a1"}~]~ => head 0 -; d1 a:1 {"v":"a"} 1 T-a1; end; whole
+"#;
+
+const SYNC_REPLY: &str = r#"
+[~{"new_generation":1,"new_transaction_id":"T-b1"},~{"content":"{\"v\":\"b\"}","gen":1,"id":"d1","rev":"b:1","trans_id":"T-b1"}~]~ => head 1 T-b1; d1 b:1 {"v":"b"} 1 T-b1; end; whole
+"#;
+
+#[test]
+fn one_whole_sync(rt: HostRuntime) -> Result<(), Fail> {
+    rows(&rt, rt.alloc(), HeadKind::Request, SYNC_REQUEST)?;
+    rows(&rt, rt.alloc(), HeadKind::Reply, SYNC_REPLY)
+}
+
+// A comma stands behind each object line but the last.
+const COMMAS: &str = r#"
+[~$h,~$1,~$2~]~ => head 2 T-2; d1 a:1 deleted 1 T-1; d2 a:1|b:2 {} 2 T-2; end; whole
+[~$h,~$1~$2~]~ => head 2 T-2; d1 a:1 deleted 1 T-1; At(4)
+[~$h,~$1,,~$2~]~ => head 2 T-2; At(3)
+[~$h,~$1,~$2,~]~ => head 2 T-2; d1 a:1 deleted 1 T-1; d2 a:1|b:2 {} 2 T-2; At(5)
+[~$h,~]~ => head 2 T-2; At(3)
+[~$h~$1~]~ => head 2 T-2; At(3)
+"#;
+
+#[test]
+fn commas(rt: HostRuntime) -> Result<(), Fail> {
+    rows(&rt, rt.alloc(), HeadKind::Reply, COMMAS)
+}
+
+const PLACES: &str = r#"
+[~$h,~$1,~{}~]~ => head 2 T-2; d1 a:1 deleted 1 T-1; At(4)
+[~$1,~$2~]~ => At(2)
+[~~$h,~$1,~$2~] => At(2)
+~[~$h,~$1,~$2~] => At(1)
+[~{"ensure":false,"last_known_generation":0,"last_known_trans_id":""}~]~ => At(2)
+[~$h~[~ => head 2 T-2; At(3)
+"#;
+
+#[test]
+fn lines_out_of_place(rt: HostRuntime) -> Result<(), Fail> {
+    rows(&rt, rt.alloc(), HeadKind::Reply, PLACES)
+}
+
+// The body ends before the line `]`: the line that is missing is the faulty one.
+const MISSING: &str = r#"
+ => At(1)
+[ => At(2)
+[~ => At(2)
+[~$h => At(3)
+[~$h~ => head 2 T-2; At(3)
+[~$h,~$1 => head 2 T-2; At(4)
+[~$h,~$1~ => head 2 T-2; d1 a:1 deleted 1 T-1; At(4)
+[~$h,~$1,~$2~ => head 2 T-2; d1 a:1 deleted 1 T-1; d2 a:1|b:2 {} 2 T-2; At(5)
+[~$h,~$1,~$2,~{"content":nu => head 2 T-2; d1 a:1 deleted 1 T-1; d2 a:1|b:2 {} 2 T-2; At(5)
+"#;
+
+#[test]
+fn missing_lines(rt: HostRuntime) -> Result<(), Fail> {
+    rows(&rt, rt.alloc(), HeadKind::Reply, MISSING)
+}
+
+// The line `]` may stand without its line end, and nothing behind it. Blanks and tabs may stand round a line, and white
+// space of JSON within one.
+const ENDS: &str = r#"
+[~$h~] => head 2 T-2; whole
+[~$h~]~ => head 2 T-2; end; whole
+[~$h~]~~ => head 2 T-2; end; At(4)
+[~$h~]~$n => head 2 T-2; end; At(4)
+[~$h~] $t => head 2 T-2; whole
+[~$h~]$n => head 2 T-2; At(3)
+ [$t~$t{"x":[1,$n2],"new_generation":0,$r"new_transaction_id":null} $t~$t] ~ => head 0 -; end; whole
+[~$h $t, $t~$1~]~ => head 2 T-2; d1 a:1 deleted 1 T-1; end; whole
+"#;
+
+#[test]
+fn ends_and_blanks(rt: HostRuntime) -> Result<(), Fail> {
+    rows(&rt, rt.alloc(), HeadKind::Reply, ENDS)
+}
+
+// A head lies in each member.
+const HEADS: &str = r#"
+[~{"new_generation":0,"new_transaction_id":"no id"}~]~ => head 0 -; end; whole
+[~{"new_generation":9223372036854775807,"new_transaction_id":"T"}~] => head 9223372036854775807 T; whole
+[~{"new_generation":9223372036854775808,"new_transaction_id":"T"}~]~ => At(2)
+[~{"new_generation":-1,"new_transaction_id":"T"}~]~ => At(2)
+[~{"new_generation":"1","new_transaction_id":"T"}~]~ => At(2)
+[~{"new_generation":1,"new_transaction_id":""}~]~ => At(2)
+[~{"new_generation":1,"new_transaction_id":null}~]~ => At(2)
+[~{"new_generation":0,"new_transaction_id":0}~]~ => At(2)
+[~{"new_generation":1}~]~ => At(2)
+[~{"new_transaction_id":"T"}~]~ => At(2)
+[~{}~]~ => At(2)
+"#;
+
+#[test]
+fn heads(rt: HostRuntime) -> Result<(), Fail> {
+    rows(&rt, rt.alloc(), HeadKind::Reply, HEADS)
+}
+
+// Members come in any order and with others, and the last of a name counts.
+const READ: &str = r#"
+{"trans_id":"T-1","x":1,"rev":"a:1","id":"d","gen":7,"gen":1,"content":"{ }"} => d a:1 {} 1 T-1; end; whole
+$t{"content":"{}",$r"gen":1,$n"id":"d%2F","rev":"a:1","trans_id":"T"}  => d%2F a:1 {} 1 T; end; whole
+{"content":null,"gen":9223372036854775807,"id":"d","rev":"a:1","trans_id":"T"} => d a:1 deleted 9223372036854775807 T; end; whole
+"#;
+
+#[test]
+fn reads_documents(rt: HostRuntime) -> Result<(), Fail> {
+    docs(&rt, rt.alloc(), READ)
+}
+
+const POSITIONS: &str = r#"
+{"content":"{}","gen":0,"id":"d","rev":"a:1","trans_id":""} => At(3)
+{"content":"{}","gen":0,"id":"d","rev":"a:1","trans_id":null} => At(3)
+{"content":"{}","gen":9223372036854775808,"id":"d","rev":"a:1","trans_id":"T"} => At(3)
+{"content":"{}","gen":-1,"id":"d","rev":"a:1","trans_id":"T"} => At(3)
+{"content":"{}","gen":1.0,"id":"d","rev":"a:1","trans_id":"T"} => At(3)
+{"content":"{}","gen":1,"id":"d","rev":"a:1","trans_id":""} => At(3)
+{"content":"{}","gen":1,"id":"d","rev":"a:1","trans_id":1} => At(3)
+{"content":"{}","gen":1,"id":"d","rev":"a:1"} => At(3)
+{"content":"{}","id":"d","rev":"a:1","trans_id":"T"} => At(3)
+"#;
+
+#[test]
+fn refuses_positions(rt: HostRuntime) -> Result<(), Fail> {
+    docs(&rt, rt.alloc(), POSITIONS)
+}
+
+const NAMES: &str = r#"
+{"content":"{}","gen":1,"id":"d/","rev":"a:1","trans_id":"T"} => At(3)
+{"content":"{}","gen":1,"id":"","rev":"a:1","trans_id":"T"} => At(3)
+{"content":"{}","gen":1,"id":1,"rev":"a:1","trans_id":"T"} => At(3)
+{"content":"{}","gen":1,"rev":"a:1","trans_id":"T"} => At(3)
+{"content":"{}","gen":1,"id":"d","rev":"a:01","trans_id":"T"} => At(3)
+{"content":"{}","gen":1,"id":"d","rev":"","trans_id":"T"} => At(3)
+{"content":"{}","gen":1,"id":"d","rev":null,"trans_id":"T"} => At(3)
+{"content":"{}","gen":1,"id":"d","trans_id":"T"} => At(3)
+"#;
+
+#[test]
+fn refuses_ids_and_revisions(rt: HostRuntime) -> Result<(), Fail> {
+    docs(&rt, rt.alloc(), NAMES)
+}
+
+const CONTENTS: &str = r#"
+{"content":"[]","gen":1,"id":"d","rev":"a:1","trans_id":"T"} => At(3)
+{"content":{},"gen":1,"id":"d","rev":"a:1","trans_id":"T"} => At(3)
+{"content":"","gen":1,"id":"d","rev":"a:1","trans_id":"T"} => At(3)
+{"content":"{\"a\":1.5}","gen":1,"id":"d","rev":"a:1","trans_id":"T"} => At(3)
+{"content":false,"gen":1,"id":"d","rev":"a:1","trans_id":"T"} => At(3)
+{"gen":1,"id":"d","rev":"a:1","trans_id":"T"} => At(3)
+[] => At(3)
+ => At(3)
+"#;
+
+#[test]
+fn refuses_contents(rt: HostRuntime) -> Result<(), Fail> {
+    docs(&rt, rt.alloc(), CONTENTS)
+}
+
+// ---- single calls
+
+// What the next call answers: `line`, `none` or a fault.
+fn next(alloc: Global, reader: &mut Reader) -> Result<String, AllocError> {
+    match reader.next_line(alloc) {
+        Ok(Some(_)) => String::from_str(alloc, "line"),
+        Ok(None) => String::from_str(alloc, "none"),
+        Err(fault) => format!(in alloc; "{fault:?}"),
+    }
+}
+
+#[test]
+fn holds_an_unfinished_document(rt: HostRuntime) -> Result<(), Fail> {
+    let alloc = rt.alloc();
+    let mut reader = Reader::new(alloc, HeadKind::Reply);
+    reader.push(meant(alloc, "[~$h,~$1,~$2")?.as_bytes())?;
+    for want in ["line", "line", "none"] {
+        assert_eq!(rt; next(alloc, &mut reader)?.as_str(), want);
+    }
+    assert_eq!(rt; reader.held(), SECOND.len() as u64);
+    Ok(())
+}
+
+#[test]
+fn keeps_its_fault(rt: HostRuntime) -> Result<(), Fail> {
+    let alloc = rt.alloc();
+    let mut reader = Reader::new(alloc, HeadKind::Reply);
+    reader.push(b"x\r\n[")?;
+    assert_eq!(rt; next(alloc, &mut reader)?.as_str(), "At(1)");
+    assert_eq!(rt; next(alloc, &mut reader)?.as_str(), "At(1)");
+    assert_eq!(rt; reader.push(b"\r\n"), Err(StreamFault::At(1)));
+    assert_eq!(rt; reader.held(), 4);
+    Ok(())
+}
+
+// ---- the longest line
+
+const LONGEST: usize = 33_554_432;
+
+// A reader of a line of so many bytes: `[`, and the filling. These bytes are behind it.
+fn filled(alloc: Global, filling: u8, length: usize, behind: &[u8]) -> Result<Reader, Fail> {
+    let mut line = Vec::with_capacity(alloc, length)?;
+    line.push(b'[')?;
+    line.resize(length, filling)?;
+    let mut reader = Reader::new(alloc, HeadKind::Reply);
+    reader.push(&line)?;
+    reader.push(behind)?;
+    Ok(reader)
+}
+
+#[test]
+fn reads_the_longest_line(rt: HostRuntime) -> Result<(), Fail> {
+    let alloc = rt.alloc();
+    let mut reader = filled(alloc, b' ', LONGEST, b"\r\n")?;
+    assert_eq!(rt; next(alloc, &mut reader)?.as_str(), "none");
+    assert_eq!(rt; reader.held(), 0);
+    Ok(())
+}
+
+#[test]
+fn refuses_one_byte_more(rt: HostRuntime) -> Result<(), Fail> {
+    let alloc = rt.alloc();
+    let mut reader = filled(alloc, b' ', LONGEST + 1, b"\r\n")?;
+    assert_eq!(rt; next(alloc, &mut reader)?.as_str(), "TooLong(1)");
+    Ok(())
+}
+
+#[test]
+fn refuses_one_byte_more_before_the_line_ends(rt: HostRuntime) -> Result<(), Fail> {
+    let alloc = rt.alloc();
+    let mut reader = filled(alloc, b' ', LONGEST + 1, b"")?;
+    assert_eq!(rt; next(alloc, &mut reader)?.as_str(), "TooLong(1)");
+    Ok(())
+}
+
+// A CR at the end may be that of a CR LF: then the line is not too long, and is no `[`.
+#[test]
+fn waits_for_the_line_end(rt: HostRuntime) -> Result<(), Fail> {
+    let alloc = rt.alloc();
+    let mut reader = filled(alloc, b'x', LONGEST, b"\r")?;
+    assert_eq!(rt; next(alloc, &mut reader)?.as_str(), "none");
+    assert_eq!(rt; reader.held(), 33_554_433);
+    reader.push(b"\n")?;
+    assert_eq!(rt; next(alloc, &mut reader)?.as_str(), "At(1)");
+    Ok(())
+}
