@@ -1,0 +1,6 @@
+-- The store that was opened stands.
+use Rattle.volume.proofs.appending_tests.add.Goals as goal
+
+pub append_on-requires-clause-store : goal.append_on-requires-clause-store
+append_on-requires-clause-store c t =
+    let opened = c.in_ok-opened.opened in (opened.format, opened.header, opened.bodies, c.in_ok-opened.ensures.ok t)

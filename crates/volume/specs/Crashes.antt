@@ -1,0 +1,52 @@
+-- What a crash leaves of a store, by what is found of it then.
+use Rattle.std.specs.Prelude.{◌≡◌, ◌≢◌, ◌⊎◌, ℕ, List, [], ◌∷◌, ◌++◌}
+use Rattle.disk_model.specs.Device.{File}
+use Rattle.disks.specs.declared.name.DiskName.{DiskName}
+use Rattle.disks.specs.declared.name.DiskName.TheVariants.{Left, Right}
+use Rattle.disks.specs.declared.trio.Trio.{Trio}
+use Rattle.disks.specs.Joint.{JointMoment, AreCrashImages, Devices, seen_of, now_of}
+use Rattle.disks.specs.Moments.{LeavesTogether}
+use Rattle.journal.specs.Image.{Head}
+use Rattle.journal.specs.Journal.{Extent}
+use Rattle.journal.specs.Spelled.{Spelled, Spells}
+use Rattle.volume.specs.Store.{Found, found_of, IsStore}
+use Rattle.volume.specs.Store.Found.{Stands}
+
+-- nothing was written: the reads give what they gave, and a crash on the way leaves no more than one at the start might
+pub record OnlyLooks (old new : Devices) : Type 0 where
+  pub seen : seen_of new.files ≡ seen_of old.files
+  pub leaves : LeavesTogether old new (AreCrashImages (now_of old.files))
+
+-- this might be found after a crash at this moment
+abbrev pub MayFind : JointMoment → Found → Type 0
+MayFind moment found = (files : Trio (List ℕ)) × AreCrashImages moment files × (found ≡ found_of files)
+
+-- the empty store of this head, in format 2, on either side
+abbrev pub IsEmptyStore : Head → Found → Type 0
+IsEmptyStore head found = (found ≡ Stands Left 2 head []) ⊎ (found ≡ Stands Right 2 head [])
+
+-- a crash on the way leaves what a crash at the start might leave, or the empty store of this head
+abbrev pub LeavesOldOrEmpty : Head → Devices → Devices → Type 0
+LeavesOldOrEmpty head old new =
+    LeavesTogether old new (λ files. MayFind (now_of old.files) (found_of files) ⊎ IsEmptyStore head (found_of files))
+
+-- every store that stood with the journal before stands with the one after it, with one body more
+abbrev pub StandsOneMore : List ℕ → DiskName → Extent → Extent → Trio File → Trio File → Type 0
+StandsOneMore body side old new before after =
+    (format : ℕ) (head : Head) (bodies : List (List ℕ)) → IsStore old side format head bodies before
+    → IsStore new side format head (bodies ++ body ∷ []) after
+
+-- a crash on the way leaves the store that stood, or that with one body more
+abbrev pub LeavesOldOrOneMore : List ℕ → DiskName → Extent → Devices → Devices → Type 0
+LeavesOldOrOneMore body side journal old new =
+    (format : ℕ) (head : Head) (bodies : List (List ℕ)) → IsStore journal side format head bodies old.files
+    → LeavesTogether old new (λ files. (found_of files ≡ Stands side format head bodies)
+    ⊎ (found_of files ≡ Stands side format head (bodies ++ body ∷ [])))
+
+-- a crash on the way leaves the store that stood on the other side, or that of the image that is spelled, on this side
+abbrev pub LeavesOldOrNew : DiskName → Spelled → Devices → Devices → Type 0
+LeavesOldOrNew side spelled old new =
+    (head : Head) (bodies : List (List ℕ)) → Spells head bodies spelled
+    → (journal : Extent) (from : DiskName) (format : ℕ) (former : Head) (rows : List (List ℕ)) → from ≢ side
+    → IsStore journal from format former rows old.files
+    → LeavesTogether old new (λ files. (found_of files ≡ Stands from format former rows) ⊎ (found_of files ≡ Stands side 2 head bodies))

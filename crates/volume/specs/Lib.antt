@@ -1,0 +1,7 @@
+pub mod Store
+pub mod Crashes
+pub mod Opening
+pub mod Making
+pub mod Steps
+pub mod Faults
+pub mod Laws

@@ -1,0 +1,34 @@
+//! The images of a store on three disks.
+//!
+//! The root has one byte, which names the image that counts. `init_images` makes an empty store,
+//! `open_images` reads the one that stands, `append_on` adds a body to it, and `put_in_place`
+//! writes a new image on the other side and then names that. A crash at any moment leaves the store
+//! as it was or as it is to be.
+#![tactic(auto)]
+
+mod appending;
+#[cfg(test)]
+mod appending_tests;
+mod laws;
+mod making;
+#[cfg(test)]
+mod making_tests;
+mod one_disk;
+mod opening;
+#[cfg(test)]
+mod opening_tests;
+#[cfg(test)]
+mod plain_tests;
+mod replacing;
+#[cfg(test)]
+mod replacing_tests;
+mod root;
+#[cfg(test)]
+mod tests;
+
+pub use appending::append_on;
+pub use laws::{law_found, law_store};
+pub use making::{InitFault, init_images};
+pub use opening::{OpenedImages, StoreFault, open_images};
+pub use replacing::put_in_place;
+pub use root::other_side;

@@ -1,0 +1,110 @@
+//! Putting a new image in the place of the old one: its bytes, each call that fails, and what a
+//! crash leaves.
+use crate::tests::{EMPTY, Left, ONE, ONE_1, Seen, calls, disks_of, hold};
+use crate::{StoreFault, open_images, other_side, put_in_place};
+use disk_model::MemDisk;
+use disks::{DiskName, Disks};
+use journal::NewImage;
+use std::alloc::Global;
+use std::test::Fail;
+
+// Opens the store and writes what it reads as on the other side. It tells the length of the image
+// then.
+fn copy_over(alloc: Global, disks: &mut Disks<MemDisk>) -> Result<u64, StoreFault> {
+    let opened = open_images(alloc, disks)?;
+    let to = other_side(opened.side);
+    let Ok(image) = NewImage::of(alloc, &opened.header, opened.bodies.as_slice()) else {
+        return Err(StoreFault::Memory);
+    };
+    let journal = put_in_place(disks, &image, to)?;
+    Ok(journal.length())
+}
+
+// Opens the store and writes an image without bodies on the other side.
+fn empty_over(alloc: Global, disks: &mut Disks<MemDisk>) -> Result<u64, StoreFault> {
+    let opened = open_images(alloc, disks)?;
+    let to = other_side(opened.side);
+    let Ok(image) = NewImage::of(alloc, &opened.header, &[]) else {
+        return Err(StoreFault::Memory);
+    };
+    let journal = put_in_place(disks, &image, to)?;
+    Ok(journal.length())
+}
+
+// Whether a move to the other side and another one back leave these files.
+fn moves(alloc: Global) -> Result<bool, Fail> {
+    let mut disks = disks_of(alloc, (&[0], ONE, b"other"), DiskName::Root, &[])?;
+    let copied = copy_over(alloc, &mut disks) == Ok(32) && hold(&disks, (&[1], ONE, ONE));
+    let emptied = empty_over(alloc, &mut disks) == Ok(24) && hold(&disks, (&[0], EMPTY, ONE));
+    Ok(copied && emptied)
+}
+
+#[test]
+fn moves_to_the_other_side_and_back(rt: HostRuntime) -> Result<(), Fail> {
+    assert!(rt; moves(rt.alloc())?);
+    Ok(())
+}
+
+// Whether an image of format 1 is moved as one of format 2, in five calls. Opening is six here: a
+// sync, a look and a read of each of two disks.
+fn is_renewed(alloc: Global) -> Result<bool, Fail> {
+    let mut disks = disks_of(alloc, (&[254], ONE_1, b""), DiskName::Root, &[])?;
+    let done = copy_over(alloc, &mut disks) == Ok(32);
+    Ok(done && hold(&disks, (&[1], ONE_1, ONE)) && calls(&disks) == 11)
+}
+
+#[test]
+fn writes_format_2_in_the_place_of_format_1(rt: HostRuntime) -> Result<(), Fail> {
+    assert!(rt; is_renewed(rt.alloc())?);
+    Ok(())
+}
+
+// Whether the move answers this where the call of this number fails, and a crash leaves just what
+// is listed.
+fn leaves(
+    alloc: Global,
+    failing: (DiskName, u64),
+    answer: Result<u64, StoreFault>,
+    is: &[Seen],
+) -> Result<bool, Fail> {
+    let (name, number) = failing;
+    let mut disks = disks_of(alloc, (&[0], ONE_1, b"old"), name, &[number])?;
+    let done = empty_over(alloc, &mut disks) == answer;
+    let left = Left::of(alloc, &mut disks)?;
+    Ok(done && left.all(alloc, is)?)
+}
+
+const FAILED: Result<u64, StoreFault> = Err(StoreFault::Disk);
+
+const OLD: Seen = Seen::Stands(DiskName::Left, 1, 1);
+
+const NEW: Seen = Seen::Stands(DiskName::Right, 2, 0);
+
+#[test]
+fn leaves_the_old_image_until_the_root_is_written(rt: HostRuntime) -> Result<(), Fail> {
+    for number in 0..3u64 {
+        let failing = (DiskName::Right, number);
+        assert!(rt; leaves(rt.alloc(), failing, FAILED, &[OLD])?, "{number}");
+    }
+    Ok(())
+}
+
+// The root is given three calls when it is read, and then a write and a sync.
+#[test]
+fn leaves_the_old_image_or_the_new_one(rt: HostRuntime) -> Result<(), Fail> {
+    for number in 3..5u64 {
+        let failing = (DiskName::Root, number);
+        assert!(rt;
+            leaves(rt.alloc(), failing, FAILED, &[OLD, NEW])?,
+            "{number}"
+        );
+    }
+    Ok(())
+}
+
+#[test]
+fn leaves_the_new_image_when_it_is_named(rt: HostRuntime) -> Result<(), Fail> {
+    let failing = (DiskName::Root, 5);
+    assert!(rt; leaves(rt.alloc(), failing, Ok(24), &[NEW])?);
+    Ok(())
+}

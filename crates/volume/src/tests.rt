@@ -1,0 +1,170 @@
+//! What the tests share: three disks in memory, the worked images, and what a crash leaves of them.
+use crate::{OpenedImages, StoreFault, open_images};
+use disk_model::{Choice, Disk, MemDisk};
+use disks::{DiskName, Disks};
+use journal::Header;
+use std::alloc::Global;
+use std::test::Fail;
+use u1_base::limits::{GREATEST_IMAGE_LIMIT, LEAST_IMAGE_LIMIT};
+use u1_base::{Bytes, DbName, Memory, Numbers, ReplicaUid};
+
+/// The empty image of the database `db` at the replica `a`, with the greatest limit.
+pub(crate) const EMPTY: &[u8] = b"U1DBVOL\x02\0\x02db\0\x01a\0\0\x01\0\0\0\0\0\0";
+
+/// A body of three bytes, and the image that has it.
+pub(crate) const BODY: &[u8] = b"xyz";
+
+pub(crate) const ONE: &[u8] = b"U1DBVOL\x02\0\x02db\0\x01a\0\0\x01\0\0\0\0\0\x01\0\0\0\x03xyz\0";
+
+/// The same in format 1.
+pub(crate) const ONE_1: &[u8] = b"U1DBVOL\x01\0\x02db\0\x01a\0\0\x01\0\0\0\0\0\x01\0\0\0\x03xyz\0";
+
+pub(crate) const CHOICES: [Choice; 5] = [
+    Choice::Nothing,
+    Choice::Whole,
+    Choice::FirstHalf,
+    Choice::Fill(0),
+    Choice::Fill(1),
+];
+
+pub(crate) const NAMES: [DiskName; 3] = [DiskName::Root, DiskName::Left, DiskName::Right];
+
+/// One for each disk: the root, left and right.
+pub(crate) type Three<'a> = (&'a [u8], &'a [u8], &'a [u8]);
+
+pub(crate) fn disk_of(alloc: Global, text: &[u8], failing: &[u64]) -> Result<MemDisk, Memory> {
+    let mut bytes = Bytes::new(alloc);
+    bytes.extend(text)?;
+    let mut numbers = Numbers::new(alloc);
+    for number in failing {
+        numbers.push(*number)?;
+    }
+    Ok(MemDisk::new(alloc, bytes, numbers))
+}
+
+// The failing calls of the one disk that has some.
+fn failing_at(one: DiskName, name: DiskName, failing: &[u64]) -> &[u64] {
+    if one == name { failing } else { &[] }
+}
+
+/// Three disks that hold these bytes; the one of this name fails at its calls of these numbers.
+pub(crate) fn disks_of(
+    alloc: Global,
+    bytes: Three,
+    name: DiskName,
+    failing: &[u64],
+) -> Result<Disks<MemDisk>, Memory> {
+    let root = disk_of(alloc, bytes.0, failing_at(DiskName::Root, name, failing))?;
+    let left = disk_of(alloc, bytes.1, failing_at(DiskName::Left, name, failing))?;
+    let right = disk_of(alloc, bytes.2, failing_at(DiskName::Right, name, failing))?;
+    Ok(Disks::new(root, left, right))
+}
+
+/// Whether the three hold these bytes.
+pub(crate) fn hold(disks: &Disks<MemDisk>, bytes: Three) -> bool {
+    disks.disk(DiskName::Root).bytes() == bytes.0
+        && disks.disk(DiskName::Left).bytes() == bytes.1
+        && disks.disk(DiskName::Right).bytes() == bytes.2
+}
+
+/// How many calls the three were given.
+pub(crate) fn calls(disks: &Disks<MemDisk>) -> u64 {
+    let root = disks.disk(DiskName::Root).calls();
+    let left = disks.disk(DiskName::Left).calls();
+    let right = disks.disk(DiskName::Right).calls();
+    root.saturating_add(left).saturating_add(right)
+}
+
+pub(crate) fn header(alloc: Global, limit: u64) -> Result<Header, Fail> {
+    let name = DbName::read(alloc, "db")?;
+    let uid = ReplicaUid::read(alloc, "a")?;
+    let limit = limit.max(LEAST_IMAGE_LIMIT).min(GREATEST_IMAGE_LIMIT);
+    Ok(Header { name, uid, limit })
+}
+
+/// Opens a store whose files hold these bytes.
+pub(crate) fn opened(
+    alloc: Global,
+    bytes: Three,
+) -> Result<Result<OpenedImages, StoreFault>, Memory> {
+    let mut disks = disks_of(alloc, bytes, DiskName::Root, &[])?;
+    Ok(open_images(alloc, &mut disks))
+}
+
+// What a crash now leaves of the disk by this choice. A look is noted first, whose image is the one
+// before it.
+fn left_now(
+    alloc: Global,
+    disks: &mut Disks<MemDisk>,
+    name: DiskName,
+    choice: Choice,
+) -> Result<Bytes, Memory> {
+    let call = disks.disk(name).calls();
+    disks.turn_to(name);
+    let _ = disks.length();
+    let disk = disks.disk(name);
+    if call >= disk.calls() {
+        return Err(Memory);
+    }
+    disk.crash_image(alloc, call, choice)
+}
+
+// What a crash now leaves of the disk, by each choice.
+fn all_left(
+    alloc: Global,
+    disks: &mut Disks<MemDisk>,
+    name: DiskName,
+) -> Result<Vec<Bytes>, Memory> {
+    let mut all = Vec::new(alloc);
+    for choice in CHOICES {
+        all.push(left_now(alloc, disks, name, choice)?)?;
+    }
+    Ok(all)
+}
+
+/// What a crash now leaves of the three, each by each choice.
+#[derive(Drop)]
+pub(crate) struct Left {
+    roots: Vec<Bytes>,
+    lefts: Vec<Bytes>,
+    rights: Vec<Bytes>,
+}
+
+impl Left {
+    pub(crate) fn of(alloc: Global, disks: &mut Disks<MemDisk>) -> Result<Left, Memory> {
+        Ok(Left {
+            roots: all_left(alloc, disks, DiskName::Root)?,
+            lefts: all_left(alloc, disks, DiskName::Left)?,
+            rights: all_left(alloc, disks, DiskName::Right)?,
+        })
+    }
+
+    /// Whether all that a crash leaves is found to be so.
+    pub(crate) fn all(&self, alloc: Global, is: &[Seen]) -> Result<bool, Memory> {
+        let mut all = true;
+        for root in &self.roots {
+            for left in &self.lefts {
+                for right in &self.rights {
+                    let bytes = (root.as_slice(), left.as_slice(), right.as_slice());
+                    let found = found_as(&opened(alloc, bytes)?);
+                    all = all && is.contains(&found);
+                }
+            }
+        }
+        Ok(all)
+    }
+}
+
+/// What is found of a store: the fault, or the side, the format and the number of bodies.
+#[derive(Clone, Copy, Debug, PartialEq, Eq)]
+pub(crate) enum Seen {
+    Fault(StoreFault),
+    Stands(DiskName, u8, usize),
+}
+
+pub(crate) fn found_as(found: &Result<OpenedImages, StoreFault>) -> Seen {
+    match found {
+        Ok(opened) => Seen::Stands(opened.side, opened.format, opened.bodies.len()),
+        Err(fault) => Seen::Fault(*fault),
+    }
+}
