@@ -1,0 +1,10 @@
+pub mod Word
+pub mod Faults
+pub mod Numbers
+pub mod Ends
+pub mod Operands
+pub mod Parted
+pub mod Given
+pub mod Table
+pub mod Words
+pub mod Form

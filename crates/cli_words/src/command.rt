@@ -1,0 +1,126 @@
+//! The commands, each with its operands and its option as they were read.
+use sync_http::Address;
+use u1_base::{DbName, DocId, IndexName, Key, ReplicaUid, Texts};
+use vector_rev::{Clock, Clocks};
+
+/// One command. Expressions and query values stand as they were given; whoever runs the command reads them.
+#[derive(Debug, Drop)]
+pub enum Command {
+    /// Makes a store. The limit is the greatest length of its image, in bytes.
+    Init {
+        name: DbName,
+        uid: Option<ReplicaUid>,
+        limit: Option<u64>,
+    },
+    /// Creates a document from the input.
+    Create {
+        id: Option<DocId>,
+    },
+    /// Shows a document; a deleted one too, if that is asked.
+    Get {
+        id: DocId,
+        deleted: bool,
+    },
+    /// Puts the content of the input over a revision, or where there is none.
+    Put {
+        id: DocId,
+        rev: Option<Clock>,
+    },
+    /// Deletes a document.
+    Delete {
+        id: DocId,
+        rev: Clock,
+    },
+    /// Shows the revisions of a document that are in conflict.
+    Conflicts {
+        id: DocId,
+    },
+    /// Resolves revisions to the content of the input.
+    Resolve {
+        id: DocId,
+        revs: Clocks,
+    },
+    /// Resolves revisions to a deleted document.
+    ResolveDeleted {
+        id: DocId,
+        revs: Clocks,
+    },
+    /// Makes an index of 1 to 8 expressions.
+    IndexCreate {
+        name: IndexName,
+        exprs: Texts,
+    },
+    /// Drops an index.
+    IndexDelete {
+        name: IndexName,
+    },
+    /// Lists the indexes.
+    IndexList,
+    /// Shows the documents that have a key which meets the values.
+    Query {
+        name: IndexName,
+        values: Texts,
+    },
+    /// Shows the documents that have a key from start to end. An end that is None is open.
+    Range {
+        name: IndexName,
+        start: Option<Key>,
+        end: Option<Key>,
+    },
+    /// Shows the keys of an index.
+    Keys {
+        name: IndexName,
+    },
+    /// Shows all documents; deleted ones too, if that is asked.
+    All {
+        deleted: bool,
+    },
+    /// Shows what changed after a generation.
+    Changes {
+        after: u64,
+    },
+    /// Says what the store knows of itself and of others.
+    Info,
+    /// Writes the store anew, as short as it can be.
+    Compact,
+    /// Synchronises with the database at an address.
+    Sync {
+        with: Address,
+    },
+    /// Serves that many connections of other replicas.
+    Serve {
+        port: u16,
+        count: u64,
+    },
+    /// Serves that many connections of clients that ask for documents.
+    ServeDocs {
+        port: u16,
+        count: u64,
+    },
+    /// Serves and synchronises in turn: the rounds, and how many connections are served between two of them.
+    Node {
+        port: u16,
+        with: Address,
+        rounds: u64,
+        between: u64,
+    },
+    /// Makes that many documents by a seed.
+    Work {
+        seed: u64,
+        count: u64,
+    },
+    /// Makes a view: a stored query.
+    ViewCreate {
+        name: IndexName,
+        index: IndexName,
+        values: Texts,
+    },
+    /// Shows a view.
+    ViewShow {
+        name: IndexName,
+    },
+    /// Drops a view.
+    ViewDelete {
+        name: IndexName,
+    },
+}
