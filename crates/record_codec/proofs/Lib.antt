@@ -1,0 +1,6 @@
+pub mod StepLaws
+pub mod BodyLaws
+pub mod StepKinds
+pub mod Writings
+pub mod Answered
+pub mod Worked

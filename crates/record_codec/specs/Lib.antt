@@ -1,0 +1,5 @@
+pub mod Bodies
+pub mod Steps
+pub mod Laws
+pub mod Decoding
+pub mod Encoding

@@ -1,0 +1,10 @@
+pub mod Tables
+pub mod Lawful
+pub mod Texts
+pub mod PlainLaws
+pub mod NamedLaws
+pub mod ClockTexts
+pub mod Loops
+pub mod Writings
+pub mod EntriesRead
+pub mod ReadBehind

@@ -1,0 +1,39 @@
+-- What a reader answers.
+use Rattle.std.specs.Prelude.{◌≡◌, ℕ, List, ◌++◌, codes, map, Option, Some, None, Result, Ok, Err}
+use Rattle.std.specs.Fmt.{decimal}
+use Rattle.expr_parser.specs.declared.expr.Expr.{Expr}
+use Rattle.expr_parser.specs.FormOf.{form_of}
+use Rattle.expr_parser.specs.Canonical.{canonical}
+use Rattle.expr_parser.specs.Reading.{IsExpr}
+use Rattle.record_fields.specs.Table.{Text}
+use Rattle.record_fields.specs.Fields.{Rest, Read}
+use Rattle.record_fields.specs.Plain.{expression_in}
+use Rattle.record_fields.specs.declared.stop.Stop.{Stop}
+use Rattle.record_fields.specs.declared.stop.Stop.TheVariants.{Bad, Memory}
+
+-- reading stops where the field has no reading; out of memory, it may stop anywhere
+abbrev pub Stops : {B : Type 0} → Result B ℕ → Stop → Type 0
+Stops read (Bad left) = read ≡ Err left
+Stops read Memory = Unit {0}
+
+-- what a field reads as, seen by view, with what is left behind it; or where it stops
+abbrev pub Reads : {A B : Type 0} → (A → B) → Read B → Result A Stop → Rest → Type 0
+Reads view read (Ok x) behind = read ≡ Ok (view x, behind)
+Reads view read (Err e) behind = Stops read e
+
+-- the canonical text of an expression
+abbrev pub text_of : Expr → Text
+text_of e = canonical (form_of e)
+
+abbrev pub texts_of : List Expr → List Text
+texts_of es = map canonical (map form_of es)
+
+-- the expression whose canonical text this is
+abbrev pub IsExpression : Text → Option Expr → Type 0
+IsExpression s None = expression_in s ≡ None
+IsExpression s (Some e) = (expression_in s ≡ Some (text_of e)) × IsExpr (form_of e)
+
+-- what a stop prints
+abbrev pub stop_text : Stop → List ℕ
+stop_text (Bad left) = codes "no field can be read " ++ (decimal left ++ codes " bytes before the end")
+stop_text Memory = codes "out of memory"
