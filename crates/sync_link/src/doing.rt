@@ -1,0 +1,10 @@
+//! What a link in memory is doing.
+use crate::rest::Rest;
+
+#[derive(Debug, Drop)]
+pub(crate) enum Doing {
+    Idle,
+    Sending,
+    /// With what is left of the reply.
+    Receiving(Rest),
+}
