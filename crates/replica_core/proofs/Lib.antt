@@ -1,0 +1,7 @@
+pub mod CallsEnds
+pub mod CommandsDone
+pub mod CallsMade
+pub mod CallsTaken
+pub mod CallsIndexes
+pub mod Runs
+mod Worked

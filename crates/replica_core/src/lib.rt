@@ -1,0 +1,38 @@
+//! A replica, whatever keeps it: the trait, a replica in memory, the calls that a program uses on
+//! one, and what its state answers.
+//!
+//! Each writing call decides by a definition over the state and its operands: a refusal, or an answer
+//! with at most one step. Its contract is one record (`IsDone`): the answer is the decided one, the
+//! state is the one after the decided step, each fault has its cause, and a crash leaves the old state
+//! or that one.
+#![tactic(auto)]
+
+mod calls;
+mod fault;
+#[cfg(test)]
+mod generated;
+mod list;
+#[cfg(test)]
+mod list_tests;
+mod memory;
+mod replica;
+#[cfg(test)]
+mod scan_tests;
+#[cfg(test)]
+mod stories;
+#[cfg(test)]
+mod tests;
+
+pub use calls::documents::{PutFault, delete_doc, put_doc};
+pub use calls::indexes::{IndexFault, create_index, delete_index};
+pub use calls::receipts::{TakeFault, move_position, put_if_newer};
+pub use calls::resolutions::{ResolveDocFault, resolve_doc};
+pub use fault::CommitFault;
+pub use list::{Call, CallFault, Ends, run_all};
+pub use memory::MemReplica;
+pub use replica::Replica;
+pub use replica_reads::{
+    Changed, QueryFault, all_docs, check_log, doc_conflicts, from_index, get_doc, index_at,
+    index_keys, index_table, kept_at, law_answers, law_documents, position_of, range_from_index,
+    whats_changed,
+};

@@ -1,0 +1,301 @@
+//! Worked calls on a replica in memory, with what is read of it, told as stories.
+use crate::stories::first_wrong;
+use std::test::Fail;
+
+// Edits; deletions, after which a document is read only where deleted ones are asked for, and no index answers it; and a
+// clock that is full.
+const EDITS: &str = r#"put d1 a:1 {} => there is no such document
+put d1 - {"b":1,"a":"x"} => a:1
+get? d1 => a:1 {"a":"x","b":1}
+get? d2 => none
+put d1 a:1 {} => a:2
+put d1 a:1 {} => current is a:2
+put d1 - {} => current is a:2
+changes? 0 => 2 #2 d1 2 #2
+put d2 - {} => a:1
+get? d1 => a:2 {}
+all? live => d1 d2
+conflicts? d1 => none
+conflicts? d3 => none
+changes? 0 => 3 #3 d1 2 #2 d2 3 #3
+changes? 7 => 3 #3
+
+create i t => done
+put d1 - {"t":"x"} => a:1
+put d2 - {"t":"x"} => a:1
+delete d1 a:1 => a:2
+delete d1 a:2 => the document is deleted already
+delete d1 a:1 => current is a:2
+delete d9 a:1 => there is no such document
+get? d1 => none
+get-deleted? d1 => a:2 deleted
+get-deleted? d9 => none
+all? live => d2
+all? deleted => d1 d2
+query? i * => d2
+range? i open;open => d2
+keys? i => |x,
+put d1 - {} => a:3
+get? d1 => a:3 {}
+query? i * => d2
+
+save d1 a:9223372036854775807 {"v":1} known/b/1/Tb => Inserted a:9223372036854775807
+put d1 a:9223372036854775807 {} => the clock is full
+delete d1 a:9223372036854775807 => the clock is full
+get? d1 => a:9223372036854775807 {"v":1}
+changes? 0 => 1 #1 d1 1 #1
+"#;
+
+// A conflict is resolved, and while it stands the document has the keys of its current member. Part of a conflict is
+// resolved, and a part that does not have the greatest own counter is not. No merge where a member of another content has
+// a greater own counter. A deletion in conflict: the document is deleted where its current member is, whatever the other
+// one has. A dishonest peer: of two members joined the clock covers a third.
+const CONFLICTS: &str = r#"create i v => done
+put d1 - {"v":"a"} => a:1
+save d1 b:1 {"v":"b"} known/b/1/Tb => Conflicted b:1
+get? d1 => b:1 {"v":"b"}
+conflicts? d1 => b:1 {"v":"b"} a:1 {"v":"a"}
+keys? i => |b,
+resolve d1 b:1 {} => not named: a:1
+resolve d1 c:7 {} => no named revision is in the conflict
+put d1 b:1 {} => the document is in conflict
+delete d1 b:1 => the document is in conflict
+resolve d1 a:1,b:1 {"v":"ab"} => a:2|b:1
+conflicts? d1 => none
+keys? i => |ab,
+resolve d1 a:2|b:1 {} => the document is not in conflict
+resolve d9 a:1 {} => there is no such document
+
+put d1 - {"v":"a"} => a:1
+save d1 b:1 {"v":"b"} known/b/1/Tb => Conflicted b:1
+resolve d1 a:1 {"v":"x"} => a:2
+conflicts? d1 => b:1 {"v":"b"} a:2 {"v":"x"}
+resolve d1 b:1 {} => not named: a:2
+resolve d1 a:2,b:1 - => a:3|b:1
+get-deleted? d1 => a:3|b:1 deleted
+
+put d1 - {"v":"a"} => a:1
+save d1 b:1 {"v":"b"} known/b/1/Tb => Conflicted b:1
+save d1 c:1 {"v":"b"} known/c/1/Tc => Conflicted c:1
+conflicts? d1 => c:1 {"v":"b"} a:1 {"v":"a"} b:1 {"v":"b"}
+
+create i v => done
+put d1 - {"v":"a"} => a:1
+save d1 c:1 - known/c/1/Tc => Conflicted c:1
+get? d1 => none
+get-deleted? d1 => c:1 deleted
+conflicts? d1 => c:1 deleted a:1 {"v":"a"}
+all? live => 
+all? deleted => d1
+query? i * => 
+
+save d1 c:2 {} known/p/1/Tp => Inserted c:2
+save d1 d:2 {"v":1} known/p/2/Tq => Conflicted d:2
+save d1 c:1|d:1 {"v":2} known/p/3/Tr => Conflicted c:1|d:1
+resolve d1 c:2,d:2 {} => a:1|c:2|d:2
+conflicts? d1 => none
+get? d1 => a:1|c:2|d:2 {}
+"#;
+
+// The merge is current where the revision was asked for, and stands beside the current one where it was sent.
+const MERGES: &str = r#"save d1 b:1 {"v":"b"} known/b/1/Tb => Inserted b:1
+save d1 c:1 {"v":"c"} known/c/1/Tc => Conflicted c:1
+save d1 e:1 {"v":"b"} known/e/1/Te => Superseded a:1|b:1|e:1
+conflicts? d1 => a:1|b:1|e:1 {"v":"b"} c:1 {"v":"c"}
+save d2 b:1 {"v":"b"} known/b/2/Tc => Inserted b:1
+save d2 c:1 {"v":"c"} known/c/2/Td => Conflicted c:1
+sent d2 e:1 {"v":"b"} told/e/1/Te => Superseded a:1|b:1|e:1
+conflicts? d2 => c:1 {"v":"c"} a:1|b:1|e:1 {"v":"b"}
+"#;
+
+// What was not asked for is not kept in conflict, and the position moves alone. Where it stands there already, no step is
+// made.
+const RECEIPTS: &str = r#"sent d1 b:1 {"v":"b"} told/b/1/Tb => Inserted b:1
+sent d1 a:1 {"v":"a"} told/b/2/Tc => Conflicted -
+position? told b => 2 Tc
+sent d1 b:1 {"v":"b"} told/b/2/Tc => Converged -
+sent d1 b:2 {"v":"c"} told/b/1/Tb => log-check 2 Tc 1 Tb
+sent d1 b:2 {"v":"c"} told/b/2/Td => log-check 2 Tc 2 Td
+get? d1 => b:1 {"v":"b"}
+sent d1 b:2 {"v":"c"} told/b/2/Tc => Inserted b:2
+sent d1 b:1 {"v":"c"} known/b/0/- => Superseded -
+changes? 0 => 2 #2 d1 2 #2
+kept? known 0 => none
+
+move known/b/0/- => done
+kept? known 0 => none
+position? known b => 0 -
+move known/b/3/Tb => done
+move known/b/3/Tb => done
+move known/b/3/Tc => log-check 3 Tb 3 Tc
+move known/b/2/Tc => log-check 3 Tb 2 Tc
+move known/b/0/- => log-check 3 Tb 0 -
+move told/b/1/Td => done
+move known/a/5/Ta => done
+position? known b => 3 Tb
+position? told b => 1 Td
+kept? known 0 => a 5 Ta
+kept? known 1 => b 3 Tb
+kept? known 2 => none
+kept? told 1 => none
+"#;
+
+const LOG: &str = r#"changes? 0 => 0 -
+put d1 - {} => a:1
+put d2 - {} => a:1
+put d1 a:1 {} => a:2
+put d3 - {} => a:1
+changes? 0 => 4 #4 d2 2 #2 d1 3 #3 d3 4 #4
+changes? 2 => 4 #4 d1 3 #3 d3 4 #4
+changes? 4 => 4 #4
+check? 5 X => not reached 4
+check? 5 #5 => not reached 4
+check? 4 X => other #4
+check? 4 #4 => fits
+check? 1 #1 => fits
+check? 0 - => fits
+"#;
+
+// Indexes come and go. Documents go by their least key that is asked for, and then by id; each stands once. Keys of
+// numbers.
+const INDEXES: &str = r#"put d1 - {"n":"Ann","m":7} => a:1
+drop by_n => there is no such index
+create by_n lower(n) => done
+create by_n lower( n ) => done
+create by_n n => an index of this name has other expressions
+create by_n lower(n)+number(m,3) => an index of this name has other expressions
+put d2 - {"n":"Bob"} => a:1
+create by_m number(m,3)+n => done
+index? 0 => by_m number(m,3) n
+index? 1 => by_n lower(n)
+index? 2 => none
+keys? by_n => |ann,|bob,
+keys? by_m => |007|Ann,
+drop by_m => done
+drop by_m => there is no such index
+keys? by_m => unknown
+changes? 0 => 2 #2 d1 1 #1 d2 2 #2
+
+create i split_words(t) => done
+put d1 - {"t":"z b"} => a:1
+put d2 - {"t":"a c"} => a:1
+put d3 - {"t":"b"} => a:1
+query? i * => d2 d1 d3
+query? i b => d1 d3
+range? i b;open => d1 d3 d2
+range? i c;open => d2 d1
+
+create n number(age,5) => done
+create b bool(age) => done
+put d1 - {"age":7} => a:1
+put d2 - {"age":-3} => a:1
+put d3 - {"age":123456} => a:1
+put d4 - {"age":true} => a:1
+put d5 - {"age":"7"} => a:1
+keys? n => |-0003,|00007,|123456,
+keys? b => |1,
+query? b 1 => d4
+"#;
+
+const QUERIES: &str = r#"put d1 - {"t":"a*b"} => a:1
+put d2 - {"t":"axb"} => a:1
+create i t => done
+create two t+u => done
+query? two *|x => bad glob 1
+query? two x => wrong width
+query? i a|b => wrong width
+query? i a*b => d1
+query? i a** => d1
+query? i a* => d1 d2
+query? i axb => d2
+query? i b* => 
+query? j a => unknown
+
+put d1 - {"t":"b"} => a:1
+put d2 - {"t":"b"} => a:1
+put d3 - {"t":"d"} => a:1
+create i t => done
+range? i c;a => 
+range? i b;b => d1 d2
+range? i c;open => d3
+range? i open;open => d1 d2 d3
+range? i open;b => d1 d2
+range? i a|b;open => wrong width
+range? i open;a|b => wrong width
+range? j open;open => unknown
+"#;
+
+const BOOK: &str = r#"put c01 - {"name":"Ann Lee","tags":"friend work"} => a:1
+put c02 - {"name":"Anna Roy","tags":"work"} => a:1
+put c03 - {"name":"Bob Kay","tags":"friend"} => a:1
+put c04 - {"name":"Carl Poe","tags":"club"} => a:1
+put c05 - {"name":"ANN Diaz","tags":"club friend"} => a:1
+put c06 - {"name":"Dora Ek","tags":"family"} => a:1
+put c07 - {"name":"Evan Ito","tags":"work"} => a:1
+put c08 - {"name":"annika Holm","tags":"family club"} => a:1
+put c09 - {"name":"Finn Orr","tags":""} => a:1
+put c10 - {"name":"Gus Ash","tags":"friend friend"} => a:1
+put c11 - {"name":"Hal Ann","tags":"work"} => a:1
+put c12 - {"name":"Ida Foy","tags":"club"} => a:1
+create names lower(name)+split_words(tags) => done
+keys? names => |ann diaz|club,|ann diaz|friend,|ann lee|friend,|ann lee|work,|anna roy|work,|annika holm|club,|annika holm|family,|bob kay|friend,|carl poe|club,|dora ek|family,|evan ito|work,|gus ash|friend,|hal ann|work,|ida foy|club,
+query? names ann*|* => c05 c01 c02 c08
+query? names *|* => c05 c01 c02 c08 c03 c04 c06 c07 c10 c11 c12
+query? names ann lee|work => c01
+query? names *|club => bad glob 1
+put c02 a:1 {"name":"Nina Roy","tags":"work"} => a:2
+delete c12 a:1 => a:2
+query? names ann*|* => c05 c01 c08
+query? names nina roy|* => c02
+query? names ida foy|* => 
+all? live => c01 c02 c03 c04 c05 c06 c07 c08 c09 c10 c11
+changes? 12 => 14 #14 c02 13 #13 c12 14 #14
+"#;
+
+#[test]
+fn edits(rt: HostRuntime) -> Result<(), Fail> {
+    assert_eq!(rt; first_wrong(rt.alloc(), EDITS)?, None);
+    Ok(())
+}
+
+#[test]
+fn conflicts(rt: HostRuntime) -> Result<(), Fail> {
+    assert_eq!(rt; first_wrong(rt.alloc(), CONFLICTS)?, None);
+    Ok(())
+}
+
+#[test]
+fn merges(rt: HostRuntime) -> Result<(), Fail> {
+    assert_eq!(rt; first_wrong(rt.alloc(), MERGES)?, None);
+    Ok(())
+}
+
+#[test]
+fn receipts(rt: HostRuntime) -> Result<(), Fail> {
+    assert_eq!(rt; first_wrong(rt.alloc(), RECEIPTS)?, None);
+    Ok(())
+}
+
+#[test]
+fn changes_and_checks(rt: HostRuntime) -> Result<(), Fail> {
+    assert_eq!(rt; first_wrong(rt.alloc(), LOG)?, None);
+    Ok(())
+}
+
+#[test]
+fn indexes(rt: HostRuntime) -> Result<(), Fail> {
+    assert_eq!(rt; first_wrong(rt.alloc(), INDEXES)?, None);
+    Ok(())
+}
+
+#[test]
+fn queries_and_ranges(rt: HostRuntime) -> Result<(), Fail> {
+    assert_eq!(rt; first_wrong(rt.alloc(), QUERIES)?, None);
+    Ok(())
+}
+
+#[test]
+fn an_address_book(rt: HostRuntime) -> Result<(), Fail> {
+    assert_eq!(rt; first_wrong(rt.alloc(), BOOK)?, None);
+    Ok(())
+}
