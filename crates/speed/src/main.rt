@@ -8,16 +8,20 @@
 mod changes;
 mod contents;
 mod distinct;
+mod heads;
 mod image;
 mod index;
 mod keys;
 mod lanes;
 mod large;
+mod lines;
 mod pairs;
 mod prefix;
 mod receipts;
 mod report;
+mod sent;
 mod set;
+mod stream;
 mod table;
 
 use crate::report::{Fault, Report};
@@ -25,8 +29,8 @@ use std::env;
 use std::process::ExitCode;
 
 /// What is said where the words name no workload.
-const USAGE: &str = "usage: speed alone|changes|contents|distinct|few|image|keys|lanes|large|pairs|\
-    prefix|receipts|table SIZE";
+const USAGE: &str = "usage: speed alone|changes|contents|distinct|few|heads|image|keys|lanes|large|\
+    lines|pairs|prefix|receipts|stream|table SIZE";
 
 fn main(rt: HostRuntime) -> ExitCode {
     match measured(&rt) {
@@ -57,13 +61,16 @@ fn measured(rt: &HostRuntime) -> Result<Report, Fault> {
         "contents" => contents::measure(rt, size),
         "distinct" => distinct::measure(rt, size),
         "few" => prefix::measure_few(rt, size),
+        "heads" => heads::measure(rt, size),
         "image" => image::measure(rt, size),
         "keys" => keys::measure(rt, size),
         "lanes" => lanes::measure(rt, size),
         "large" => large::measure(rt, size),
+        "lines" => lines::measure(rt, size),
         "pairs" => pairs::measure(rt, size),
         "prefix" => prefix::measure(rt, size),
         "receipts" => receipts::measure(rt, size),
+        "stream" => stream::measure(rt, size),
         "table" => table::measure(rt, size),
         _ => Err(Fault::Words),
     }
