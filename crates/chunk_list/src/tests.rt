@@ -127,104 +127,172 @@ impl Both {
         }
         Ok(())
     }
+
+    // Items go in until 8,000 are there, and out again.
+    fn grow_and_empty(&mut self, seed: u64) -> Result<bool, Fail> {
+        let grown = self.change(seed, 12_000)? && self.list.len() == 8000;
+        Ok(grown && self.take_out(300) && self.take_out(0) && self.list.is_empty())
+    }
+
+    // One walk goes to any places, and on from each.
+    fn walk_agrees(&self) -> bool {
+        let mut random = Random(0x0123_4567_89ab_cdef);
+        let mut walk = self.list.walk();
+        for _ in 0..5000 {
+            let place = random.below(3200);
+            let next = place.saturating_add(1);
+            if walk.get(place) != self.plain.get(place) || walk.get(next) != self.plain.get(next) {
+                return false;
+            }
+        }
+        walk.get(usize::MAX).is_none()
+    }
+}
+
+// A list without items has none at any place and no room, and is filled and emptied.
+fn has_none(list: &ChunkList<u64>) -> bool {
+    list.is_empty()
+        && list.len() == 0
+        && list.room() == 0
+        && list.get(0).is_none()
+        && finds(list, 0, None)
+}
+
+// Whether all items are passed, and this is found.
+fn finds(list: &ChunkList<u64>, place: usize, item: Option<&u64>) -> bool {
+    let (found, at) = list.find(|_| true);
+    found == place && at == item
+}
+
+fn takes_one(list: &mut ChunkList<u64>) -> bool {
+    if list.reserve(1).is_err() || list.room() == 0 || list.len() != 0 {
+        return false;
+    }
+    list.insert(0, 7);
+    let is_there = list.get(0) == Some(&7);
+    is_there && list.replace(0, 8) == 7 && list.remove(0) == 8 && list.is_empty()
+}
+
+fn is_empty_at_first(alloc: Global) -> bool {
+    let mut list = ChunkList::new(alloc);
+    has_none(&list) && takes_one(&mut list)
 }
 
 #[test]
-fn starts_empty(rt: HostRuntime) -> Result<(), Fail> {
-    let mut list = ChunkList::<u64>::new(rt.alloc());
-    assert!(rt; list.is_empty());
-    assert_eq!(rt; list.len(), 0);
-    assert_eq!(rt; list.room(), 0);
-    assert_eq!(rt; list.get(0), None);
-    assert_eq!(rt; list.find(|_| true), (0, None));
-    list.reserve(1)?;
-    assert!(rt; 1 <= list.room());
-    list.insert(0, 7);
-    assert_eq!(rt; list.get(0), Some(&7));
-    assert_eq!(rt; list.replace(0, 8), 7);
-    assert_eq!(rt; list.remove(0), 8);
-    assert!(rt; list.is_empty());
-    Ok(())
+fn starts_empty(rt: HostRuntime) {
+    assert!(rt; is_empty_at_first(rt.alloc()));
 }
 
 // Removal down to nothing, and growth again.
+fn is_as_plain(alloc: Global) -> Result<bool, Fail> {
+    let mut both = Both::new(alloc);
+    let first = both.grow_and_empty(0x9e37_79b9_7f4a_7c15)?;
+    Ok(both.grow_and_empty(0x0fed_cba9_8765_4321)? && first)
+}
+
 #[test]
 fn is_as_a_plain_list(rt: HostRuntime) -> Result<(), Fail> {
-    let mut both = Both::new(rt.alloc());
-    for seed in [0x9e37_79b9_7f4a_7c15, 0x0fed_cba9_8765_4321] {
-        assert!(rt; both.change(seed, 12_000)?);
-        assert_eq!(rt; both.list.len(), 8000);
-        assert!(rt; both.take_out(300));
-        assert!(rt; both.take_out(0));
-        assert!(rt; both.list.is_empty());
-    }
+    assert!(rt; is_as_plain(rt.alloc())?);
     Ok(())
 }
 
-// Lists whose chunks are full, since they grew at one end, take many at one place, at either end, or anywhere.
+// Whether it takes many items at once where its chunks are full, since it grew at one end.
+fn takes_many(alloc: Global, way: usize) -> Result<bool, Fail> {
+    let mut both = Both::new(alloc);
+    both.fill(8192, way % 2)?;
+    let is_full = both.list.len() == 8192 && both.list.room() == 0;
+    both.fill(1500, way)?;
+    Ok(is_full && both.list.len() == 9692 && both.agree())
+}
+
+// Many go in at one place, at either end, or anywhere.
 #[test]
 fn takes_many_at_once(rt: HostRuntime) -> Result<(), Fail> {
     for way in 0..5 {
-        let mut both = Both::new(rt.alloc());
-        both.fill(8192, way % 2)?;
-        assert_eq!(rt; both.list.len(), 8192);
-        assert_eq!(rt; both.list.room(), 0);
-        both.fill(1500, way)?;
-        assert_eq!(rt; both.list.len(), 9692);
-        assert!(rt; both.agree(), "{way}");
+        assert!(rt; takes_many(rt.alloc(), way)?, "{way}");
     }
     Ok(())
 }
 
-// A call that finds no memory leaves the items and no less room, and the same call can be made again.
-#[test]
-fn stands_where_memory_runs_out(rt: HostRuntime) -> Result<(), Fail> {
-    let mut list = ChunkList::<u64>::new(rt.alloc());
-    for more in [1, 600, 1200, 9000] {
-        let room = list.room();
-        if list.reserve(more).is_err() {
-            assert!(rt; room <= list.room());
-            list.reserve(more)?;
-        }
-        for _ in 0..more {
-            let end = list.len();
-            assert!(rt; list.room() > 0);
-            list.insert(end, end as u64);
-        }
-        let last = list.len().saturating_sub(1);
-        assert_eq!(rt; list.get(last).copied(), Some(last as u64));
+// Makes room for so many. A call that finds no memory leaves no less room, and the same call can be
+// made again.
+fn reserve_again(list: &mut ChunkList<u64>, more: usize) -> bool {
+    let room = list.room();
+    if list.reserve(more).is_ok() {
+        return true;
     }
-    assert_eq!(rt; list.len(), 10_801);
-    Ok(())
+    room <= list.room() && list.reserve(more).is_ok()
+}
+
+// Adds so many items at the end.
+fn add_last(list: &mut ChunkList<u64>, more: usize) -> bool {
+    for _ in 0..more {
+        let end = list.len();
+        if list.room() == 0 {
+            return false;
+        }
+        list.insert(end, end as u64);
+    }
+    true
+}
+
+fn has_last(list: &ChunkList<u64>) -> bool {
+    let last = list.len().saturating_sub(1);
+    list.get(last) == Some(&(last as u64))
+}
+
+fn stands(alloc: Global) -> bool {
+    let mut list = ChunkList::new(alloc);
+    for more in [1, 600, 1200, 9000] {
+        if !reserve_again(&mut list, more) || !add_last(&mut list, more) || !has_last(&list) {
+            return false;
+        }
+    }
+    list.len() == 10_801
+}
+
+#[test]
+fn stands_where_memory_runs_out(rt: HostRuntime) {
+    assert!(rt; stands(rt.alloc()));
+}
+
+// Two equal items stand for each key.
+fn is_place_found(list: &ChunkList<u64>, key: u64) -> bool {
+    let want = if key < 1000 { key as usize * 2 } else { 2000 };
+    let (place, item) = list.find(|item| *item / 2 < key);
+    place == want && item == list.get(want)
+}
+
+fn each_place_is_found(list: &ChunkList<u64>) -> bool {
+    for key in 0..1100 {
+        if !is_place_found(list, key) {
+            return false;
+        }
+    }
+    true
+}
+
+fn finds_each(alloc: Global) -> Result<bool, Fail> {
+    let mut both = Both::new(alloc);
+    both.fill(2000, 1)?;
+    Ok(each_place_is_found(&both.list))
 }
 
 #[test]
 fn finds_places(rt: HostRuntime) -> Result<(), Fail> {
-    let mut both = Both::new(rt.alloc());
-    both.fill(2000, 1)?;
-    for key in 0..1100 {
-        let want = if key < 1000 { key as usize * 2 } else { 2000 };
-        let (place, item) = both.list.find(|item| *item / 2 < key);
-        assert_eq!(rt; place, want, "{key}");
-        assert_eq!(rt; item, both.list.get(want), "{key}");
-    }
+    assert!(rt; finds_each(rt.alloc())?);
     Ok(())
+}
+
+fn walks_anywhere(alloc: Global) -> Result<bool, Fail> {
+    let mut both = Both::new(alloc);
+    let none = both.list.walk().get(0).is_none();
+    both.fill(3000, 1)?;
+    Ok(none && both.walk_agrees())
 }
 
 #[test]
 fn a_walk_goes_to_any_place(rt: HostRuntime) -> Result<(), Fail> {
-    let mut random = Random(0x0123_4567_89ab_cdef);
-    let mut both = Both::new(rt.alloc());
-    assert_eq!(rt; both.list.walk().get(0), None);
-    both.fill(3000, 1)?;
-    let mut walk = both.list.walk();
-    for _ in 0..5000 {
-        // a place, and on from there
-        let place = random.below(3200);
-        assert_eq!(rt; walk.get(place), both.plain.get(place), "{place}");
-        let next = place.saturating_add(1);
-        assert_eq!(rt; walk.get(next), both.plain.get(next), "{place}");
-    }
-    assert_eq!(rt; walk.get(usize::MAX), None);
+    assert!(rt; walks_anywhere(rt.alloc())?);
     Ok(())
 }

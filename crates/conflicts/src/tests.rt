@@ -8,7 +8,6 @@ use crate::{
 };
 use content::Content;
 use std::alloc::Global;
-use std::process::Abort;
 use std::test::Fail;
 use u1_base::ReplicaUid;
 use vector_rev::{Clock, Clocks};
@@ -168,91 +167,131 @@ a commit beside b:1 {"v":"x"} => fits => a:2 {"v":"a"};c:1 {"v":"c"};d:1 {};b:1 
 
 #[test]
 fn edits_and_deletes(rt: HostRuntime) -> Result<(), Fail> {
-    story(&rt, rt.alloc(), EDITS)
+    assert_eq!(rt; first_wrong(rt.alloc(), EDITS)?, None);
+    Ok(())
 }
 
 #[test]
 fn full_clocks_are_not_raised(rt: HostRuntime) -> Result<(), Fail> {
-    story(&rt, rt.alloc(), FULL)
+    assert_eq!(rt; first_wrong(rt.alloc(), FULL)?, None);
+    Ok(())
 }
 
 #[test]
 fn keeps_and_resolves_a_conflict(rt: HostRuntime) -> Result<(), Fail> {
-    story(&rt, rt.alloc(), CONFLICT)
+    assert_eq!(rt; first_wrong(rt.alloc(), CONFLICT)?, None);
+    Ok(())
 }
 
 #[test]
 fn resolves(rt: HostRuntime) -> Result<(), Fail> {
-    story(&rt, rt.alloc(), RESOLUTIONS)
+    assert_eq!(rt; first_wrong(rt.alloc(), RESOLUTIONS)?, None);
+    Ok(())
 }
 
 #[test]
 fn receives(rt: HostRuntime) -> Result<(), Fail> {
-    story(&rt, rt.alloc(), RECEIPTS)
+    assert_eq!(rt; first_wrong(rt.alloc(), RECEIPTS)?, None);
+    Ok(())
 }
 
 #[test]
 fn merges(rt: HostRuntime) -> Result<(), Fail> {
-    story(&rt, rt.alloc(), MERGES)
+    assert_eq!(rt; first_wrong(rt.alloc(), MERGES)?, None);
+    Ok(())
 }
 
 #[test]
 fn merges_beside_another_content(rt: HostRuntime) -> Result<(), Fail> {
-    story(&rt, rt.alloc(), PARTIAL_MERGES)
+    assert_eq!(rt; first_wrong(rt.alloc(), PARTIAL_MERGES)?, None);
+    Ok(())
 }
 
 #[test]
 fn members_keep_their_places(rt: HostRuntime) -> Result<(), Fail> {
-    story(&rt, rt.alloc(), PLACES)
-}
-
-fn story(rt: &impl Abort, alloc: Global, lines: &str) -> Result<(), Fail> {
-    let mut set = None;
-    for line in lines.lines() {
-        set = after_line(rt, alloc, set, line)?;
-    }
+    assert_eq!(rt; first_wrong(rt.alloc(), PLACES)?, None);
     Ok(())
 }
 
-// The set after a line, which has to be told as the line tells it.
+// The first line that is not told as it stands.
+fn first_wrong<'a>(alloc: Global, lines: &'a str) -> Result<Option<&'a str>, Fail> {
+    let mut set = None;
+    for line in lines.lines() {
+        let (left, is_right) = after_line(alloc, set, line)?;
+        if !is_right {
+            return Ok(Some(line));
+        }
+        set = left;
+    }
+    Ok(None)
+}
+
+// The set after a line, and whether it is told as the line tells it.
 fn after_line(
-    rt: &impl Abort,
     alloc: Global,
     set: Option<DocSet>,
     line: &str,
-) -> Result<Option<DocSet>, Fail> {
+) -> Result<(Option<DocSet>, bool), Fail> {
     if line.is_empty() {
-        return Ok(None);
+        return Ok((None, true));
     }
     let (words, want) = line.split_once(" => ").ok_or("no answer")?;
     let Answered { told, accepted } = answer_of(alloc, set.as_ref(), words)?;
-    let set = after(rt, alloc, set, &accepted)?;
-    let told = format!(in alloc;
-        "{} => {}",
-        told.as_str(),
-        set_told(alloc, set.as_ref())?.as_str()
-    )?;
-    assert_eq!(rt; told.as_str(), want, "{words:?}");
-    Ok(set)
+    let set = after(alloc, set, &accepted)?;
+    let is_right = is_answered(alloc, told.as_str(), set.as_ref(), want)?;
+    Ok((set, is_right))
 }
 
+// Compared in a function of its own, which keeps the proofs of its callers short.
+pub(crate) fn are_same(text: &str, want: &str) -> bool {
+    text == want
+}
+
+// Whether this answer and the set afterwards are told so.
+fn is_answered(
+    alloc: Global,
+    answer: &str,
+    set: Option<&DocSet>,
+    want: &str,
+) -> Result<bool, Fail> {
+    let left = set_told(alloc, set)?;
+    let told = format!(in alloc; "{answer} => {}", left.as_str())?;
+    Ok(are_same(told.as_str(), want))
+}
+
+// The set after an acceptance, which has to fit.
 pub(crate) fn after(
-    rt: &impl Abort,
     alloc: Global,
     set: Option<DocSet>,
     accepted: &Option<Accept>,
 ) -> Result<Option<DocSet>, Fail> {
-    let Some(accept) = accepted else {
-        return Ok(set);
-    };
-    assert!(rt; DocSet::fits(set.as_ref(), accept));
+    match accepted {
+        None => Ok(set),
+        Some(accept) => Ok(Some(applied(alloc, set, accept)?)),
+    }
+}
+
+// It is the same beside the set that was, and in its place.
+fn applied(alloc: Global, set: Option<DocSet>, accept: &Accept) -> Result<DocSet, Fail> {
+    if !DocSet::fits(set.as_ref(), accept) {
+        return Err(Fail::new("does not fit"));
+    }
     let beside = DocSet::after(alloc, set.as_ref(), accept.copy(alloc)?)?;
     let applied = DocSet::apply(alloc, set, accept.copy(alloc)?)?;
-    assert_eq!(rt;
-        set_told(alloc, Some(&applied))?.as_str(),
-        set_told(alloc, Some(&beside))?.as_str()
-    );
-    Ok(Some(applied))
+    if !are_same_sets(alloc, &applied, &beside)? {
+        return Err(Fail::new("not the same set"));
+    }
+    Ok(applied)
+}
+
+fn are_same_sets(alloc: Global, set: &DocSet, other: &DocSet) -> Result<bool, Fail> {
+    let told = set_told(alloc, Some(set))?;
+    set_is(alloc, Some(other), told.as_str())
+}
+
+fn set_is(alloc: Global, set: Option<&DocSet>, want: &str) -> Result<bool, Fail> {
+    let told = set_told(alloc, set)?;
+    Ok(are_same(told.as_str(), want))
 }
 
 // ---- values of words
@@ -520,28 +559,35 @@ fn joins(alloc: Global, right: &str, answer: &str) -> Result<String, Fail> {
     )?)
 }
 
-#[test]
-fn resolves_up_to_64_uids(rt: HostRuntime) -> Result<(), Fail> {
-    let alloc = rt.alloc();
+// Whether the two are resolved, where the other member has so many uids.
+fn is_resolved_up_to(alloc: Global, count: u32) -> Result<bool, Fail> {
     let left = many(alloc, "u", 32)?;
-    let right = many(alloc, "v", 31)?;
+    let right = many(alloc, "v", count)?;
     let (left, right) = (left.as_str(), right.as_str());
     let answer = format!(in alloc;
         "{left}|{right}|z:1 {{}} Resolve of {right} {left} current => {left}|{right}|z:1 {{}};"
     )?;
-    story(&rt, alloc, joins(alloc, right, answer.as_str())?.as_str())
+    is_story(alloc, right, answer.as_str())
+}
+
+fn is_full_with(alloc: Global, count: u32) -> Result<bool, Fail> {
+    let left = many(alloc, "u", 32)?;
+    let right = many(alloc, "v", count)?;
+    let (left, right) = (left.as_str(), right.as_str());
+    let answer = format!(in alloc; "refused ClockFull => {right} {{}};{left} {{}};")?;
+    is_story(alloc, right, answer.as_str())
+}
+
+fn is_story(alloc: Global, right: &str, answer: &str) -> Result<bool, Fail> {
+    let lines = joins(alloc, right, answer)?;
+    Ok(first_wrong(alloc, lines.as_str())?.is_none())
 }
 
 #[test]
-fn resolves_no_more_than_64_uids(rt: HostRuntime) -> Result<(), Fail> {
-    let alloc = rt.alloc();
-    for count in [32, 33] {
-        let left = many(alloc, "u", 32)?;
-        let right = many(alloc, "v", count)?;
-        let (left, right) = (left.as_str(), right.as_str());
-        let answer = format!(in alloc; "refused ClockFull => {right} {{}};{left} {{}};")?;
-        story(&rt, alloc, joins(alloc, right, answer.as_str())?.as_str())?;
-    }
+fn resolves_up_to_64_uids(rt: HostRuntime) -> Result<(), Fail> {
+    assert!(rt; is_resolved_up_to(rt.alloc(), 31)?);
+    assert!(rt; is_full_with(rt.alloc(), 32)?);
+    assert!(rt; is_full_with(rt.alloc(), 33)?);
     Ok(())
 }
 
@@ -639,7 +685,6 @@ fn made_up(alloc: Global, number: u64) -> Result<Accept, Fail> {
 
 // The set after a made-up acceptance, if that fits: its members are those of the whole history.
 fn after_one_more(
-    rt: &impl Abort,
     alloc: Global,
     set: Option<DocSet>,
     history: &mut Vec<Accept>,
@@ -651,19 +696,21 @@ fn after_one_more(
     let set = Some(DocSet::apply(alloc, set, accept.copy(alloc)?)?);
     history.push(accept)?;
     let want = history_told(alloc, history.as_slice())?;
-    assert_eq!(rt; set_told(alloc, set.as_ref())?.as_str(), want.as_str());
+    if !set_is(alloc, set.as_ref(), want.as_str())? {
+        return Err(Fail::new("not the members of the history"));
+    }
     Ok(set)
 }
 
-// The number after those of one history. It answers how many acceptances fitted.
-fn one_history(rt: &impl Abort, alloc: Global, number: u64) -> Result<usize, Fail> {
+// How many acceptances fitted in the history of a number.
+fn one_history(alloc: Global, number: u64) -> Result<usize, Fail> {
     let mut number = number;
     let mut history = Vec::new(alloc);
     let mut set = None;
     for _ in 0..12 {
         number = next_number(number);
         let accept = made_up(alloc, number)?;
-        set = after_one_more(rt, alloc, set, &mut history, accept)?;
+        set = after_one_more(alloc, set, &mut history, accept)?;
     }
     Ok(history.len())
 }
@@ -672,7 +719,7 @@ fn one_history(rt: &impl Abort, alloc: Global, number: u64) -> Result<usize, Fai
 fn agrees_with_the_definition(rt: HostRuntime) -> Result<(), Fail> {
     let mut most = 0;
     for seed in 0..40 {
-        most = one_history(&rt, rt.alloc(), seed)?.max(most);
+        most = one_history(rt.alloc(), seed)?.max(most);
     }
     assert!(rt; most >= 6, "{most} at most fitted");
     Ok(())
@@ -681,62 +728,84 @@ fn agrees_with_the_definition(rt: HostRuntime) -> Result<(), Fail> {
 // ---- what is told and copied of a set
 
 // The set of the members, one a line, the current one last.
-fn set_of(rt: &impl Abort, alloc: Global, lines: &str) -> Result<Option<DocSet>, Fail> {
+fn set_of(alloc: Global, lines: &str) -> Result<DocSet, Fail> {
     let mut set = None;
     for line in lines.lines() {
-        set = after(rt, alloc, set, &Some(handed_over(alloc, line, true)?))?;
+        set = after(alloc, set, &Some(handed_over(alloc, line, true)?))?;
     }
-    Ok(set)
+    Ok(set.ok_or("no set")?)
 }
 
 const THREE: &str = "a:1 {\"v\":1}\nb:2 {\"v\":2}\nc:1 {\"v\":3}";
 
+fn has_three(set: &DocSet) -> bool {
+    let none = set.member(3).is_none() && set.member(18_446_744_073_709_551_615).is_none();
+    set.length() == 3 && none
+}
+
+fn tells_three(alloc: Global) -> Result<bool, Fail> {
+    let set = set_of(alloc, THREE)?;
+    let is_current = set.current().rev == clock(alloc, "c:1")?;
+    Ok(has_three(&set) && is_current)
+}
+
+fn has_newer(alloc: Global, text: &str) -> Result<bool, Fail> {
+    let set = set_of(alloc, THREE)?;
+    Ok(set.has_newer(&clock(alloc, text)?))
+}
+
 #[test]
 fn tells_members(rt: HostRuntime) -> Result<(), Fail> {
-    let alloc = rt.alloc();
-    let set = set_of(&rt, alloc, THREE)?.ok_or("no set")?;
-    assert_eq!(rt; set.length(), 3);
-    assert!(rt; set.member(3).is_none());
-    assert!(rt; set.member(18_446_744_073_709_551_615).is_none());
-    assert!(rt; set.current().rev == clock(alloc, "c:1")?);
-    assert!(rt; set.has_newer(&clock(alloc, "b:1")?));
-    assert!(rt; !set.has_newer(&clock(alloc, "b:2")?));
+    assert!(rt; tells_three(rt.alloc())?);
+    assert!(rt; has_newer(rt.alloc(), "b:1")?);
+    assert!(rt; !has_newer(rt.alloc(), "b:2")?);
     Ok(())
+}
+
+fn is_set_copied(alloc: Global) -> Result<bool, Fail> {
+    let copy = set_of(alloc, THREE)?.copy()?;
+    set_is(
+        alloc,
+        Some(&copy),
+        "c:1 {\"v\":3};a:1 {\"v\":1};b:2 {\"v\":2};",
+    )
 }
 
 #[test]
 fn copies_sets(rt: HostRuntime) -> Result<(), Fail> {
-    let alloc = rt.alloc();
-    let set = set_of(&rt, alloc, THREE)?.ok_or("no set")?;
-    let copy = set.copy()?;
-    assert_eq!(rt;
-        set_told(alloc, Some(&copy))?.as_str(),
-        "c:1 {\"v\":3};a:1 {\"v\":1};b:2 {\"v\":2};"
-    );
+    assert!(rt; is_set_copied(rt.alloc())?);
     Ok(())
 }
 
-// The copies are told as what they are copies of, which is as it was.
-#[test]
-fn copies_acceptances(rt: HostRuntime) -> Result<(), Fail> {
-    let alloc = rt.alloc();
+fn accept_is(alloc: Global, accept: &Accept, want: &str) -> Result<bool, Fail> {
+    let told = accept_told(alloc, accept)?;
+    Ok(are_same(told.as_str(), want))
+}
+
+// Whether the copy is told as what it is a copy of, which is as it was.
+fn is_acceptance_copied(alloc: Global) -> Result<bool, Fail> {
     let one = handed_over(alloc, "a:1 {\"v\":1}", true)?;
     let copy = one.copy(alloc)?;
-    for accept in [&one, &copy] {
-        assert_eq!(rt;
-            accept_told(alloc, accept)?.as_str(),
-            "a:1 {\"v\":1} Received of current"
-        );
-    }
+    let want = "a:1 {\"v\":1} Received of current";
+    let is_left = accept_is(alloc, &one, want)?;
+    Ok(accept_is(alloc, &copy, want)? && is_left)
+}
+
+#[test]
+fn copies_acceptances(rt: HostRuntime) -> Result<(), Fail> {
+    assert!(rt; is_acceptance_copied(rt.alloc())?);
     Ok(())
+}
+
+fn copied_member(alloc: Global) -> Result<String, Fail> {
+    let copy = member(alloc, "a:1|b:2 {\"v\":1}")?.copy()?;
+    let mut told = String::new(alloc);
+    push_member(&mut told, &copy)?;
+    Ok(told)
 }
 
 #[test]
 fn copies_members(rt: HostRuntime) -> Result<(), Fail> {
-    let alloc = rt.alloc();
-    let copy = member(alloc, "a:1|b:2 {\"v\":1}")?.copy()?;
-    let mut told = String::new(alloc);
-    push_member(&mut told, &copy)?;
-    assert_eq!(rt; told.as_str(), "a:1|b:2 {\"v\":1};");
+    assert_eq!(rt; copied_member(rt.alloc())?.as_str(), "a:1|b:2 {\"v\":1};");
     Ok(())
 }

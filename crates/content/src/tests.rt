@@ -4,11 +4,45 @@
 use crate::{Content, ContentFault, Json};
 use std::alloc::{AllocError, Global};
 use std::fmt::Write;
-use std::test::Fail;
 
-// The fault of a text, if it has one.
-fn fault(alloc: Global, text: &str) -> Option<ContentFault> {
-    Content::read(alloc, text.as_bytes()).err()
+// These functions borrow, and answer `false` where memory runs out: that keeps the proofs of the
+// tests short.
+fn are(bytes: &[u8], want: &[u8]) -> bool {
+    bytes == want
+}
+
+// Whether the bytes are refused, by just this fault.
+fn is_refused(alloc: Global, bytes: &[u8], want: ContentFault) -> bool {
+    match Content::read(alloc, bytes) {
+        Ok(_) => false,
+        Err(fault) => fault == want,
+    }
+}
+
+// Whether the bytes are a content whose canonical text is this.
+fn is_read_as(alloc: Global, bytes: &[u8], want: &[u8]) -> bool {
+    match Content::read(alloc, bytes) {
+        Ok(content) => is_written(&content, want),
+        Err(_) => false,
+    }
+}
+
+fn is_written(content: &Content, want: &[u8]) -> bool {
+    match content.text() {
+        Ok(text) => are(text.as_slice(), want),
+        Err(_) => false,
+    }
+}
+
+// The same of a copy of it.
+fn is_copy_written(alloc: Global, bytes: &[u8], want: &[u8]) -> bool {
+    match Content::read(alloc, bytes) {
+        Ok(content) => match content.copy() {
+            Ok(copy) => is_written(&copy, want),
+            Err(_) => false,
+        },
+        Err(_) => false,
+    }
 }
 
 // An object that holds an object, and so on: as many as `levels`.
@@ -34,189 +68,269 @@ fn long(alloc: Global, length: usize) -> Result<String, AllocError> {
     Ok(text)
 }
 
+const FAULTS: &[(&str, ContentFault)] = &[
+    ("", ContentFault::NotJson),
+    ("{", ContentFault::NotJson),
+    ("{\"a\":1,}", ContentFault::NotJson),
+    ("{} {}", ContentFault::NotJson),
+    ("{\"a\":01}", ContentFault::NotJson),
+    ("{\"a\":1e400}", ContentFault::NotJson),
+    ("{\"a\":1e400,\"a\":1}", ContentFault::NotJson),
+    ("{\"a\":\"\\ud800\"}", ContentFault::NotJson),
+    ("[]", ContentFault::NotObject),
+    ("null", ContentFault::NotObject),
+    ("1.5", ContentFault::NotObject),
+    ("{\"a\":1.5}", ContentFault::NotWhole),
+    ("{\"a\":1.0}", ContentFault::NotWhole),
+    ("{\"a\":1e0}", ContentFault::NotWhole),
+    ("{\"a\":-0}", ContentFault::NotWhole),
+    ("{\"a\":-9223372036854775809}", ContentFault::NotWhole),
+    ("{\"a\":18446744073709551616}", ContentFault::NotWhole),
+    (
+        "{\"a\":9223372036854775808,\"b\":1.5}",
+        ContentFault::NotWhole,
+    ),
+    ("{\"a\":[{\"b\":[0,2.5]}]}", ContentFault::NotWhole),
+    ("{\"a\":9223372036854775808}", ContentFault::OutOfRange),
+    ("{\"a\":18446744073709551615}", ContentFault::OutOfRange),
+    (
+        "{\"a\":[{\"b\":9223372036854775808}]}",
+        ContentFault::OutOfRange,
+    ),
+];
+
 #[test]
 fn tells_the_fault(rt: HostRuntime) {
-    let alloc = rt.alloc();
-    for (text, want) in [
-        ("", ContentFault::NotJson),
-        ("{", ContentFault::NotJson),
-        ("{\"a\":1,}", ContentFault::NotJson),
-        ("{} {}", ContentFault::NotJson),
-        ("{\"a\":01}", ContentFault::NotJson),
-        ("{\"a\":1e400}", ContentFault::NotJson),
-        ("{\"a\":1e400,\"a\":1}", ContentFault::NotJson),
-        ("{\"a\":\"\\ud800\"}", ContentFault::NotJson),
-        ("[]", ContentFault::NotObject),
-        ("null", ContentFault::NotObject),
-        ("1.5", ContentFault::NotObject),
-        ("{\"a\":1.5}", ContentFault::NotWhole),
-        ("{\"a\":1.0}", ContentFault::NotWhole),
-        ("{\"a\":1e0}", ContentFault::NotWhole),
-        ("{\"a\":-0}", ContentFault::NotWhole),
-        ("{\"a\":-9223372036854775809}", ContentFault::NotWhole),
-        ("{\"a\":18446744073709551616}", ContentFault::NotWhole),
-        (
-            "{\"a\":9223372036854775808,\"b\":1.5}",
-            ContentFault::NotWhole,
-        ),
-        ("{\"a\":[{\"b\":[0,2.5]}]}", ContentFault::NotWhole),
-        ("{\"a\":9223372036854775808}", ContentFault::OutOfRange),
-        ("{\"a\":18446744073709551615}", ContentFault::OutOfRange),
-        (
-            "{\"a\":[{\"b\":9223372036854775808}]}",
-            ContentFault::OutOfRange,
-        ),
-    ] {
-        assert_eq!(rt; fault(alloc, text), Some(want), "{text:?}");
+    for (text, want) in FAULTS {
+        assert!(rt; is_refused(rt.alloc(), text.as_bytes(), *want), "{text:?}");
     }
-    assert_eq!(rt;
-        Content::read(alloc, &[0xff]).err(),
-        Some(ContentFault::NotJson)
-    );
+    assert!(rt; is_refused(rt.alloc(), &[0xff], ContentFault::NotJson));
 }
 
-#[test]
-fn prints_the_fault(rt: HostRuntime) -> Result<(), Fail> {
-    let alloc = rt.alloc();
-    for (fault, want) in [
-        (
-            ContentFault::TooBig(4_194_305),
-            "the content has 4194305 bytes, which is too many",
-        ),
-        (ContentFault::NotJson, "the content is not JSON"),
-        (ContentFault::NotObject, "the content is not an object"),
-        (ContentFault::TooDeep, "the content is nested too deeply"),
-        (
-            ContentFault::NotWhole,
-            "a number of the content is not whole or does not fit 64 bits",
-        ),
-        (
-            ContentFault::OutOfRange,
-            "a number of the content is above 9223372036854775807",
-        ),
-        (ContentFault::Memory, "out of memory"),
-    ] {
-        assert_eq!(rt; format!(in alloc; "{fault}")?.as_str(), want);
+fn is_printed(alloc: Global, fault: ContentFault, want: &str) -> bool {
+    match format!(in alloc; "{fault}") {
+        Ok(text) => are(text.as_bytes(), want.as_bytes()),
+        Err(_) => false,
     }
-    Ok(())
 }
 
-// A long list is turned over from its end, and given back in steps.
+const PRINTED: &[(ContentFault, &str)] = &[
+    (
+        ContentFault::TooBig(4_194_305),
+        "the content has 4194305 bytes, which is too many",
+    ),
+    (ContentFault::NotJson, "the content is not JSON"),
+    (ContentFault::NotObject, "the content is not an object"),
+    (ContentFault::TooDeep, "the content is nested too deeply"),
+    (
+        ContentFault::NotWhole,
+        "a number of the content is not whole or does not fit 64 bits",
+    ),
+    (
+        ContentFault::OutOfRange,
+        "a number of the content is above 9223372036854775807",
+    ),
+    (ContentFault::Memory, "out of memory"),
+];
+
 #[test]
-fn keeps_the_order_of_a_long_list(rt: HostRuntime) -> Result<(), Fail> {
-    let alloc = rt.alloc();
+fn prints_the_fault(rt: HostRuntime) {
+    for (fault, want) in PRINTED {
+        assert!(rt; is_printed(rt.alloc(), *fault, want), "{want}");
+    }
+}
+
+// The object of a list of the numbers up to 999.
+fn long_list(alloc: Global) -> Result<String, AllocError> {
     let mut text = String::from_str(alloc, "{\"a\":[0")?;
     for number in 1..1000 {
         write!(text, ",{number}")?;
     }
     text.push_str("]}")?;
-    let content = Content::read(alloc, text.as_bytes())?;
-    assert_eq!(rt; content.text()?.as_slice(), text.as_bytes());
-    assert_eq!(rt; content.copy()?.text()?.as_slice(), text.as_bytes());
-    Ok(())
+    Ok(text)
 }
 
-#[test]
-fn counts_levels(rt: HostRuntime) -> Result<(), Fail> {
-    let alloc = rt.alloc();
-    for (levels, want) in [
-        (1, None),
-        (64, None),
-        (65, Some(ContentFault::TooDeep)),
-        (127, Some(ContentFault::TooDeep)),
-        (128, Some(ContentFault::NotJson)),
-    ] {
-        let text = nested(alloc, levels)?;
-        assert_eq!(rt; fault(alloc, text.as_str()), want, "{levels} levels");
+fn keeps_order(alloc: Global) -> bool {
+    match long_list(alloc) {
+        Ok(text) => {
+            let bytes = text.as_bytes();
+            is_read_as(alloc, bytes, bytes) && is_copy_written(alloc, bytes, bytes)
+        }
+        Err(_) => false,
     }
-    Ok(())
 }
 
+// A long list is turned over from its end, and given back in steps.
 #[test]
-fn limits_the_length(rt: HostRuntime) -> Result<(), Fail> {
-    let alloc = rt.alloc();
-    let most = long(alloc, 4_194_304)?;
-    assert_eq!(rt; most.len(), 4_194_304);
-    let content = Content::read(alloc, most.as_bytes())?;
-    assert_eq!(rt; content.text()?.as_slice(), most.as_bytes());
-    let more = long(alloc, 4_194_305)?;
-    assert_eq!(rt;
-        fault(alloc, more.as_str()),
-        Some(ContentFault::TooBig(4_194_305))
-    );
-    Ok(())
+fn keeps_the_order_of_a_long_list(rt: HostRuntime) {
+    assert!(rt; keeps_order(rt.alloc()));
 }
 
-#[test]
-fn writes_the_canonical_text(rt: HostRuntime) -> Result<(), Fail> {
-    let alloc = rt.alloc();
-    for (text, want) in [
-        ("{}", "{}"),
-        (
-            "{\"a\":-9223372036854775808}",
-            "{\"a\":-9223372036854775808}",
-        ),
-        ("{\"a\":9223372036854775807}", "{\"a\":9223372036854775807}"),
-        ("{\"a\":1,\"a\":2}", "{\"a\":2}"),
-        ("{\"a\":1.5,\"a\":2}", "{\"a\":2}"),
-        ("{\"b\":1,\"a\":\"x\"}", "{\"a\":\"x\",\"b\":1}"),
-        (
-            " { \"b\" : [ true , false , null , [ ] , { } ] } ",
-            "{\"b\":[true,false,null,[],{}]}",
-        ),
-        (
-            "{\"\\u00e9\":\"\\u0001\\/\\t\\\"\\\\\",\"Z\":0}",
-            "{\"Z\":0,\"é\":\"\\u0001/\\t\\\"\\\\\"}",
-        ),
-        ("{\"a\":\"\\ud83d\\ude00\"}", "{\"a\":\"😀\"}"),
-    ] {
-        let content = Content::read(alloc, text.as_bytes())?;
-        assert_eq!(rt; content.text()?.as_slice(), want.as_bytes(), "{text:?}");
-        let again = Content::read(alloc, want.as_bytes())?;
-        assert!(rt; content.same(&again), "{text:?}");
+fn is_read_at_level(alloc: Global, levels: usize) -> bool {
+    match nested(alloc, levels) {
+        Ok(text) => Content::read(alloc, text.as_bytes()).is_ok(),
+        Err(_) => false,
     }
-    Ok(())
+}
+
+fn is_refused_at_level(alloc: Global, levels: usize, want: ContentFault) -> bool {
+    match nested(alloc, levels) {
+        Ok(text) => is_refused(alloc, text.as_bytes(), want),
+        Err(_) => false,
+    }
 }
 
 #[test]
-fn compares_and_copies(rt: HostRuntime) -> Result<(), Fail> {
+fn counts_levels(rt: HostRuntime) {
     let alloc = rt.alloc();
-    let texts = [
-        "{}",
-        "{\"a\":null}",
-        "{\"a\":true}",
-        "{\"a\":false}",
-        "{\"a\":1}",
-        "{\"a\":-1}",
-        "{\"a\":\"1\"}",
-        "{\"a\":[]}",
-        "{\"a\":[1]}",
-        "{\"a\":[1,1]}",
-        "{\"a\":{}}",
-        "{\"b\":1}",
-        "{\"a\":1,\"b\":1}",
-    ];
-    for (i, text) in texts.iter().enumerate() {
-        let first = Content::read(alloc, text.as_bytes())?;
-        assert!(rt; first.same(&first.copy()?), "{text:?}");
-        for (j, other) in texts.iter().enumerate() {
-            let second = Content::read(alloc, other.as_bytes())?;
-            assert_eq!(rt; first.same(&second), i == j, "{text:?} {other:?}");
+    assert!(rt; is_read_at_level(alloc, 1));
+    assert!(rt; is_read_at_level(alloc, 64));
+    assert!(rt; is_refused_at_level(alloc, 65, ContentFault::TooDeep));
+    assert!(rt; is_refused_at_level(alloc, 127, ContentFault::TooDeep));
+    assert!(rt; is_refused_at_level(alloc, 128, ContentFault::NotJson));
+}
+
+fn is_read_at_length(alloc: Global, length: usize) -> bool {
+    match long(alloc, length) {
+        Ok(text) => text.len() == length && is_read_as(alloc, text.as_bytes(), text.as_bytes()),
+        Err(_) => false,
+    }
+}
+
+fn is_too_big_at_length(alloc: Global, length: usize) -> bool {
+    match long(alloc, length) {
+        Ok(text) => is_refused(alloc, text.as_bytes(), ContentFault::TooBig(length as u64)),
+        Err(_) => false,
+    }
+}
+
+#[test]
+fn limits_the_length(rt: HostRuntime) {
+    assert!(rt; is_read_at_length(rt.alloc(), 4_194_304));
+    assert!(rt; is_too_big_at_length(rt.alloc(), 4_194_305));
+}
+
+// Whether the first is written as the second, which is read as the same content.
+fn is_canonical(alloc: Global, bytes: &[u8], want: &[u8]) -> bool {
+    is_read_as(alloc, bytes, want) && are_same(alloc, bytes, want)
+}
+
+// Whether the two are the same content.
+fn are_same(alloc: Global, bytes: &[u8], other: &[u8]) -> bool {
+    match Content::read(alloc, bytes) {
+        Ok(content) => compares(&content, alloc, other, true),
+        Err(_) => false,
+    }
+}
+
+// Whether the bytes are read, and are the same content or not, as is wanted.
+fn compares(content: &Content, alloc: Global, bytes: &[u8], want: bool) -> bool {
+    match Content::read(alloc, bytes) {
+        Ok(other) => content.same(&other) == want,
+        Err(_) => false,
+    }
+}
+
+const CANONICAL: &[(&str, &str)] = &[
+    ("{}", "{}"),
+    (
+        "{\"a\":-9223372036854775808}",
+        "{\"a\":-9223372036854775808}",
+    ),
+    ("{\"a\":9223372036854775807}", "{\"a\":9223372036854775807}"),
+    ("{\"a\":1,\"a\":2}", "{\"a\":2}"),
+    ("{\"a\":1.5,\"a\":2}", "{\"a\":2}"),
+    ("{\"b\":1,\"a\":\"x\"}", "{\"a\":\"x\",\"b\":1}"),
+    (
+        " { \"b\" : [ true , false , null , [ ] , { } ] } ",
+        "{\"b\":[true,false,null,[],{}]}",
+    ),
+    (
+        "{\"\\u00e9\":\"\\u0001\\/\\t\\\"\\\\\",\"Z\":0}",
+        "{\"Z\":0,\"é\":\"\\u0001/\\t\\\"\\\\\"}",
+    ),
+    ("{\"a\":\"\\ud83d\\ude00\"}", "{\"a\":\"😀\"}"),
+];
+
+#[test]
+fn writes_the_canonical_text(rt: HostRuntime) {
+    for (text, want) in CANONICAL {
+        assert!(rt;
+            is_canonical(rt.alloc(), text.as_bytes(), want.as_bytes()),
+            "{text:?}"
+        );
+    }
+}
+
+// Contents of which no two are the same.
+const OTHERS: &[&str] = &[
+    "{}",
+    "{\"a\":null}",
+    "{\"a\":true}",
+    "{\"a\":false}",
+    "{\"a\":1}",
+    "{\"a\":-1}",
+    "{\"a\":\"1\"}",
+    "{\"a\":[]}",
+    "{\"a\":[1]}",
+    "{\"a\":[1,1]}",
+    "{\"a\":{}}",
+    "{\"b\":1}",
+    "{\"a\":1,\"b\":1}",
+];
+
+// Whether the content of this place is the same as its copy, and as no other.
+fn is_compared(alloc: Global, place: usize, text: &str) -> bool {
+    match Content::read(alloc, text.as_bytes()) {
+        Ok(content) => is_same_as_its_copy(&content) && is_the_only_one(alloc, place, &content),
+        Err(_) => false,
+    }
+}
+
+fn is_same_as_its_copy(content: &Content) -> bool {
+    match content.copy() {
+        Ok(copy) => content.same(&copy),
+        Err(_) => false,
+    }
+}
+
+fn is_the_only_one(alloc: Global, place: usize, content: &Content) -> bool {
+    for (other, text) in OTHERS.iter().enumerate() {
+        if !compares(content, alloc, text.as_bytes(), other == place) {
+            return false;
         }
     }
-    Ok(())
+    true
 }
 
 #[test]
-fn lends_its_root(rt: HostRuntime) -> Result<(), Fail> {
-    let content = Content::read(rt.alloc(), b"{\"age\":7,\"name\":\"Ann\"}")?;
-    let Json::Object(fields) = content.root() else {
-        return Err(Fail::from("no object"));
-    };
-    assert_eq!(rt; fields.len(), 2);
-    assert_eq!(rt; fields[0].name.as_str(), "age");
-    assert!(rt; matches!(fields[0].value, Json::Whole(7)));
-    assert_eq!(rt; fields[1].name.as_str(), "name");
-    assert!(rt; matches!(fields[1].value, Json::Text(_)));
-    Ok(())
+fn compares_and_copies(rt: HostRuntime) {
+    for (place, text) in OTHERS.iter().enumerate() {
+        assert!(rt; is_compared(rt.alloc(), place, text), "{text:?}");
+    }
+}
+
+fn lends(alloc: Global) -> bool {
+    match Content::read(alloc, b"{\"age\":7,\"name\":\"Ann\"}") {
+        Ok(content) => is_lent(content.root()),
+        Err(_) => false,
+    }
+}
+
+fn is_lent(root: &Json) -> bool {
+    match root {
+        Json::Object(fields) => {
+            fields.len() == 2
+                && are(fields[0].name.as_str().as_bytes(), b"age")
+                && matches!(fields[0].value, Json::Whole(7))
+                && are(fields[1].name.as_str().as_bytes(), b"name")
+                && matches!(fields[1].value, Json::Text(_))
+        }
+        _ => false,
+    }
+}
+
+#[test]
+fn lends_its_root(rt: HostRuntime) {
+    assert!(rt; lends(rt.alloc()));
 }

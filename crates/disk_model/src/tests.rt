@@ -48,28 +48,61 @@ fn read(disk: &mut MemDisk, at: usize, into: &mut [u8]) -> Result<(), DiskFailed
     disk.read_at(at as u64, into)
 }
 
+// Compared in a function of its own, which keeps the proofs of its callers short.
+pub(crate) fn are(bytes: &[u8], want: &[u8]) -> bool {
+    bytes == want
+}
+
+fn holds(disk: &MemDisk, bytes: &[u8], calls: u64) -> bool {
+    are(disk.bytes(), bytes) && disk.calls() == calls
+}
+
+// The disk of `abcdef` after a write over its end and one inside.
+fn written(alloc: Global) -> Result<MemDisk, Fail> {
+    let mut disk = disk_of(alloc, b"abcdef", &[])?;
+    write(&mut disk, 4, b"WXYZ")?;
+    write(&mut disk, 1, b"--")?;
+    Ok(disk)
+}
+
+// Whether a write reaches over the end, and the disk is as long then.
+fn is_longer(alloc: Global) -> Result<bool, Fail> {
+    let mut disk = disk_of(alloc, b"abcdef", &[])?;
+    write(&mut disk, 4, b"WXYZ")?;
+    let length = disk.length()?;
+    Ok(length == 8 && holds(&disk, b"abcdWXYZ", 2))
+}
+
+// Whether a cut leaves the bytes below it, also after a sync.
+fn is_shorter(alloc: Global) -> Result<bool, Fail> {
+    let mut disk = written(alloc)?;
+    let length = disk.length()?;
+    cut(&mut disk, 5)?;
+    let is_cut = holds(&disk, b"a--dW", 4);
+    disk.sync()?;
+    let shorter = disk.length()?;
+    Ok(length == 8 && is_cut && shorter == 5 && disk.calls() == 6)
+}
+
 #[test]
 fn holds_what_was_written(rt: HostRuntime) -> Result<(), Fail> {
-    let mut disk = disk_of(rt.alloc(), b"abcdef", &[])?;
-    write(&mut disk, 4, b"WXYZ")?;
-    assert_eq!(rt; disk.bytes(), b"abcdWXYZ".as_slice());
-    write(&mut disk, 1, b"--")?;
-    assert_eq!(rt; disk.bytes(), b"a--dWXYZ".as_slice());
-    assert_eq!(rt; disk.length()?, 8);
-    cut(&mut disk, 5)?;
-    assert_eq!(rt; disk.bytes(), b"a--dW".as_slice());
-    disk.sync()?;
-    assert_eq!(rt; disk.length()?, 5);
-    assert_eq!(rt; disk.calls(), 6);
+    let alloc = rt.alloc();
+    assert!(rt; is_longer(alloc)?);
+    assert_eq!(rt; written(alloc)?.bytes(), b"a--dWXYZ".as_slice());
+    assert!(rt; is_shorter(alloc)?);
     Ok(())
+}
+
+fn part(alloc: Global) -> Result<[u8; 3], Fail> {
+    let mut disk = disk_of(alloc, b"abcdef", &[])?;
+    let mut into = [0; 3];
+    read(&mut disk, 2, &mut into)?;
+    Ok(into)
 }
 
 #[test]
 fn reads_a_part(rt: HostRuntime) -> Result<(), Fail> {
-    let mut disk = disk_of(rt.alloc(), b"abcdef", &[])?;
-    let mut into = [0; 3];
-    read(&mut disk, 2, &mut into)?;
-    assert_eq!(rt; into.as_slice(), b"cde".as_slice());
+    assert_eq!(rt; part(rt.alloc())?.as_slice(), b"cde".as_slice());
     Ok(())
 }
 
@@ -85,11 +118,32 @@ fn used(alloc: Global, failing: &[u64]) -> Result<MemDisk, Memory> {
     Ok(disk)
 }
 
+// Whether all six calls were made, and the disk holds these bytes then.
+fn is_used(alloc: Global, failing: &[u64], bytes: &[u8]) -> Result<bool, Memory> {
+    let disk = used(alloc, failing)?;
+    Ok(holds(&disk, bytes, 6))
+}
+
+// Whether a crash during the call leaves these bytes by this choice.
+fn leaves(
+    alloc: Global,
+    failing: &[u64],
+    call: u64,
+    choice: Choice,
+    bytes: &[u8],
+) -> Result<bool, Memory> {
+    let disk = used(alloc, failing)?;
+    if call >= disk.calls() {
+        return Ok(false);
+    }
+    let image = disk.crash_image(alloc, call, choice)?;
+    Ok(are(image.as_slice(), bytes))
+}
+
 #[test]
 fn loses_by_choice(rt: HostRuntime) -> Result<(), Fail> {
     let alloc = rt.alloc();
-    let disk = used(alloc, &[])?;
-    assert_eq!(rt; disk.calls(), 6);
+    assert!(rt; is_used(alloc, &[], b"12")?);
     let rows: [(u64, Choice, &[u8]); 17] = [
         (0, Choice::Nothing, b"abcd"),
         (0, Choice::Whole, b"abWXYZ"),
@@ -110,19 +164,20 @@ fn loses_by_choice(rt: HostRuntime) -> Result<(), Fail> {
         (5, Choice::Whole, b"12"),
     ];
     for (call, choice, want) in rows {
-        assert!(rt; call < disk.calls());
-        let image = disk.crash_image(alloc, call, choice)?;
-        assert_eq!(rt; image.as_slice(), want, "{call} {choice:?}");
+        assert!(rt;
+            leaves(alloc, &[], call, choice, want)?,
+            "{call} {choice:?}"
+        );
     }
     Ok(())
 }
 
-// The write puts the first half of its bytes and the cut goes half of the way, but a stop may leave all of either.
+// The write puts the first half of its bytes and the cut goes half of the way, but a stop may
+// leave all of either.
 #[test]
 fn loses_by_choice_what_failed(rt: HostRuntime) -> Result<(), Fail> {
     let alloc = rt.alloc();
-    let disk = used(alloc, &[2, 3])?;
-    assert_eq!(rt; disk.bytes(), b"12WX".as_slice());
+    assert!(rt; is_used(alloc, &[2, 3], b"12WX")?);
     let rows: [(u64, Choice, &[u8]); 9] = [
         (2, Choice::Nothing, b"abWXYZ"),
         (2, Choice::Whole, b"12WXYZ"),
@@ -135,16 +190,16 @@ fn loses_by_choice_what_failed(rt: HostRuntime) -> Result<(), Fail> {
         (5, Choice::Fill(48), b"00"),
     ];
     for (call, choice, want) in rows {
-        assert!(rt; call < disk.calls());
-        let image = disk.crash_image(alloc, call, choice)?;
-        assert_eq!(rt; image.as_slice(), want, "{call} {choice:?}");
+        assert!(rt;
+            leaves(alloc, &[2, 3], call, choice, want)?,
+            "{call} {choice:?}"
+        );
     }
     Ok(())
 }
 
 #[test]
 fn fails_where_it_was_told_to(rt: HostRuntime) -> Result<(), Fail> {
-    let alloc = rt.alloc();
     let rows: [(&[u64], &[u8]); 6] = [
         (&[], b"12"),
         (&[0], b"12"),
@@ -154,59 +209,118 @@ fn fails_where_it_was_told_to(rt: HostRuntime) -> Result<(), Fail> {
         (&[5], b"12"),
     ];
     for (failing, want) in rows {
-        let disk = used(alloc, failing)?;
-        assert_eq!(rt; disk.bytes(), want, "{failing:?}");
-        assert_eq!(rt; disk.calls(), 6);
+        assert!(rt; is_used(rt.alloc(), failing, want)?, "{failing:?}");
     }
-    let mut disk = disk_of(alloc, b"abcd", &[0, 1, 2, 3, 4])?;
-    let mut into = [0; 2];
-    assert_eq!(rt; disk.length(), Err(DiskFailed));
-    assert_eq!(rt; read(&mut disk, 0, &mut into), Err(DiskFailed));
-    assert_eq!(rt; write(&mut disk, 2, b"WXYZ"), Err(DiskFailed));
-    assert_eq!(rt; cut(&mut disk, 2), Err(DiskFailed));
-    assert_eq!(rt; disk.sync(), Err(DiskFailed));
-    assert_eq!(rt; disk.length(), Ok(3));
     Ok(())
+}
+
+// What the first five calls answer where each of them is told to fail.
+fn answers(disk: &mut MemDisk) -> [Result<(), DiskFailed>; 5] {
+    let mut into = [0; 2];
+    [
+        disk.length().map(|_| ()),
+        read(disk, 0, &mut into),
+        write(disk, 2, b"WXYZ"),
+        cut(disk, 2),
+        disk.sync(),
+    ]
+}
+
+fn failing_disk(alloc: Global) -> Result<MemDisk, Memory> {
+    disk_of(alloc, b"abcd", &[0, 1, 2, 3, 4])
+}
+
+#[test]
+fn each_call_fails(rt: HostRuntime) -> Result<(), Fail> {
+    for (call, answer) in answers(&mut failing_disk(rt.alloc())?)
+        .into_iter()
+        .enumerate()
+    {
+        assert_eq!(rt; answer, Err(DiskFailed), "{call}");
+    }
+    Ok(())
+}
+
+// The length that a call tells after those that failed.
+fn length_afterwards(alloc: Global) -> Result<u64, Fail> {
+    let mut disk = failing_disk(alloc)?;
+    let _ = answers(&mut disk);
+    Ok(disk.length()?)
+}
+
+#[test]
+fn the_next_call_succeeds(rt: HostRuntime) -> Result<(), Fail> {
+    assert_eq!(rt; length_afterwards(rt.alloc())?, 3);
+    Ok(())
+}
+
+fn put(disk: &mut MemDisk, at: u64, text: &[u8]) -> Result<(), DiskFailed> {
+    if at > disk.bytes().len() as u64 {
+        return Err(DiskFailed);
+    }
+    write_synced(disk, at, text)
+}
+
+fn shorten(disk: &mut MemDisk, to: u64) -> Result<(), DiskFailed> {
+    if to > disk.bytes().len() as u64 {
+        return Err(DiskFailed);
+    }
+    cut_synced(disk, to)
+}
+
+// Whether a write and a cut are made with their syncs.
+fn is_put_and_cut(alloc: Global) -> Result<bool, Fail> {
+    let mut disk = disk_of(alloc, b"abcd", &[])?;
+    put(&mut disk, 2, b"XYZ")?;
+    let is_put = holds(&disk, b"abXYZ", 2);
+    shorten(&mut disk, 1)?;
+    Ok(is_put && holds(&disk, b"a", 4))
+}
+
+// Whether other bytes are put in place of all, and read.
+fn is_replaced(alloc: Global) -> Result<bool, Fail> {
+    let mut disk = disk_of(alloc, b"a", &[])?;
+    cut_write_synced(&mut disk, b"whole")?;
+    let is_whole = holds(&disk, b"whole", 3);
+    let read = read_synced(alloc, &mut disk)?;
+    Ok(is_whole && are(read.as_slice(), b"whole") && disk.calls() == 6)
 }
 
 #[test]
 fn syncs_what_it_does(rt: HostRuntime) -> Result<(), Fail> {
-    let alloc = rt.alloc();
-    let mut disk = disk_of(alloc, b"abcd", &[])?;
-    assert_eq!(rt; disk.bytes().len(), 4);
-    write_synced(&mut disk, 2, b"XYZ")?;
-    assert_eq!(rt; disk.bytes(), b"abXYZ".as_slice());
-    assert_eq!(rt; disk.calls(), 2);
-    assert_eq!(rt; disk.bytes().len(), 5);
-    cut_synced(&mut disk, 1)?;
-    assert_eq!(rt; disk.bytes(), b"a".as_slice());
-    assert_eq!(rt; disk.calls(), 4);
-    cut_write_synced(&mut disk, b"whole")?;
-    assert_eq!(rt; disk.bytes(), b"whole".as_slice());
-    assert_eq!(rt; disk.calls(), 7);
-    assert_eq!(rt;
-        read_synced(alloc, &mut disk)?.as_slice(),
-        b"whole".as_slice()
-    );
-    assert_eq!(rt; disk.calls(), 10);
+    assert!(rt; is_put_and_cut(rt.alloc())?);
+    assert!(rt; is_replaced(rt.alloc())?);
     Ok(())
 }
 
-// A disk of 2 MiB and one byte is read in three pieces, after a sync and a length.
-#[test]
-fn reads_in_pieces(rt: HostRuntime) -> Result<(), Fail> {
-    let alloc = rt.alloc();
-    let size = 2_097_153;
-    let mut content = vec![in alloc; 7u8; size]?;
+const LONG: usize = 2_097_153;
+
+// A disk of 2 MiB and one byte, which is read in three pieces, after a sync and a length.
+fn long_disk(alloc: Global) -> Result<MemDisk, Fail> {
+    let mut content = vec![in alloc; 7u8; LONG]?;
     if let Some(last) = content.last_mut() {
         *last = 8;
     }
-    let mut disk = MemDisk::new(alloc, Bytes::from_vec(content), numbers(alloc, &[8])?);
+    Ok(MemDisk::new(alloc, Bytes::from_vec(content), numbers(alloc, &[8])?))
+}
+
+fn is_read(alloc: Global) -> Result<bool, Fail> {
+    let mut disk = long_disk(alloc)?;
     let read = read_synced(alloc, &mut disk)?;
-    assert_eq!(rt; read.len(), size);
-    assert_eq!(rt; disk.calls(), 5);
-    assert_eq!(rt; read.as_slice().last(), Some(&8));
-    assert_eq!(rt; read.as_slice().first(), Some(&7));
-    assert_eq!(rt; read_synced(alloc, &mut disk).err(), Some(ReadFault::Disk));
+    let ends = read.as_slice().first() == Some(&7) && read.as_slice().last() == Some(&8);
+    Ok(ends && read.len() == LONG && disk.calls() == 5)
+}
+
+// The fault of a second read, at its second piece.
+fn second_fault(alloc: Global) -> Result<Option<ReadFault>, Fail> {
+    let mut disk = long_disk(alloc)?;
+    read_synced(alloc, &mut disk)?;
+    Ok(read_synced(alloc, &mut disk).err())
+}
+
+#[test]
+fn reads_in_pieces(rt: HostRuntime) -> Result<(), Fail> {
+    assert!(rt; is_read(rt.alloc())?);
+    assert_eq!(rt; second_fault(rt.alloc())?, Some(ReadFault::Disk));
     Ok(())
 }

@@ -80,40 +80,74 @@ fn put(disks: &mut Disks<MemDisk>, name: DiskName, at: u64, text: &[u8]) -> Resu
     write_synced_on(disks, name, at, text)
 }
 
+// Compared in a function of its own, which keeps the proofs of its callers short.
+fn are(bytes: &[u8], want: &[u8]) -> bool {
+    bytes == want
+}
+
 // What the three hold, by a read of each.
 fn holds(disks: &Disks<MemDisk>, bytes: Three) -> bool {
-    disks.disk(DiskName::Root).bytes() == bytes.0
-        && disks.disk(DiskName::Left).bytes() == bytes.1
-        && disks.disk(DiskName::Right).bytes() == bytes.2
+    are(disks.disk(DiskName::Root).bytes(), bytes.0)
+        && are(disks.disk(DiskName::Left).bytes(), bytes.1)
+        && are(disks.disk(DiskName::Right).bytes(), bytes.2)
+}
+
+// The length that is told before they are turned to a disk.
+fn length_at_first(alloc: Global) -> Result<u64, Fail> {
+    let mut disks = disks_of(alloc, DiskName::Root, &[])?;
+    Ok(disks.length()?)
+}
+
+// Whether each call changes the disk that they are turned to, and no other.
+fn is_changed_alone(alloc: Global) -> Result<bool, Fail> {
+    let mut disks = disks_of(alloc, DiskName::Root, &[])?;
+    write(&mut disks, DiskName::Left, 2, b"XYZW")?;
+    let left = holds(&disks, (b"r", b"leXYZW", b"right"));
+    cut(&mut disks, DiskName::Right, 2)?;
+    let right = holds(&disks, (b"r", b"leXYZW", b"ri"));
+    write(&mut disks, DiskName::Root, 0, b"s")?;
+    Ok(left && right && holds(&disks, (b"s", b"leXYZW", b"ri")))
+}
+
+// The three after these calls.
+fn changed(alloc: Global) -> Result<Disks<MemDisk>, Fail> {
+    let mut disks = disks_of(alloc, DiskName::Root, &[])?;
+    write(&mut disks, DiskName::Left, 2, b"XYZW")?;
+    cut(&mut disks, DiskName::Right, 2)?;
+    write(&mut disks, DiskName::Root, 0, b"s")?;
+    Ok(disks)
+}
+
+// The length of a disk, with a sync after it.
+fn length_of(disks: &mut Disks<MemDisk>, name: DiskName) -> Result<u64, DiskFailed> {
+    disks.turn_to(name);
+    let length = disks.length()?;
+    disks.sync()?;
+    Ok(length)
+}
+
+// The lengths of the three, and how many calls each got.
+fn told(alloc: Global) -> Result<([u64; 3], [u64; 3]), Fail> {
+    let mut disks = changed(alloc)?;
+    let root = length_of(&mut disks, DiskName::Root)?;
+    let left = length_of(&mut disks, DiskName::Left)?;
+    let right = length_of(&mut disks, DiskName::Right)?;
+    let calls = [
+        disks.disk(DiskName::Root).calls(),
+        disks.disk(DiskName::Left).calls(),
+        disks.disk(DiskName::Right).calls(),
+    ];
+    Ok(([root, left, right], calls))
 }
 
 #[test]
 fn calls_go_to_the_disk_that_they_are_turned_to(rt: HostRuntime) -> Result<(), Fail> {
     let alloc = rt.alloc();
-    let mut disks = disks_of(alloc, DiskName::Root, &[])?;
-    assert_eq!(rt; disks.length()?, 1);
-    write(&mut disks, DiskName::Left, 2, b"XYZW")?;
-    assert!(rt; holds(&disks, (b"r", b"leXYZW", b"right")));
-    cut(&mut disks, DiskName::Right, 2)?;
-    assert!(rt; holds(&disks, (b"r", b"leXYZW", b"ri")));
-    write(&mut disks, DiskName::Root, 0, b"s")?;
-    assert!(rt; holds(&disks, (b"s", b"leXYZW", b"ri")));
-    for (name, length) in [
-        (DiskName::Root, 1),
-        (DiskName::Left, 6),
-        (DiskName::Right, 2),
-    ] {
-        disks.turn_to(name);
-        assert_eq!(rt; disks.length()?, length);
-        disks.sync()?;
-    }
-    for (name, calls) in [
-        (DiskName::Root, 4),
-        (DiskName::Left, 3),
-        (DiskName::Right, 3),
-    ] {
-        assert_eq!(rt; disks.disk(name).calls(), calls);
-    }
+    assert_eq!(rt; length_at_first(alloc)?, 1);
+    assert!(rt; is_changed_alone(alloc)?);
+    let (lengths, calls) = told(alloc)?;
+    assert_eq!(rt; lengths, [1, 6, 2]);
+    assert_eq!(rt; calls, [3, 3, 3]);
     Ok(())
 }
 
@@ -167,12 +201,22 @@ fn leaves(
     let root = left_now(alloc, disks, DiskName::Root, choice)?;
     let left = left_now(alloc, disks, DiskName::Left, choice)?;
     let right = left_now(alloc, disks, DiskName::Right, choice)?;
-    Ok(root.as_slice() == images.0 && left.as_slice() == images.1 && right.as_slice() == images.2)
+    let both = are(left.as_slice(), images.1) && are(right.as_slice(), images.2);
+    Ok(are(root.as_slice(), images.0) && both)
+}
+
+// Whether so many calls succeed, and a crash then leaves these where nothing arrived, and those
+// where all of it did.
+fn leaves_both(alloc: Global, calls: usize, nothing: Three, whole: Three) -> Result<bool, Memory> {
+    let mut disks = disks_of(alloc, DiskName::Root, &[])?;
+    let all = made(&mut disks, calls) == calls;
+    let is_nothing = leaves(alloc, &mut disks, Choice::Nothing, nothing)?;
+    let is_whole = leaves(alloc, &mut disks, Choice::Whole, whole)?;
+    Ok(all && is_nothing && is_whole)
 }
 
 #[test]
 fn a_crash_leaves_three_images_of_one_moment(rt: HostRuntime) -> Result<(), Fail> {
-    let alloc = rt.alloc();
     // how many calls were made, what is left where nothing arrived, and where all of it did
     let rows: [(usize, Three, Three); 7] = [
         (0, (b"r", b"left", b"right"), (b"r", b"left", b"right")),
@@ -184,151 +228,153 @@ fn a_crash_leaves_three_images_of_one_moment(rt: HostRuntime) -> Result<(), Fail
         (6, (b"s", b"leXYZW", b"ri"), (b"s", b"leXYZW", b"ri")),
     ];
     for (calls, nothing, whole) in rows {
-        let mut disks = disks_of(alloc, DiskName::Root, &[])?;
-        assert_eq!(rt; made(&mut disks, calls), calls);
-        assert!(rt;
-            leaves(alloc, &mut disks, Choice::Nothing, nothing)?,
-            "{calls}"
-        );
-        assert!(rt; leaves(alloc, &mut disks, Choice::Whole, whole)?, "{calls}");
+        assert!(rt; leaves_both(rt.alloc(), calls, nothing, whole)?, "{calls}");
     }
     Ok(())
+}
+
+// Whether a crash after the first two calls leaves these three by this choice.
+fn leaves_after_two(alloc: Global, choice: Choice, images: Three) -> Result<bool, Memory> {
+    let mut disks = disks_of(alloc, DiskName::Root, &[])?;
+    let both = made(&mut disks, 2) == 2;
+    Ok(leaves(alloc, &mut disks, choice, images)? && both)
 }
 
 #[test]
 fn a_crash_leaves_halves_and_other_bytes(rt: HostRuntime) -> Result<(), Fail> {
     let alloc = rt.alloc();
-    let mut disks = disks_of(alloc, DiskName::Root, &[])?;
-    assert_eq!(rt; made(&mut disks, 2), 2);
-    assert!(rt;
-        leaves(
-            alloc,
-            &mut disks,
-            Choice::FirstHalf,
-            (b"r", b"leXY", b"right")
-        )?
-    );
-    assert!(rt;
-        leaves(
-            alloc,
-            &mut disks,
-            Choice::Fill(46),
-            (b".", b"le....", b"right")
-        )?
-    );
+    let halves: Three = (b"r", b"leXY", b"right");
+    assert!(rt; leaves_after_two(alloc, Choice::FirstHalf, halves)?);
+    let filled: Three = (b".", b"le....", b"right");
+    assert!(rt; leaves_after_two(alloc, Choice::Fill(46), filled)?);
     Ok(())
 }
+
+// A call that fails: of this disk, its call of this number. So many calls succeed before; what the
+// three hold then, and what a crash leaves where nothing arrived.
+#[derive(Clone, Copy)]
+struct Failed {
+    name: DiskName,
+    number: u64,
+    calls: usize,
+    held: Three,
+    nothing: Three,
+}
+
+fn fails(alloc: Global, row: Failed) -> Result<bool, Memory> {
+    let mut disks = disks_of(alloc, row.name, &[row.number])?;
+    let is_last = made(&mut disks, 6) == row.calls;
+    let is_held = holds(&disks, row.held);
+    Ok(leaves(alloc, &mut disks, Choice::Nothing, row.nothing)? && is_last && is_held)
+}
+
+const FAILED: [Failed; 6] = [
+    Failed {
+        name: DiskName::Left,
+        number: 0,
+        calls: 0,
+        held: (b"r", b"leXY", b"right"),
+        nothing: (b"r", b"left", b"right"),
+    },
+    Failed {
+        name: DiskName::Root,
+        number: 0,
+        calls: 1,
+        held: (b"r", b"leXYZW", b"right"),
+        nothing: (b"r", b"left", b"right"),
+    },
+    Failed {
+        name: DiskName::Left,
+        number: 1,
+        calls: 2,
+        held: (b"s", b"leXYZW", b"right"),
+        nothing: (b"r", b"left", b"right"),
+    },
+    Failed {
+        name: DiskName::Right,
+        number: 0,
+        calls: 3,
+        held: (b"s", b"leXYZW", b"rig"),
+        nothing: (b"r", b"leXYZW", b"right"),
+    },
+    Failed {
+        name: DiskName::Root,
+        number: 1,
+        calls: 4,
+        held: (b"s", b"leXYZW", b"ri"),
+        nothing: (b"r", b"leXYZW", b"right"),
+    },
+    Failed {
+        name: DiskName::Right,
+        number: 1,
+        calls: 5,
+        held: (b"s", b"leXYZW", b"ri"),
+        nothing: (b"s", b"leXYZW", b"right"),
+    },
+];
 
 // A write that fails puts the first half of its bytes, a cut that fails goes half of the way.
 #[test]
 fn each_call_of_each_disk_fails_in_turn(rt: HostRuntime) -> Result<(), Fail> {
-    let alloc = rt.alloc();
-    // the disk and the number of its call that fails, how many calls succeed before, what the three hold then, and
-    // what a crash leaves where nothing arrived
-    let rows: [(DiskName, u64, usize, Three, Three); 6] = [
-        (
-            DiskName::Left,
-            0,
-            0,
-            (b"r", b"leXY", b"right"),
-            (b"r", b"left", b"right"),
-        ),
-        (
-            DiskName::Root,
-            0,
-            1,
-            (b"r", b"leXYZW", b"right"),
-            (b"r", b"left", b"right"),
-        ),
-        (
-            DiskName::Left,
-            1,
-            2,
-            (b"s", b"leXYZW", b"right"),
-            (b"r", b"left", b"right"),
-        ),
-        (
-            DiskName::Right,
-            0,
-            3,
-            (b"s", b"leXYZW", b"rig"),
-            (b"r", b"leXYZW", b"right"),
-        ),
-        (
-            DiskName::Root,
-            1,
-            4,
-            (b"s", b"leXYZW", b"ri"),
-            (b"r", b"leXYZW", b"right"),
-        ),
-        (
-            DiskName::Right,
-            1,
-            5,
-            (b"s", b"leXYZW", b"ri"),
-            (b"s", b"leXYZW", b"right"),
-        ),
-    ];
-    for (name, number, calls, held, nothing) in rows {
-        let mut disks = disks_of(alloc, name, &[number])?;
-        assert_eq!(rt; made(&mut disks, 6), calls, "{name:?} {number}");
-        assert!(rt; holds(&disks, held), "{name:?} {number}");
-        assert!(rt;
-            leaves(alloc, &mut disks, Choice::Nothing, nothing)?,
-            "{name:?} {number}"
-        );
+    for row in FAILED {
+        let (name, number) = (row.name, row.number);
+        assert!(rt; fails(rt.alloc(), row)?, "{name:?} {number}");
     }
     Ok(())
 }
 
-#[test]
-fn writes_and_looks_with_their_syncs(rt: HostRuntime) -> Result<(), Fail> {
-    let alloc = rt.alloc();
+// What is read at the front of a disk, with a sync before.
+fn front(alloc: Global, name: DiskName) -> Result<Option<Front>, Fail> {
     let mut disks = disks_of(alloc, DiskName::Root, &[])?;
-    let root = front_synced_on(&mut disks, DiskName::Root);
-    assert_eq!(rt;
-        root,
-        Ok(Some(Front {
-            first: 114,
-            length: 1
-        }))
-    );
-    let left = front_synced_on(&mut disks, DiskName::Left);
-    assert_eq!(rt;
-        left,
-        Ok(Some(Front {
-            first: 108,
-            length: 4
-        }))
-    );
-    assert_eq!(rt; put(&mut disks, DiskName::Right, 5, b"!"), Ok(()));
-    assert!(rt; holds(&disks, (b"r", b"left", b"right!")));
-    assert!(rt;
-        leaves(
-            alloc,
-            &mut disks,
-            Choice::Nothing,
-            (b"r", b"left", b"right!")
-        )?
-    );
+    Ok(front_synced_on(&mut disks, name)?)
+}
+
+#[test]
+fn looks_with_a_sync(rt: HostRuntime) -> Result<(), Fail> {
+    let root = Front {
+        first: 114,
+        length: 1,
+    };
+    assert_eq!(rt; front(rt.alloc(), DiskName::Root)?, Some(root));
+    let left = Front {
+        first: 108,
+        length: 4,
+    };
+    assert_eq!(rt; front(rt.alloc(), DiskName::Left)?, Some(left));
     Ok(())
 }
 
-// The second call fails, which is the sync.
+// Whether a write after looks at two disks is all there after a crash.
+fn is_put(alloc: Global) -> Result<bool, Fail> {
+    let mut disks = disks_of(alloc, DiskName::Root, &[])?;
+    front_synced_on(&mut disks, DiskName::Root)?;
+    front_synced_on(&mut disks, DiskName::Left)?;
+    put(&mut disks, DiskName::Right, 5, b"!")?;
+    let after: Three = (b"r", b"left", b"right!");
+    let is_held = holds(&disks, after);
+    Ok(leaves(alloc, &mut disks, Choice::Nothing, after)? && is_held)
+}
+
+#[test]
+fn writes_with_a_sync(rt: HostRuntime) -> Result<(), Fail> {
+    assert!(rt; is_put(rt.alloc())?);
+    Ok(())
+}
+
+// Whether the second call fails, which is the sync, and a crash leaves these by this choice.
+fn fails_at_its_sync(alloc: Global, choice: Choice, images: Three) -> Result<bool, Memory> {
+    let mut disks = disks_of(alloc, DiskName::Left, &[1])?;
+    let failed = put(&mut disks, DiskName::Left, 4, b"!") == Err(DiskFailed);
+    let is_held = holds(&disks, (b"r", b"left!", b"right"));
+    Ok(leaves(alloc, &mut disks, choice, images)? && failed && is_held)
+}
+
 #[test]
 fn a_write_fails_at_its_sync(rt: HostRuntime) -> Result<(), Fail> {
     let alloc = rt.alloc();
-    let mut disks = disks_of(alloc, DiskName::Left, &[1])?;
-    assert_eq!(rt; put(&mut disks, DiskName::Left, 4, b"!"), Err(DiskFailed));
-    assert!(rt; holds(&disks, (b"r", b"left!", b"right")));
-    assert!(rt;
-        leaves(
-            alloc,
-            &mut disks,
-            Choice::Nothing,
-            (b"r", b"left", b"right")
-        )?
-    );
-    assert!(rt; leaves(alloc, &mut disks, Choice::Whole, (b"r", b"left!", b"right"))?);
+    let nothing: Three = (b"r", b"left", b"right");
+    assert!(rt; fails_at_its_sync(alloc, Choice::Nothing, nothing)?);
+    let whole: Three = (b"r", b"left!", b"right");
+    assert!(rt; fails_at_its_sync(alloc, Choice::Whole, whole)?);
     Ok(())
 }

@@ -1,19 +1,78 @@
 //! A small address book, the worked rows of one document, ids that begin alike, and tables of made ids and of replica uids.
 use crate::Table;
 use std::alloc::Global;
-use std::test::Fail;
-use u1_base::{DocId, Document, IdKind, Replica, ReplicaUid, new_id};
+use u1_base::{DocId, Document, IdFault, IdKind, Memory, Replica, ReplicaUid, new_id};
 
 type Numbers = Table<Document, u64>;
 
-fn put(table: &mut Numbers, id: DocId, value: u64) -> Result<Option<u64>, Fail> {
+fn put(table: &mut Numbers, id: DocId, value: u64) -> Result<Option<u64>, Memory> {
     table.reserve()?;
     Ok(table.put(id, value))
 }
 
-fn made(alloc: Global, number: u64) -> Result<DocId, Fail> {
+// Whether the id is put in a table that had this value of it.
+fn puts(table: &mut Numbers, id: &DocId, value: u64, old: Option<u64>) -> bool {
+    match id.copy() {
+        Ok(id) => put(table, id, value) == Ok(old),
+        Err(_) => false,
+    }
+}
+
+fn puts_text(alloc: Global, table: &mut Numbers, text: &str, value: u64, old: Option<u64>) -> bool {
+    match DocId::read(alloc, text) {
+        Ok(id) => put(table, id, value) == Ok(old),
+        Err(_) => false,
+    }
+}
+
+// Whether the table has this value of the id.
+fn has(table: &Numbers, id: &DocId, want: Option<&u64>) -> bool {
+    table.get(id) == want
+}
+
+fn has_text(alloc: Global, table: &Numbers, text: &str, want: Option<&u64>) -> bool {
+    match DocId::read(alloc, text) {
+        Ok(id) => has(table, &id, want),
+        Err(_) => false,
+    }
+}
+
+// Whether it had this value, which is taken out.
+fn takes(table: &mut Numbers, id: &DocId, want: Option<u64>) -> bool {
+    table.take(id) == want
+}
+
+fn takes_text(alloc: Global, table: &mut Numbers, text: &str, want: Option<u64>) -> bool {
+    match DocId::read(alloc, text) {
+        Ok(id) => takes(table, &id, want),
+        Err(_) => false,
+    }
+}
+
+fn made(alloc: Global, number: u64) -> Result<DocId, IdFault> {
     let text = new_id(alloc, 7, IdKind::Doc, number)?;
-    Ok(DocId::read(alloc, text.as_str())?)
+    DocId::read(alloc, text.as_str())
+}
+
+fn puts_made(alloc: Global, table: &mut Numbers, number: u64) -> bool {
+    match made(alloc, number) {
+        Ok(id) => put(table, id, number) == Ok(None),
+        Err(_) => false,
+    }
+}
+
+fn has_made(alloc: Global, table: &Numbers, number: u64, want: Option<&u64>) -> bool {
+    match made(alloc, number) {
+        Ok(id) => has(table, &id, want),
+        Err(_) => false,
+    }
+}
+
+fn takes_made(alloc: Global, table: &mut Numbers, number: u64) -> bool {
+    match made(alloc, number) {
+        Ok(id) => takes(table, &id, Some(number)),
+        Err(_) => false,
+    }
 }
 
 // Whether the ids rise from place to place, and None follows the last one.
@@ -34,6 +93,11 @@ fn is_in_order(table: &Numbers) -> bool {
     pairs.pair(table.length()).is_none()
 }
 
+// Compared in a function of its own, which keeps the proofs of its callers short.
+fn are_same(text: &str, want: &str) -> bool {
+    text == want
+}
+
 // Whether the first ids are those of the text, in its order.
 fn begins_with(table: &Numbers, sorted: &str) -> bool {
     let mut pairs = table.walk();
@@ -41,170 +105,275 @@ fn begins_with(table: &Numbers, sorted: &str) -> bool {
         let Some((id, _)) = pairs.pair(place as u64) else {
             return false;
         };
-        if id.as_str() != text {
+        if !are_same(id.as_str(), text) {
             return false;
         }
     }
     true
 }
 
-#[test]
-fn has_one_document_and_no_other(rt: HostRuntime) -> Result<(), Fail> {
-    let alloc = rt.alloc();
-    let mut table = Numbers::new(alloc);
-    assert_eq!(rt; table.length(), 0);
-    assert!(rt; table.walk().pair(0).is_none());
-    let d1 = DocId::read(alloc, "d1")?;
-    let d2 = DocId::read(alloc, "d2")?;
-    assert!(rt; table.get(&d1).is_none());
-    assert_eq!(rt; put(&mut table, d1.copy()?, 1)?, None);
-    assert_eq!(rt; table.get(&d1), Some(&1));
-    assert_eq!(rt; table.get(&d2), None);
-    assert_eq!(rt; put(&mut table, d1.copy()?, 2)?, Some(1));
-    assert_eq!(rt; table.get(&d1), Some(&2));
-    assert_eq!(rt; table.length(), 1);
-    assert_eq!(rt; table.take(&d2), None);
-    assert_eq!(rt; table.take(&d1), Some(2));
-    assert_eq!(rt; table.take(&d1), None);
-    assert_eq!(rt; table.length(), 0);
-    Ok(())
+fn is_empty(table: &Numbers) -> bool {
+    table.length() == 0 && table.walk().pair(0).is_none()
+}
+
+fn keeps_one(table: &mut Numbers, d1: &DocId, d2: &DocId) -> bool {
+    is_empty(table)
+        && has(table, d1, None)
+        && puts(table, d1, 1, None)
+        && has(table, d1, Some(&1))
+        && has(table, d2, None)
+        && puts(table, d1, 2, Some(1))
+        && has(table, d1, Some(&2))
+        && table.length() == 1
+        && takes(table, d2, None)
+        && takes(table, d1, Some(2))
+        && takes(table, d1, None)
+        && table.length() == 0
+}
+
+fn keeps_d1(alloc: Global, d1: &DocId) -> bool {
+    match DocId::read(alloc, "d2") {
+        Ok(d2) => keeps_one(&mut Numbers::new(alloc), d1, &d2),
+        Err(_) => false,
+    }
+}
+
+fn has_one_and_no_other(alloc: Global) -> bool {
+    match DocId::read(alloc, "d1") {
+        Ok(d1) => keeps_d1(alloc, &d1),
+        Err(_) => false,
+    }
 }
 
 #[test]
-fn lends_an_address_book_in_order(rt: HostRuntime) -> Result<(), Fail> {
-    let alloc = rt.alloc();
-    let given = "c05 c01 c12 c02 c08 c11 c03 c10 c04 c09 c07 c06";
-    let sorted = "c01 c02 c03 c04 c05 c06 c07 c08 c09 c10 c11 c12";
-    let mut table = Numbers::new(alloc);
-    for text in given.split(' ') {
-        put(&mut table, DocId::read(alloc, text)?, 0)?;
-    }
-    assert_eq!(rt; table.length(), 12);
-    assert!(rt; begins_with(&table, sorted));
-    assert!(rt; is_in_order(&table));
-    assert_eq!(rt; table.take(&DocId::read(alloc, "c12")?), Some(0));
-    assert!(rt; table.walk().pair(11).is_none());
-    Ok(())
+fn has_one_document_and_no_other(rt: HostRuntime) {
+    assert!(rt; has_one_and_no_other(rt.alloc()));
 }
 
-#[test]
-fn tells_ids_that_begin_alike_apart(rt: HostRuntime) -> Result<(), Fail> {
-    let alloc = rt.alloc();
-    // Four have the same first 8 bytes, four have fewer, and most begin with another one.
-    let given = "note-0002 notes note-000 n note-00012 note-1 note note-0001";
-    let sorted = "n note note-000 note-0001 note-00012 note-0002 note-1 notes";
-    let mut table = Numbers::new(alloc);
-    for (number, text) in given.split(' ').enumerate() {
-        let id = DocId::read(alloc, text)?;
-        assert_eq!(rt; put(&mut table, id, number as u64)?, None);
-    }
-    assert_eq!(rt; table.length(), 8);
-    assert!(rt; begins_with(&table, sorted));
-    for (number, text) in given.split(' ').enumerate() {
-        let id = DocId::read(alloc, text)?;
-        assert_eq!(rt; table.get(&id), Some(&(number as u64)));
-    }
-    for text in "no note- note-00 note-0000 note-00011 note-000123 notes0".split(' ') {
-        let id = DocId::read(alloc, text)?;
-        assert!(rt; table.get(&id).is_none());
-        assert!(rt; table.take(&id).is_none());
-    }
-    assert_eq!(rt;
-        put(&mut table, DocId::read(alloc, "note-0001")?, 8)?,
-        Some(7)
-    );
-    assert_eq!(rt; table.take(&DocId::read(alloc, "note-0001")?), Some(8));
-    assert_eq!(rt; table.take(&DocId::read(alloc, "note")?), Some(6));
-    assert_eq!(rt; table.length(), 6);
-    assert!(rt; begins_with(&table, "n note-000 note-00012 note-0002 note-1 notes"));
-    Ok(())
-}
-
-#[test]
-fn finds_made_ids(rt: HostRuntime) -> Result<(), Fail> {
-    let alloc = rt.alloc();
-    let mut table = Numbers::new(alloc);
-    for number in 0..3000 {
-        assert_eq!(rt; put(&mut table, made(alloc, number)?, number)?, None);
-    }
-    assert!(rt; is_in_order(&table));
-    for number in 0..3000 {
-        assert_eq!(rt; table.get(&made(alloc, number)?), Some(&number));
-    }
-    for number in 0..3000 {
-        if number % 2 == 0 {
-            assert_eq!(rt; table.take(&made(alloc, number)?), Some(number));
+// Puts each id of the text, with its place as its value.
+fn puts_each(alloc: Global, table: &mut Numbers, ids: &str) -> bool {
+    for (place, text) in ids.split(' ').enumerate() {
+        if !puts_text(alloc, table, text, place as u64, None) {
+            return false;
         }
     }
-    assert_eq!(rt; table.length(), 1500);
-    assert!(rt; is_in_order(&table));
-    for number in 0..3000 {
-        let is_there = table.get(&made(alloc, number)?).is_some();
-        assert_eq!(rt; is_there, number % 2 == 1);
-    }
-    Ok(())
+    true
+}
+
+fn lends_in_order(alloc: Global) -> bool {
+    let mut table = Numbers::new(alloc);
+    puts_each(
+        alloc,
+        &mut table,
+        "c05 c01 c12 c02 c08 c11 c03 c10 c04 c09 c07 c06",
+    ) && table.length() == 12
+        && begins_with(&table, "c01 c02 c03 c04 c05 c06 c07 c08 c09 c10 c11 c12")
+        && is_in_order(&table)
+        && takes_text(alloc, &mut table, "c12", Some(2))
+        && table.walk().pair(11).is_none()
 }
 
 #[test]
-fn keeps_replica_uids(rt: HostRuntime) -> Result<(), Fail> {
-    let alloc = rt.alloc();
-    let mut table: Table<Replica, u64> = Table::new(alloc);
+fn lends_an_address_book_in_order(rt: HostRuntime) {
+    assert!(rt; lends_in_order(rt.alloc()));
+}
+
+// Four have the same first 8 bytes, four have fewer, and most begin with another one.
+const ALIKE: &str = "note-0002 notes note-000 n note-00012 note-1 note note-0001";
+
+const ALIKE_SORTED: &str = "n note note-000 note-0001 note-00012 note-0002 note-1 notes";
+
+fn has_each(alloc: Global, table: &Numbers, ids: &str) -> bool {
+    for (place, text) in ids.split(' ').enumerate() {
+        if !has_text(alloc, table, text, Some(&(place as u64))) {
+            return false;
+        }
+    }
+    true
+}
+
+fn has_none_of(alloc: Global, table: &mut Numbers, ids: &str) -> bool {
+    for text in ids.split(' ') {
+        if !has_text(alloc, table, text, None) || !takes_text(alloc, table, text, None) {
+            return false;
+        }
+    }
+    true
+}
+
+fn changes_alike(alloc: Global, table: &mut Numbers) -> bool {
+    puts_text(alloc, table, "note-0001", 8, Some(7))
+        && takes_text(alloc, table, "note-0001", Some(8))
+        && takes_text(alloc, table, "note", Some(6))
+        && table.length() == 6
+        && begins_with(table, "n note-000 note-00012 note-0002 note-1 notes")
+}
+
+fn tells_alike_apart(alloc: Global) -> bool {
+    let mut table = Numbers::new(alloc);
+    let others = "no note- note-00 note-0000 note-00011 note-000123 notes0";
+    puts_each(alloc, &mut table, ALIKE)
+        && table.length() == 8
+        && begins_with(&table, ALIKE_SORTED)
+        && has_each(alloc, &table, ALIKE)
+        && has_none_of(alloc, &mut table, others)
+        && changes_alike(alloc, &mut table)
+}
+
+#[test]
+fn tells_ids_that_begin_alike_apart(rt: HostRuntime) {
+    assert!(rt; tells_alike_apart(rt.alloc()));
+}
+
+// Puts the made ids of the numbers below this one.
+fn puts_all_made(alloc: Global, table: &mut Numbers, count: u64) -> bool {
+    for number in 0..count {
+        if !puts_made(alloc, table, number) {
+            return false;
+        }
+    }
+    is_in_order(table)
+}
+
+fn has_all_made(alloc: Global, table: &Numbers, count: u64) -> bool {
+    for number in 0..count {
+        if !has_made(alloc, table, number, Some(&number)) {
+            return false;
+        }
+    }
+    true
+}
+
+fn takes_even_ones(alloc: Global, table: &mut Numbers, count: u64) -> bool {
+    for number in 0..count {
+        if number % 2 == 0 && !takes_made(alloc, table, number) {
+            return false;
+        }
+    }
+    is_in_order(table)
+}
+
+fn has_odd_ones(alloc: Global, table: &Numbers, count: u64) -> bool {
+    for number in 0..count {
+        let want = if number % 2 == 1 { Some(&number) } else { None };
+        if !has_made(alloc, table, number, want) {
+            return false;
+        }
+    }
+    true
+}
+
+fn finds_made(alloc: Global) -> bool {
+    let mut table = Numbers::new(alloc);
+    puts_all_made(alloc, &mut table, 3000)
+        && has_all_made(alloc, &table, 3000)
+        && takes_even_ones(alloc, &mut table, 3000)
+        && table.length() == 1500
+        && has_odd_ones(alloc, &table, 3000)
+}
+
+#[test]
+fn finds_made_ids(rt: HostRuntime) {
+    assert!(rt; finds_made(rt.alloc()));
+}
+
+fn replicas(alloc: Global) -> Result<Table<Replica, u64>, IdFault> {
+    let mut table = Table::new(alloc);
     for (number, text) in "c a b a".split(' ').enumerate() {
         table.reserve()?;
         let _ = table.put(ReplicaUid::read(alloc, text)?, number as u64);
     }
+    Ok(table)
+}
+
+// Whether a walk meets these uids with their numbers, and no more.
+fn has_replicas(table: &Table<Replica, u64>) -> bool {
     let mut pairs = table.walk();
-    for (place, (text, number)) in [("a", 3u64), ("b", 2), ("c", 0)].iter().enumerate() {
-        let (uid, found) = pairs.pair(place as u64).ok_or("too few")?;
-        assert_eq!(rt; uid.as_str(), *text);
-        assert_eq!(rt; *found, *number);
+    for (place, (text, number)) in [("a", 3u64), ("b", 2), ("c", 0)].into_iter().enumerate() {
+        let Some((uid, found)) = pairs.pair(place as u64) else {
+            return false;
+        };
+        if !are_same(uid.as_str(), text) || *found != number {
+            return false;
+        }
     }
-    assert!(rt; pairs.pair(3).is_none());
-    Ok(())
+    pairs.pair(3).is_none()
+}
+
+fn keeps_uids(alloc: Global) -> bool {
+    match replicas(alloc) {
+        Ok(table) => has_replicas(&table),
+        Err(_) => false,
+    }
+}
+
+#[test]
+fn keeps_replica_uids(rt: HostRuntime) {
+    assert!(rt; keeps_uids(rt.alloc()));
+}
+
+// Takes all out: up, down, or from the middle.
+fn takes_all_made(alloc: Global, table: &mut Numbers, round: u64) -> bool {
+    for step in 0..1500u64 {
+        let number = match round {
+            0 => step,
+            1 => 1499 - step.min(1499),
+            _ => (step * 7) % 1500,
+        };
+        if !takes_made(alloc, table, number) {
+            return false;
+        }
+    }
+    is_empty(table)
+}
+
+fn grows_again(alloc: Global) -> bool {
+    let mut table = Numbers::new(alloc);
+    for round in 0..3 {
+        if !puts_all_made(alloc, &mut table, 1500) || !takes_all_made(alloc, &mut table, round) {
+            return false;
+        }
+    }
+    true
 }
 
 // A table from which all is taken out, up and down and from the middle, and which then grows again.
 #[test]
-fn grows_again_from_nothing(rt: HostRuntime) -> Result<(), Fail> {
-    let alloc = rt.alloc();
-    let mut table = Numbers::new(alloc);
-    for round in 0..3u64 {
-        for number in 0..1500 {
-            assert_eq!(rt; put(&mut table, made(alloc, number)?, number)?, None);
-        }
-        assert!(rt; is_in_order(&table));
-        for step in 0..1500u64 {
-            let number = match round {
-                0 => step,
-                1 => 1499 - step.min(1499),
-                _ => (step * 7) % 1500,
-            };
-            assert_eq!(rt; table.take(&made(alloc, number)?), Some(number));
-        }
-        assert_eq!(rt; table.length(), 0);
-        assert!(rt; table.walk().pair(0).is_none());
-    }
-    Ok(())
+fn grows_again_from_nothing(rt: HostRuntime) {
+    assert!(rt; grows_again(rt.alloc()));
 }
 
-// A failing call for memory leaves the table as it was, and the next one goes on from there. `rt try --fail-alloc`
-// makes each call fail in turn.
-#[test]
-fn stands_where_memory_runs_out(rt: HostRuntime) -> Result<(), Fail> {
-    let alloc = rt.alloc();
+// A call that finds no memory leaves the table as it was, and the same call can be made again.
+fn is_as_it_was(table: &Numbers, id: &DocId, number: u64) -> bool {
+    table.length() == number && has(table, id, None) && is_in_order(table)
+}
+
+fn puts_or_stands(table: &mut Numbers, id: DocId, number: u64) -> bool {
+    if table.reserve().is_ok() {
+        return table.put(id, number).is_none();
+    }
+    is_as_it_was(table, &id, number) && put(table, id, number) == Ok(None)
+}
+
+fn puts_made_or_stands(alloc: Global, table: &mut Numbers, number: u64) -> bool {
+    match made(alloc, number) {
+        Ok(id) => puts_or_stands(table, id, number),
+        Err(_) => false,
+    }
+}
+
+fn stands(alloc: Global) -> bool {
     let mut table = Numbers::new(alloc);
     for number in 0..600 {
-        let id = made(alloc, number)?;
-        if table.reserve().is_ok() {
-            assert_eq!(rt; table.put(id, number), None);
-        } else {
-            assert_eq!(rt; table.length(), number);
-            assert!(rt; table.get(&id).is_none());
-            assert!(rt; is_in_order(&table));
-            assert_eq!(rt; put(&mut table, id, number)?, None);
+        if !puts_made_or_stands(alloc, &mut table, number) {
+            return false;
         }
     }
-    assert_eq!(rt; table.length(), 600);
-    assert!(rt; is_in_order(&table));
-    Ok(())
+    table.length() == 600 && is_in_order(&table)
+}
+
+// `rt try --fail-alloc` makes each call for memory fail in turn.
+#[test]
+fn stands_where_memory_runs_out(rt: HostRuntime) {
+    assert!(rt; stands(rt.alloc()));
 }

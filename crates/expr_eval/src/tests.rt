@@ -40,98 +40,108 @@ fn all_spelled(alloc: Global, keys: &[Key]) -> Result<String, Fail> {
     Ok(all)
 }
 
+// Compared in a function of its own, which keeps the proofs of its callers short.
+fn are_same(text: &str, want: &str) -> bool {
+    text == want
+}
+
+// Whether the expression has these values for a content.
+fn gives(alloc: Global, expr: &str, content: &str, wanted: &str) -> Result<bool, Fail> {
+    let found = values_for(alloc, expr, content)?;
+    Ok(are_same(found.as_str(), wanted))
+}
+
+const FIELDS: &[(&str, &str, &str)] = &[
+    ("a", r#"{"a":"x"}"#, "x|"),
+    ("a", r#"{"a":""}"#, "|"),
+    ("a.b.c", r#"{"a":{"b":{"c":"x"}}}"#, "x|"),
+    (
+        "a",
+        r#"{"a":["x",1,true,["y"],{"b":"z"},null,"w"]}"#,
+        "x|w|",
+    ),
+    (
+        "a.b",
+        r#"{"a":[{"b":"x"},[{"b":"y"},[{"b":"z"}]],"b",{"b":["u",["v"]]},{"c":"w"}]}"#,
+        "x|y|z|u|",
+    ),
+    ("b", r#"{"a":"x"}"#, ""),
+    ("a.b", r#"{"a":"x"}"#, ""),
+    ("a", r#"{"a":{"b":"x"}}"#, ""),
+    ("a", r#"{"a":null}"#, ""),
+    ("a", r#"{"a":7}"#, ""),
+    ("a", r#"{"a":[]}"#, ""),
+    ("a", r#"{"a":["x","x"]}"#, "x|x|"),
+    ("a", r#"{"aa":"x","A":"y","a ":"z"}"#, ""),
+    ("é.0", r#"{"é":{"0":"x"}}"#, "x|"),
+];
+
 #[test]
 fn fields(rt: HostRuntime) -> Result<(), Fail> {
-    let alloc = rt.alloc();
-    for (expr, content, wanted) in [
-        ("a", r#"{"a":"x"}"#, "x|"),
-        ("a", r#"{"a":""}"#, "|"),
-        ("a.b.c", r#"{"a":{"b":{"c":"x"}}}"#, "x|"),
-        (
-            "a",
-            r#"{"a":["x",1,true,["y"],{"b":"z"},null,"w"]}"#,
-            "x|w|",
-        ),
-        (
-            "a.b",
-            r#"{"a":[{"b":"x"},[{"b":"y"},[{"b":"z"}]],"b",{"b":["u",["v"]]},{"c":"w"}]}"#,
-            "x|y|z|u|",
-        ),
-        ("b", r#"{"a":"x"}"#, ""),
-        ("a.b", r#"{"a":"x"}"#, ""),
-        ("a", r#"{"a":{"b":"x"}}"#, ""),
-        ("a", r#"{"a":null}"#, ""),
-        ("a", r#"{"a":7}"#, ""),
-        ("a", r#"{"a":[]}"#, ""),
-        ("a", r#"{"a":["x","x"]}"#, "x|x|"),
-        ("a", r#"{"aa":"x","A":"y","a ":"z"}"#, ""),
-        ("é.0", r#"{"é":{"0":"x"}}"#, "x|"),
-    ] {
-        assert_eq!(rt;
-            values_for(alloc, expr, content)?.as_str(),
-            wanted,
+    for (expr, content, wanted) in FIELDS {
+        assert!(rt;
+            gives(rt.alloc(), expr, content, wanted)?,
             "{expr} {content}"
         );
     }
     Ok(())
 }
 
-#[test]
-fn case_folding(rt: HostRuntime) -> Result<(), Fail> {
-    let alloc = rt.alloc();
-    for (text, wanted) in [
-        ("Ann Roy 7", "ann roy 7|"),
-        (
-            "THE QUICK BROWN FOX JUMPS OVER THE LAZY DOG[@`{",
-            "the quick brown fox jumps over the lazy dog[@`{|",
-        ),
-        ("", "|"),
-        ("Straße", "strasse|"),
-        ("ﬀ", "ff|"),
-        ("İ", "i\u{307}|"),
-        ("I", "i|"),
-        ("ΟΔΟΣ", "οδοσ|"),
-        ("οδος", "οδοσ|"),
-        ("ÉA", "éa|"),
-        ("ABCDEFGHIJKLMNOPÉ", "abcdefghijklmnopé|"),
-    ] {
-        let content = format!(in alloc; "{{\"a\":\"{text}\"}}")?;
-        assert_eq!(rt;
-            values_for(alloc, "lower(a)", content.as_str())?.as_str(),
-            wanted,
-            "{text}"
-        );
-    }
-    assert_eq!(rt;
-        values_for(alloc, "lower(a)", r#"{"a":["B",7,true,"B"]}"#)?.as_str(),
-        "b|b|"
-    );
-    Ok(())
+const FOLDED: &[(&str, &str)] = &[
+    ("Ann Roy 7", "ann roy 7|"),
+    (
+        "THE QUICK BROWN FOX JUMPS OVER THE LAZY DOG[@`{",
+        "the quick brown fox jumps over the lazy dog[@`{|",
+    ),
+    ("", "|"),
+    ("Straße", "strasse|"),
+    ("ﬀ", "ff|"),
+    ("İ", "i\u{307}|"),
+    ("I", "i|"),
+    ("ΟΔΟΣ", "οδοσ|"),
+    ("οδος", "οδοσ|"),
+    ("ÉA", "éa|"),
+    ("ABCDEFGHIJKLMNOPÉ", "abcdefghijklmnopé|"),
+];
+
+// Whether `lower` gives this for the text under `a`.
+fn folds(alloc: Global, text: &str, wanted: &str) -> Result<bool, Fail> {
+    let content = format!(in alloc; "{{\"a\":\"{text}\"}}")?;
+    gives(alloc, "lower(a)", content.as_str(), wanted)
 }
 
 #[test]
+fn case_folding(rt: HostRuntime) -> Result<(), Fail> {
+    for (text, wanted) in FOLDED {
+        assert!(rt; folds(rt.alloc(), text, wanted)?, "{text}");
+    }
+    assert!(rt; gives(rt.alloc(), "lower(a)", r#"{"a":["B",7,true,"B"]}"#, "b|b|")?);
+    Ok(())
+}
+
+const SPLIT: &[(&str, &str)] = &[
+    (r#"{"a":" home  work home "}"#, "home|work|"),
+    (r#"{"a":["b a","c b",7,"a d"]}"#, "b|a|c|d|"),
+    (r#"{"a":["","  "]}"#, ""),
+    (r#"{"a":"one"}"#, "one|"),
+    (r#"{"a":"A a á Á a"}"#, "A|a|á|Á|"),
+    (r#"{"a":"h g f e d c b h"}"#, "h|g|f|e|d|c|b|"),
+    (r#"{"a":"i h g f e d c b h"}"#, "i|h|g|f|e|d|c|b|"),
+    (
+        r#"{"a":["c b a e d","a b i h","g f","a c i"]}"#,
+        "c|b|a|e|d|i|h|g|f|",
+    ),
+    (
+        r#"{"a":"x\u200by z\ufeff \u180e"}"#,
+        "x\u{200b}y|z\u{feff}|\u{180e}|",
+    ),
+];
+
+#[test]
 fn words(rt: HostRuntime) -> Result<(), Fail> {
-    let alloc = rt.alloc();
-    for (content, wanted) in [
-        (r#"{"a":" home  work home "}"#, "home|work|"),
-        (r#"{"a":["b a","c b",7,"a d"]}"#, "b|a|c|d|"),
-        (r#"{"a":["","  "]}"#, ""),
-        (r#"{"a":"one"}"#, "one|"),
-        (r#"{"a":"A a á Á a"}"#, "A|a|á|Á|"),
-        (r#"{"a":"h g f e d c b h"}"#, "h|g|f|e|d|c|b|"),
-        (r#"{"a":"i h g f e d c b h"}"#, "i|h|g|f|e|d|c|b|"),
-        (
-            r#"{"a":["c b a e d","a b i h","g f","a c i"]}"#,
-            "c|b|a|e|d|i|h|g|f|",
-        ),
-        (
-            r#"{"a":"x\u200by z\ufeff \u180e"}"#,
-            "x\u{200b}y|z\u{feff}|\u{180e}|",
-        ),
-    ] {
-        assert_eq!(rt;
-            values_for(alloc, "split_words(a)", content)?.as_str(),
-            wanted,
+    for (content, wanted) in SPLIT {
+        assert!(rt;
+            gives(rt.alloc(), "split_words(a)", content, wanted)?,
             "{content}"
         );
     }
@@ -139,111 +149,121 @@ fn words(rt: HostRuntime) -> Result<(), Fail> {
 }
 
 // All characters with the property White_Space of Unicode.
+const WHITE: &[u32] = &[
+    0x9, 0xa, 0xb, 0xc, 0xd, 0x20, 0x85, 0xa0, 0x1680, 0x2000, 0x2001, 0x2002, 0x2003, 0x2004,
+    0x2005, 0x2006, 0x2007, 0x2008, 0x2009, 0x200a, 0x2028, 0x2029, 0x202f, 0x205f, 0x3000,
+];
+
+fn is_white(alloc: Global, code: u32) -> Result<bool, Fail> {
+    let content = format!(in alloc; "{{\"a\":\"\\u{code:04x}é\\u{code:04x}\\u{code:04x}b\"}}")?;
+    gives(alloc, "split_words(a)", content.as_str(), "é|b|")
+}
+
 #[test]
 fn white_space(rt: HostRuntime) -> Result<(), Fail> {
-    let alloc = rt.alloc();
-    for code in [
-        0x9, 0xa, 0xb, 0xc, 0xd, 0x20, 0x85, 0xa0, 0x1680, 0x2000, 0x2001, 0x2002, 0x2003, 0x2004,
-        0x2005, 0x2006, 0x2007, 0x2008, 0x2009, 0x200a, 0x2028, 0x2029, 0x202f, 0x205f, 0x3000,
-    ] {
-        let content = format!(in alloc; "{{\"a\":\"\\u{code:04x}é\\u{code:04x}\\u{code:04x}b\"}}")?;
-        assert_eq!(rt;
-            values_for(alloc, "split_words(a)", content.as_str())?.as_str(),
-            "é|b|",
-            "{code}"
-        );
+    for code in WHITE {
+        assert!(rt; is_white(rt.alloc(), *code)?, "{code}");
     }
     Ok(())
 }
 
+const NUMBERS: &[(&str, &str, &str)] = &[
+    ("number(age,5)", r#"{"age":7}"#, "00007|"),
+    ("number(age,5)", r#"{"age":-3}"#, "-0003|"),
+    ("number(age,5)", r#"{"age":123456}"#, "123456|"),
+    ("number(age,5)", r#"{"age":true}"#, ""),
+    ("number(age,5)", r#"{"age":"7"}"#, ""),
+    ("number(age,5)", r#"{"name":"x"}"#, ""),
+    (
+        "number(age,5)",
+        r#"{"age":[7,-3,123456,true,"7",[1]]}"#,
+        "00007|-0003|123456|",
+    ),
+    (
+        "number(age,5)",
+        r#"{"age":[12345,-1234,-12345,0]}"#,
+        "12345|-1234|-12345|00000|",
+    ),
+    ("number(age,1)", r#"{"age":[0,-3]}"#, "0|-3|"),
+    (
+        "number(age,3)",
+        r#"{"age":[9223372036854775807,-9223372036854775808]}"#,
+        "9223372036854775807|-9223372036854775808|",
+    ),
+    (
+        "number(age,22)",
+        r#"{"age":-9223372036854775808}"#,
+        "-009223372036854775808|",
+    ),
+    ("bool(age)", r#"{"age":true}"#, "1|"),
+    ("bool(age)", r#"{"age":[true,false,1,"true"]}"#, "1|0|"),
+    ("age", r#"{"age":[7,true]}"#, ""),
+];
+
 #[test]
 fn numbers_and_truths(rt: HostRuntime) -> Result<(), Fail> {
-    let alloc = rt.alloc();
-    for (expr, content, wanted) in [
-        ("number(age,5)", r#"{"age":7}"#, "00007|"),
-        ("number(age,5)", r#"{"age":-3}"#, "-0003|"),
-        ("number(age,5)", r#"{"age":123456}"#, "123456|"),
-        ("number(age,5)", r#"{"age":true}"#, ""),
-        ("number(age,5)", r#"{"age":"7"}"#, ""),
-        ("number(age,5)", r#"{"name":"x"}"#, ""),
-        (
-            "number(age,5)",
-            r#"{"age":[7,-3,123456,true,"7",[1]]}"#,
-            "00007|-0003|123456|",
-        ),
-        (
-            "number(age,5)",
-            r#"{"age":[12345,-1234,-12345,0]}"#,
-            "12345|-1234|-12345|00000|",
-        ),
-        ("number(age,1)", r#"{"age":[0,-3]}"#, "0|-3|"),
-        (
-            "number(age,3)",
-            r#"{"age":[9223372036854775807,-9223372036854775808]}"#,
-            "9223372036854775807|-9223372036854775808|",
-        ),
-        (
-            "number(age,22)",
-            r#"{"age":-9223372036854775808}"#,
-            "-009223372036854775808|",
-        ),
-        ("bool(age)", r#"{"age":true}"#, "1|"),
-        ("bool(age)", r#"{"age":[true,false,1,"true"]}"#, "1|0|"),
-        ("age", r#"{"age":[7,true]}"#, ""),
-    ] {
-        assert_eq!(rt;
-            values_for(alloc, expr, content)?.as_str(),
-            wanted,
+    for (expr, content, wanted) in NUMBERS {
+        assert!(rt;
+            gives(rt.alloc(), expr, content, wanted)?,
             "{expr} {content}"
         );
     }
     Ok(())
 }
 
+const ARGUMENTS: &[(&str, &str)] = &[
+    ("combine(b,a)", "Y Z|X|"),
+    ("combine(a)", "X|"),
+    ("combine(a,a)", "X|X|"),
+    ("lower(combine(a,b))", "x|y z|"),
+    ("number(combine(c,a,b),2)", "-1|07|"),
+    ("bool(combine(a,b))", "1|"),
+    ("split_words(lower(combine(b,a)))", "y|z|x|"),
+    ("lower(number(a,2))", "07|"),
+    ("number(lower(a),2)", ""),
+    (
+        "combine(number(a,2),bool(a),lower(split_words(b)))",
+        "07|1|y|z|",
+    ),
+];
+
 #[test]
 fn arguments(rt: HostRuntime) -> Result<(), Fail> {
-    let alloc = rt.alloc();
     let content = r#"{"a":["X",7,true],"b":"Y Z","c":-1}"#;
-    for (expr, wanted) in [
-        ("combine(b,a)", "Y Z|X|"),
-        ("combine(a)", "X|"),
-        ("combine(a,a)", "X|X|"),
-        ("lower(combine(a,b))", "x|y z|"),
-        ("number(combine(c,a,b),2)", "-1|07|"),
-        ("bool(combine(a,b))", "1|"),
-        ("split_words(lower(combine(b,a)))", "y|z|x|"),
-        ("lower(number(a,2))", "07|"),
-        ("number(lower(a),2)", ""),
-        (
-            "combine(number(a,2),bool(a),lower(split_words(b)))",
-            "07|1|y|z|",
-        ),
-    ] {
-        assert_eq!(rt;
-            values_for(alloc, expr, content)?.as_str(),
-            wanted,
-            "{expr}"
-        );
+    for (expr, wanted) in ARGUMENTS {
+        assert!(rt; gives(rt.alloc(), expr, content, wanted)?, "{expr}");
     }
     Ok(())
 }
 
+const TUPLES: &[(&str, &str, &str)] = &[
+    ("a", "split_words(b)", "x|u|/x|v|/y|u|/y|v|/"),
+    ("split_words(b)", "a", "u|x|/u|y|/v|x|/v|y|/"),
+    ("a", "a", "x|x|/x|y|/y|x|/y|y|/"),
+    ("a", "c", ""),
+    ("d", "a", ""),
+    ("number(c,1)", "b", "7|u v|/8|u v|/"),
+];
+
+// Whether a content has these keys for two expressions.
+fn gives_keys(
+    alloc: Global,
+    first: &str,
+    second: &str,
+    content: &str,
+    wanted: &str,
+) -> Result<bool, Fail> {
+    let keys = keys_for(alloc, first, second, content)?;
+    let found = all_spelled(alloc, keys.as_slice())?;
+    Ok(are_same(found.as_str(), wanted))
+}
+
 #[test]
 fn tuples(rt: HostRuntime) -> Result<(), Fail> {
-    let alloc = rt.alloc();
     let content = r#"{"a":["x","y","x"],"b":"u v","c":[7,8]}"#;
-    for (first, second, wanted) in [
-        ("a", "split_words(b)", "x|u|/x|v|/y|u|/y|v|/"),
-        ("split_words(b)", "a", "u|x|/u|y|/v|x|/v|y|/"),
-        ("a", "a", "x|x|/x|y|/y|x|/y|y|/"),
-        ("a", "c", ""),
-        ("d", "a", ""),
-        ("number(c,1)", "b", "7|u v|/8|u v|/"),
-    ] {
-        let keys = keys_for(alloc, first, second, content)?;
-        assert_eq!(rt;
-            all_spelled(alloc, keys.as_slice())?.as_str(),
-            wanted,
+    for (first, second, wanted) in TUPLES {
+        assert!(rt;
+            gives_keys(rt.alloc(), first, second, content, wanted)?,
             "{first} {second}"
         );
     }
@@ -269,70 +289,120 @@ fn push_texts(alloc: Global, text: &mut String, count: u32) -> Result<(), Fail> 
     Ok(())
 }
 
+const MOST_KEYS: &[(u32, u32, usize, &str)] = &[
+    (63, 65, 4095, "n62|n64|"),
+    (64, 64, 4096, "n63|n63|"),
+    (17, 241, 4096, "n16|n239|"),
+    (1, 4097, 4096, "n0|n4095|"),
+    (4097, 1, 4096, "n4095|n0|"),
+    (4097, 0, 0, ""),
+];
+
+// Whether there are so many keys, of which the last one has these values, if there is one.
+fn are_keys(alloc: Global, keys: &[Key], count: usize, last: &str) -> Result<bool, Fail> {
+    let found = match keys.last() {
+        Some(key) => spelled(alloc, key.texts())?,
+        None => String::new(alloc),
+    };
+    Ok(keys.len() == count && are_same(found.as_str(), last))
+}
+
+fn has_keys(
+    alloc: Global,
+    first: u32,
+    second: u32,
+    count: usize,
+    last: &str,
+) -> Result<bool, Fail> {
+    let content = two_lists(alloc, first, second)?;
+    let keys = keys_for(alloc, "a", "b", content.as_str())?;
+    are_keys(alloc, keys.as_slice(), count, last)
+}
+
 #[test]
 fn greatest_number_of_keys(rt: HostRuntime) -> Result<(), Fail> {
-    let alloc = rt.alloc();
-    for (first, second, count, last) in [
-        (63, 65, 4095, "n62|n64|"),
-        (64, 64, 4096, "n63|n63|"),
-        (17, 241, 4096, "n16|n239|"),
-        (1, 4097, 4096, "n0|n4095|"),
-        (4097, 1, 4096, "n4095|n0|"),
-        (4097, 0, 0, ""),
-    ] {
-        let content = two_lists(alloc, first, second)?;
-        let keys = keys_for(alloc, "a", "b", content.as_str())?;
-        assert_eq!(rt; keys.len(), count);
-        let Some(key) = keys.as_slice().last() else {
-            assert_eq!(rt; last, "");
-            continue;
-        };
-        assert_eq!(rt; spelled(alloc, key.texts())?.as_str(), last);
+    for (first, second, count, last) in MOST_KEYS {
+        assert!(rt;
+            has_keys(rt.alloc(), *first, *second, *count, last)?,
+            "{first} {second}"
+        );
     }
     Ok(())
+}
+
+// An object of one text: so many letters of two bytes, and an end.
+fn long_text(alloc: Global, count: u32, end: &str) -> Result<String, Fail> {
+    let mut text = String::from_str(alloc, "{\"a\":\"")?;
+    for _ in 0..count {
+        text.push('é')?;
+    }
+    text.push_str(end)?;
+    text.push_str("\"}")?;
+    Ok(text)
+}
+
+fn counts(
+    alloc: Global,
+    exprs: &[Expr; 1],
+    content: &Content,
+    wanted: usize,
+) -> Result<bool, Fail> {
+    let values = values(alloc, &exprs[0], content.root())?;
+    let keys = keys(alloc, exprs, content.root())?;
+    Ok(keys.len() == wanted && values.len() == 1)
+}
+
+// Whether the text is a value, and makes so many keys.
+fn has_keys_of_text(alloc: Global, count: u32, end: &str, wanted: usize) -> Result<bool, Fail> {
+    let text = long_text(alloc, count, end)?;
+    let content = Content::read(alloc, text.as_bytes())?;
+    counts(alloc, &[Expr::read(alloc, "a")?], &content, wanted)
 }
 
 #[test]
 fn longest_text_of_a_key(rt: HostRuntime) -> Result<(), Fail> {
-    let alloc = rt.alloc();
-    for (count, end, wanted) in [(511, "x", 1), (512, "", 1), (512, "x", 0)] {
-        let mut text = String::new(alloc);
-        for _ in 0..count {
-            text.push('é')?;
-        }
-        text.push_str(end)?;
-        let content = format!(in alloc; "{{\"a\":\"{text}\"}}")?;
-        let content = Content::read(alloc, content.as_bytes())?;
-        let exprs = [Expr::read(alloc, "a")?];
-        assert_eq!(rt; keys(alloc, &exprs, content.root())?.len(), wanted);
-        assert_eq!(rt; values(alloc, &exprs[0], content.root())?.len(), 1);
-    }
+    assert!(rt; has_keys_of_text(rt.alloc(), 511, "x", 1)?);
+    assert!(rt; has_keys_of_text(rt.alloc(), 512, "", 1)?);
+    assert!(rt; has_keys_of_text(rt.alloc(), 512, "x", 0)?);
     Ok(())
+}
+
+const EIGHT: [&str; 8] = [
+    "a",
+    "b",
+    "lower(a)",
+    "lower(b)",
+    "split_words(a)",
+    "split_words(b)",
+    "combine(a,b)",
+    "combine(b,a)",
+];
+
+fn eight(alloc: Global) -> Result<Vec<Expr>, Fail> {
+    let mut exprs = Vec::new(alloc);
+    for text in EIGHT {
+        exprs.push(Expr::read(alloc, text)?)?;
+    }
+    Ok(exprs)
+}
+
+fn has_keys_of_eight(alloc: Global, content: &Content) -> Result<bool, Fail> {
+    let exprs = eight(alloc)?;
+    if exprs.len() != 8 {
+        return Ok(false);
+    }
+    let keys = keys(alloc, &exprs, content.root())?;
+    are_keys(alloc, keys.as_slice(), 4096, "n0|n0|n0|n0|n0|n0|n13|n195|")
+}
+
+fn stops_at_the_limit(alloc: Global) -> Result<bool, Fail> {
+    let text = two_lists(alloc, 300, 300)?;
+    let content = Content::read(alloc, text.as_bytes())?;
+    has_keys_of_eight(alloc, &content)
 }
 
 #[test]
 fn many_expressions_stop_at_the_limit(rt: HostRuntime) -> Result<(), Fail> {
-    let alloc = rt.alloc();
-    let content = two_lists(alloc, 300, 300)?;
-    let content = Content::read(alloc, content.as_bytes())?;
-    let exprs = [
-        Expr::read(alloc, "a")?,
-        Expr::read(alloc, "b")?,
-        Expr::read(alloc, "lower(a)")?,
-        Expr::read(alloc, "lower(b)")?,
-        Expr::read(alloc, "split_words(a)")?,
-        Expr::read(alloc, "split_words(b)")?,
-        Expr::read(alloc, "combine(a,b)")?,
-        Expr::read(alloc, "combine(b,a)")?,
-    ];
-    let keys = keys(alloc, &exprs, content.root())?;
-    assert_eq!(rt; keys.len(), 4096);
-    let Some(key) = keys.as_slice().last() else {
-        panic!(rt; "no key");
-    };
-    assert_eq!(rt;
-        spelled(alloc, key.texts())?.as_str(),
-        "n0|n0|n0|n0|n0|n0|n13|n195|"
-    );
+    assert!(rt; stops_at_the_limit(rt.alloc())?);
     Ok(())
 }

@@ -1,10 +1,10 @@
 //! The worked rows of the grammar, and each call that allocates once.
-use crate::{Expr, ParseFault};
-use std::alloc::Global;
-use std::test::Fail;
+use crate::{Expr, ParseFault, Path};
+use std::alloc::{AllocError, Global};
+use u1_base::Text;
 
 // The text with so many copies of the piece before it.
-fn repeated(alloc: Global, piece: &str, count: usize, end: &str) -> Result<String, Fail> {
+fn repeated(alloc: Global, piece: &str, count: usize, end: &str) -> Result<String, AllocError> {
     let mut text = String::new(alloc);
     for _ in 0..count {
         text.push_str(piece)?;
@@ -13,158 +13,263 @@ fn repeated(alloc: Global, piece: &str, count: usize, end: &str) -> Result<Strin
     Ok(text)
 }
 
-#[test]
-fn reads_texts(rt: HostRuntime) -> Result<(), Fail> {
-    let alloc = rt.alloc();
-    for (text, canonical) in [
-        ("a", "a"),
-        ("lower( a.b )", "lower(a.b)"),
-        (
-            "\u{85}lower\u{2028}(\u{a0}a.b\u{3000})\u{1680}",
-            "lower(a.b)",
-        ),
-        ("number(age,5)", "number(age,5)"),
-        (" number ( age , 128 ) ", "number(age,128)"),
-        ("number(age,1)", "number(age,1)"),
-        ("bool(age)", "bool(age)"),
-        ("split_words(tags)", "split_words(tags)"),
-        (
-            "combine(a,lower(b) , combine(c))",
-            "combine(a,lower(b),combine(c))",
-        ),
-        ("lower", "lower"),
-        ("lower ", "lower"),
-        ("lower(lower)", "lower(lower)"),
-        ("lower.a", "lower.a"),
-        ("is_null", "is_null"),
-        ("números.é\u{200b}", "números.é\u{200b}"),
-        ("a-b.0.\"", "a-b.0.\""),
-    ] {
-        let expr = Expr::read(alloc, text)?;
-        assert_eq!(rt; expr.text(alloc)?.as_str(), canonical);
-        let again = Expr::read(alloc, canonical)?;
-        assert!(rt; again.same(&expr));
-        assert!(rt; expr.copy(alloc)?.same(&expr));
+// These functions borrow, and answer `false` where memory runs out: that keeps the proofs of the
+// tests short.
+fn are_same(text: &str, want: &str) -> bool {
+    text == want
+}
+
+fn is_spelled(alloc: Global, expr: &Expr, want: &str) -> bool {
+    match expr.text(alloc) {
+        Ok(text) => are_same(text.as_str(), want),
+        Err(_) => false,
     }
-    Ok(())
+}
+
+// Whether the text is read, as the same expression or as another one.
+fn compares(alloc: Global, expr: &Expr, text: &str, want: bool) -> bool {
+    match Expr::read(alloc, text) {
+        Ok(other) => other.same(expr) == want,
+        Err(_) => false,
+    }
+}
+
+fn is_copied(alloc: Global, expr: &Expr) -> bool {
+    match expr.copy(alloc) {
+        Ok(copy) => copy.same(expr),
+        Err(_) => false,
+    }
+}
+
+fn is_read_as(alloc: Global, text: &str, canonical: &str) -> bool {
+    match Expr::read(alloc, text) {
+        Ok(expr) => {
+            is_spelled(alloc, &expr, canonical)
+                && compares(alloc, &expr, canonical, true)
+                && is_copied(alloc, &expr)
+        }
+        Err(_) => false,
+    }
+}
+
+fn is_refused(alloc: Global, text: &str, want: ParseFault) -> bool {
+    match Expr::read(alloc, text) {
+        Ok(_) => false,
+        Err(fault) => fault == want,
+    }
+}
+
+const TEXTS: &[(&str, &str)] = &[
+    ("a", "a"),
+    ("lower( a.b )", "lower(a.b)"),
+    (
+        "\u{85}lower\u{2028}(\u{a0}a.b\u{3000})\u{1680}",
+        "lower(a.b)",
+    ),
+    ("number(age,5)", "number(age,5)"),
+    (" number ( age , 128 ) ", "number(age,128)"),
+    ("number(age,1)", "number(age,1)"),
+    ("bool(age)", "bool(age)"),
+    ("split_words(tags)", "split_words(tags)"),
+    (
+        "combine(a,lower(b) , combine(c))",
+        "combine(a,lower(b),combine(c))",
+    ),
+    ("lower", "lower"),
+    ("lower ", "lower"),
+    ("lower(lower)", "lower(lower)"),
+    ("lower.a", "lower.a"),
+    ("is_null", "is_null"),
+    ("números.é\u{200b}", "números.é\u{200b}"),
+    ("a-b.0.\"", "a-b.0.\""),
+];
+
+#[test]
+fn reads_texts(rt: HostRuntime) {
+    for (text, canonical) in TEXTS {
+        assert!(rt; is_read_as(rt.alloc(), text, canonical), "{text:?}");
+    }
+}
+
+const REFUSED: &[(&str, u64)] = &[
+    ("", 0),
+    ("  ", 2),
+    ("is_null(a)", 7),
+    ("number(a)", 8),
+    ("number(a,129)", 11),
+    ("number(a,130)", 11),
+    ("number(a,1281)", 12),
+    ("number(a,0)", 9),
+    ("number(a,05)", 9),
+    ("number(a,+5)", 9),
+    ("number(a,5 0)", 11),
+    ("number(a,)", 9),
+    ("number(a,5", 10),
+    ("combine()", 8),
+    ("combine(a,)", 10),
+    ("lower(a", 7),
+    ("lower(", 6),
+    ("lower()", 6),
+    ("lower(a,b)", 7),
+    ("lower(a))", 8),
+    ("lower(a)(", 8),
+    ("lower a", 6),
+    ("a b", 2),
+    ("a.", 2),
+    ("a. b", 2),
+    ("a .b", 2),
+    ("a..b", 2),
+    (".a", 0),
+    ("a,b", 1),
+    ("lower.a(b)", 7),
+    ("é b", 3),
+    ("\u{3000}", 3),
+];
+
+#[test]
+fn refuses_texts(rt: HostRuntime) {
+    for (text, place) in REFUSED {
+        assert!(rt;
+            is_refused(rt.alloc(), text, ParseFault::At(*place)),
+            "{text:?}"
+        );
+    }
+}
+
+const PRINTED: &[(ParseFault, &str)] = &[
+    (
+        ParseFault::TooLong,
+        "the expression has more than 512 bytes",
+    ),
+    (ParseFault::At(11), "the expression goes wrong at byte 11"),
+    (ParseFault::Memory, "out of memory"),
+];
+
+fn is_printed(alloc: Global, fault: ParseFault, want: &str) -> bool {
+    match format!(in alloc; "{fault}") {
+        Ok(text) => are_same(text.as_str(), want),
+        Err(_) => false,
+    }
 }
 
 #[test]
-fn refuses_texts(rt: HostRuntime) -> Result<(), Fail> {
-    let alloc = rt.alloc();
-    for (text, place) in [
-        ("", 0),
-        ("  ", 2),
-        ("is_null(a)", 7),
-        ("number(a)", 8),
-        ("number(a,129)", 11),
-        ("number(a,130)", 11),
-        ("number(a,1281)", 12),
-        ("number(a,0)", 9),
-        ("number(a,05)", 9),
-        ("number(a,+5)", 9),
-        ("number(a,5 0)", 11),
-        ("number(a,)", 9),
-        ("number(a,5", 10),
-        ("combine()", 8),
-        ("combine(a,)", 10),
-        ("lower(a", 7),
-        ("lower(", 6),
-        ("lower()", 6),
-        ("lower(a,b)", 7),
-        ("lower(a))", 8),
-        ("lower(a)(", 8),
-        ("lower a", 6),
-        ("a b", 2),
-        ("a.", 2),
-        ("a. b", 2),
-        ("a .b", 2),
-        ("a..b", 2),
-        (".a", 0),
-        ("a,b", 1),
-        ("lower.a(b)", 7),
-        ("é b", 3),
-        ("\u{3000}", 3),
-    ] {
-        let fault = Expr::read(alloc, text).err();
-        assert_eq!(rt; fault, Some(ParseFault::At(place)), "{text:?}");
+fn prints_the_fault(rt: HostRuntime) {
+    for (fault, want) in PRINTED {
+        assert!(rt; is_printed(rt.alloc(), *fault, want), "{want}");
     }
-    Ok(())
+}
+
+// Whether so many copies of the piece and the end behind them are read, and spelled as they stand.
+fn reads_repeated(alloc: Global, piece: &str, count: usize, end: &str) -> bool {
+    match repeated(alloc, piece, count, end) {
+        Ok(text) => is_read_as(alloc, text.as_str(), text.as_str()),
+        Err(_) => false,
+    }
+}
+
+fn refuses_repeated(
+    alloc: Global,
+    piece: &str,
+    count: usize,
+    end: &str,
+    fault: ParseFault,
+) -> bool {
+    match repeated(alloc, piece, count, end) {
+        Ok(text) => is_refused(alloc, text.as_str(), fault),
+        Err(_) => false,
+    }
+}
+
+// A field within so many calls of `bool`.
+fn reads_nested(alloc: Global, depth: usize) -> bool {
+    match repeated(alloc, ")", depth, "") {
+        Ok(closing) => match format!(in alloc; "a{closing}") {
+            Ok(end) => reads_repeated(alloc, "bool(", depth, end.as_str()),
+            Err(_) => false,
+        },
+        Err(_) => false,
+    }
 }
 
 #[test]
-fn prints_the_fault(rt: HostRuntime) -> Result<(), Fail> {
+fn keeps_the_limit(rt: HostRuntime) {
     let alloc = rt.alloc();
-    for (fault, want) in [
-        (
-            ParseFault::TooLong,
-            "the expression has more than 512 bytes",
-        ),
-        (ParseFault::At(11), "the expression goes wrong at byte 11"),
-        (ParseFault::Memory, "out of memory"),
-    ] {
-        assert_eq!(rt; format!(in alloc; "{fault}")?.as_str(), want);
-    }
-    Ok(())
+    assert!(rt; reads_repeated(alloc, "a", 512, ""));
+    assert!(rt; refuses_repeated(alloc, "a", 513, "", ParseFault::TooLong));
+    assert!(rt; refuses_repeated(alloc, "(", 513, "", ParseFault::TooLong));
+    assert!(rt; refuses_repeated(alloc, "bool(", 102, "a", ParseFault::At(511)));
+    assert!(rt; reads_nested(alloc, 85));
 }
 
-#[test]
-fn keeps_the_limit(rt: HostRuntime) -> Result<(), Fail> {
-    let alloc = rt.alloc();
-    let longest = repeated(alloc, "a", 512, "")?;
-    let too_long = repeated(alloc, "a", 513, "")?;
-    let too_long_and_wrong = repeated(alloc, "(", 513, "")?;
-    let expr = Expr::read(alloc, longest.as_str())?;
-    assert_eq!(rt; expr.text(alloc)?.as_str(), longest.as_str());
-    for text in [too_long.as_str(), too_long_and_wrong.as_str()] {
-        assert_eq!(rt; Expr::read(alloc, text).err(), Some(ParseFault::TooLong));
-    }
-    let deepest = repeated(alloc, "bool(", 102, "a")?;
-    let fault = Expr::read(alloc, deepest.as_str()).err();
-    assert_eq!(rt; fault, Some(ParseFault::At(511)));
-    let mut nested = repeated(alloc, "bool(", 85, "a")?;
-    nested.push_str(repeated(alloc, ")", 85, "")?.as_str())?;
-    let expr = Expr::read(alloc, nested.as_str())?;
-    assert_eq!(rt; expr.text(alloc)?.as_str(), nested.as_str());
-    Ok(())
-}
+// Expressions of which no two are the same.
+const OTHERS: &[&str] = &[
+    "a",
+    "b",
+    "a.b",
+    "lower(a)",
+    "split_words(a)",
+    "bool(a)",
+    "number(a,5)",
+    "number(a,6)",
+    "combine(a)",
+    "combine(a,a)",
+    "combine(a,b)",
+];
 
-#[test]
-fn tells_expressions_apart(rt: HostRuntime) -> Result<(), Fail> {
-    let alloc = rt.alloc();
-    let texts = [
-        "a",
-        "b",
-        "a.b",
-        "lower(a)",
-        "split_words(a)",
-        "bool(a)",
-        "number(a,5)",
-        "number(a,6)",
-        "combine(a)",
-        "combine(a,a)",
-        "combine(a,b)",
-    ];
-    for (i, text) in texts.iter().enumerate() {
-        let expr = Expr::read(alloc, text)?;
-        for (j, other) in texts.iter().enumerate() {
-            assert_eq!(rt; expr.same(&Expr::read(alloc, other)?), i == j);
+// Whether the expression is the same as that of its place, and as no other.
+fn is_the_only_one(alloc: Global, place: usize, expr: &Expr) -> bool {
+    for (other, text) in OTHERS.iter().enumerate() {
+        if !compares(alloc, expr, text, other == place) {
+            return false;
         }
     }
-    Ok(())
+    true
+}
+
+fn is_told_apart(alloc: Global, place: usize, text: &str) -> bool {
+    match Expr::read(alloc, text) {
+        Ok(expr) => is_the_only_one(alloc, place, &expr),
+        Err(_) => false,
+    }
 }
 
 #[test]
-fn lends_the_parts_of_a_field(rt: HostRuntime) -> Result<(), Fail> {
-    let alloc = rt.alloc();
-    match Expr::read(alloc, "name.first")? {
-        Expr::Field(path) => {
-            let parts = path.copy(alloc)?;
-            assert_eq!(rt; parts.parts().len(), 2);
-            assert_eq!(rt; parts.parts()[0].duplicate()?.as_str(), "name");
-            assert_eq!(rt; parts.parts()[1].duplicate()?.as_str(), "first");
-        }
-        _ => assert!(rt; false),
+fn tells_expressions_apart(rt: HostRuntime) {
+    for (place, text) in OTHERS.iter().enumerate() {
+        assert!(rt; is_told_apart(rt.alloc(), place, text), "{text}");
     }
-    Ok(())
+}
+
+fn is_part(part: &Text, want: &str) -> bool {
+    match part.duplicate() {
+        Ok(copy) => are_same(copy.as_str(), want),
+        Err(_) => false,
+    }
+}
+
+fn has_two_parts(path: &Path) -> bool {
+    let parts = path.parts();
+    parts.len() == 2 && is_part(&parts[0], "name") && is_part(&parts[1], "first")
+}
+
+fn lends_parts(alloc: Global, expr: &Expr) -> bool {
+    match expr {
+        Expr::Field(path) => match path.copy(alloc) {
+            Ok(copy) => has_two_parts(&copy),
+            Err(_) => false,
+        },
+        _ => false,
+    }
+}
+
+fn lends(alloc: Global) -> bool {
+    match Expr::read(alloc, "name.first") {
+        Ok(expr) => lends_parts(alloc, &expr),
+        Err(_) => false,
+    }
+}
+
+#[test]
+fn lends_the_parts_of_a_field(rt: HostRuntime) {
+    assert!(rt; lends(rt.alloc()));
 }

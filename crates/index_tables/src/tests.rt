@@ -4,6 +4,7 @@ ghost use Rattle.std.specs.List.{All, AllPairs};
 
 use crate::{IndexTable, compare_keys};
 use std::alloc::Global;
+use std::cmp::Ordering;
 use std::marker::Brand;
 use std::sync::ledger::{Blank, Ledger};
 use std::test::Fail;
@@ -176,43 +177,61 @@ fn is_same(table: &IndexTable, plain: &[u64], alloc: Global) -> Result<bool, Fai
     Ok(walks(table))
 }
 
+// In order: a key comes before one that goes on behind it, and the first texts decide before the
+// second ones.
+const IN_ORDER: &[&str] = &[
+    "",
+    "|z",
+    "a",
+    "a|",
+    "a|b",
+    "a|z",
+    "ab",
+    "abcdefghijklmnopqr|a",
+    "é",
+];
+
+// Whether the key is compared with that of the place as wanted.
+fn compares(alloc: Global, key: &[Text], other: &str, want: Ordering) -> Result<bool, Fail> {
+    let other = texts(alloc, other)?;
+    Ok(compare_keys(key, other.as_slice()) == want)
+}
+
+fn is_in_order(alloc: Global, place: usize, key: &str) -> Result<bool, Fail> {
+    let key = texts(alloc, key)?;
+    for (at, other) in IN_ORDER.iter().enumerate() {
+        if !compares(alloc, key.as_slice(), other, place.cmp(&at))? {
+            return Ok(false);
+        }
+    }
+    Ok(true)
+}
+
 #[test]
 fn orders_keys(rt: HostRuntime) -> Result<(), Fail> {
-    let alloc = rt.alloc();
-    // In order: a key comes before one that goes on behind it, and the first texts decide before the second ones.
-    let keys = [
-        "",
-        "|z",
-        "a",
-        "a|",
-        "a|b",
-        "a|z",
-        "ab",
-        "abcdefghijklmnopqr|a",
-        "é",
-    ];
-    for (i, a) in keys.iter().enumerate() {
-        for (j, b) in keys.iter().enumerate() {
-            let left = texts(alloc, a)?;
-            let right = texts(alloc, b)?;
-            let order = compare_keys(left.as_slice(), right.as_slice());
-            assert!(rt; order == i.cmp(&j), "{i} {j}");
-        }
+    for (place, key) in IN_ORDER.iter().enumerate() {
+        assert!(rt; is_in_order(rt.alloc(), place, key)?, "{key}");
     }
     Ok(())
 }
 
-#[test]
-fn starts_empty(rt: HostRuntime) -> Result<(), Fail> {
-    let alloc = rt.alloc();
+// Whether a table without pairs stays so where pairs are taken out.
+fn stays_empty(alloc: Global) -> Result<bool, Fail> {
     let mut table = IndexTable::new(alloc);
     let id = document(alloc, 1)?;
     table.remove(&id);
     table.drop_pairs(&id, Keys::new(alloc).as_slice());
     table.reserve(3)?;
-    assert_eq!(rt; table.length(), 0);
-    assert!(rt; entry(&table, 0).is_none());
-    assert_eq!(rt; seek(&table, texts(alloc, "a")?.as_slice()), 0);
+    Ok(is_empty(&table) && is_sought(alloc, &table, "a", 0)?)
+}
+
+fn is_empty(table: &IndexTable) -> bool {
+    table.length() == 0 && entry(table, 0).is_none()
+}
+
+#[test]
+fn starts_empty(rt: HostRuntime) -> Result<(), Fail> {
+    assert!(rt; stays_empty(rt.alloc())?);
     Ok(())
 }
 
@@ -239,6 +258,16 @@ fn spelled(alloc: Global, table: &IndexTable, place: u64) -> Result<String, Fail
     Ok(spelling)
 }
 
+// Compared in a function of its own, which keeps the proofs of its callers short.
+fn are_same_texts(text: &str, want: &str) -> bool {
+    text == want
+}
+
+fn is_spelled(alloc: Global, table: &IndexTable, place: u64, want: &str) -> Result<bool, Fail> {
+    let spelling = spelled(alloc, table, place)?;
+    Ok(are_same_texts(spelling.as_str(), want))
+}
+
 fn put_keys(alloc: Global, table: &mut IndexTable, number: u64, keys: &[&str]) -> Result<(), Fail> {
     let set = set_of(alloc, keys)?;
     put(table, &document(alloc, number)?, set, number == 1)?;
@@ -247,7 +276,7 @@ fn put_keys(alloc: Global, table: &mut IndexTable, number: u64, keys: &[&str]) -
 
 fn are_spelled(alloc: Global, table: &IndexTable, rows: &[&str]) -> Result<bool, Fail> {
     for (place, row) in rows.iter().enumerate() {
-        if spelled(alloc, table, place as u64)?.as_str() != *row {
+        if !is_spelled(alloc, table, place as u64, row)? {
             return Ok(false);
         }
     }
@@ -255,48 +284,80 @@ fn are_spelled(alloc: Global, table: &IndexTable, rows: &[&str]) -> Result<bool,
 }
 
 fn is_sought(alloc: Global, table: &IndexTable, key: &str, place: u64) -> Result<bool, Fail> {
-    Ok(seek(table, texts(alloc, key)?.as_slice()) == place)
+    let key = texts(alloc, key)?;
+    Ok(seek(table, key.as_slice()) == place)
 }
 
-// Three documents share keys, one key begins with another, and some share their first text.
-#[test]
-fn seeks_among_equal_keys(rt: HostRuntime) -> Result<(), Fail> {
-    let alloc = rt.alloc();
+// Whether each key is sought at its place.
+fn are_sought(alloc: Global, table: &IndexTable, places: &[(&str, u64)]) -> Result<bool, Fail> {
+    for (key, place) in places {
+        if !is_sought(alloc, table, key, *place)? {
+            return Ok(false);
+        }
+    }
+    Ok(true)
+}
+
+// Three documents that share keys; one key begins with another, and some share their first text.
+fn sharing(alloc: Global) -> Result<IndexTable, Fail> {
     let mut table = IndexTable::new(alloc);
     put_keys(alloc, &mut table, 3, &["ab", "a", "a|z", "a|"])?;
     put_keys(alloc, &mut table, 1, &["a|z", "ab", "a|", "a"])?;
     put_keys(alloc, &mut table, 2, &["a", "a|", "a|z", "a"])?;
-    let rows = [
-        "a|w01", "a|w02", "a|w03", "a||w01", "a||w02", "a||w03", "a|z|w01", "a|z|w02", "a|z|w03",
-        "ab|w01", "ab|w03", "",
-    ];
-    assert!(rt; are_spelled(alloc, &table, &rows)?);
-    let places = [
-        ("", 0),
-        ("a", 0),
-        ("a|", 3),
-        ("a|a", 6),
-        ("a|z", 6),
-        ("ab", 9),
-        ("b", 11),
-    ];
-    for (key, place) in places {
-        assert!(rt; is_sought(alloc, &table, key, place)?, "{key}");
-    }
+    Ok(table)
+}
+
+const SHARED: &[&str] = &[
+    "a|w01", "a|w02", "a|w03", "a||w01", "a||w02", "a||w03", "a|z|w01", "a|z|w02", "a|z|w03",
+    "ab|w01", "ab|w03", "",
+];
+
+const SHARED_PLACES: &[(&str, u64)] = &[
+    ("", 0),
+    ("a", 0),
+    ("a|", 3),
+    ("a|a", 6),
+    ("a|z", 6),
+    ("ab", 9),
+    ("b", 11),
+];
+
+fn seeks_shared(alloc: Global) -> Result<bool, Fail> {
+    let table = sharing(alloc)?;
+    Ok(are_spelled(alloc, &table, SHARED)? && are_sought(alloc, &table, SHARED_PLACES)?)
+}
+
+#[test]
+fn seeks_among_equal_keys(rt: HostRuntime) -> Result<(), Fail> {
+    assert!(rt; seeks_shared(rt.alloc())?);
     Ok(())
 }
 
 // Puts a document in the place of an earlier one: a row is its id, a blank, and its keys with a semicolon between.
 fn put_row(alloc: Global, table: &mut IndexTable, row: &str) -> Result<(), Fail> {
     let (id, keys) = row.split_once(' ').ok_or("no blank")?;
+    let set = set_between(alloc, keys)?;
+    put(table, &DocId::read(alloc, id)?, set, false)?;
+    Ok(())
+}
+
+fn set_between(alloc: Global, keys: &str) -> Result<KeySet, Fail> {
     let mut set = KeySet::new(alloc);
     for key in keys.split(';') {
         if let Some(key) = key_of(texts(alloc, key)?) {
             set.insert(key)?;
         }
     }
-    put(table, &DocId::read(alloc, id)?, set, false)?;
-    Ok(())
+    Ok(set)
+}
+
+// A table of these rows.
+fn table_of(alloc: Global, rows: &str) -> Result<IndexTable, Fail> {
+    let mut table = IndexTable::new(alloc);
+    for row in rows.lines() {
+        put_row(alloc, &mut table, row)?;
+    }
+    Ok(table)
 }
 
 // An address book by the small letters of the names and the words of the tags. One document has no tag.
@@ -314,53 +375,67 @@ c11 hal ann|work
 c12 ida foy|club
 ";
 
+const BOOK_PAIRS: &[&str] = &[
+    "ann diaz|club|c05",
+    "ann diaz|friend|c05",
+    "ann lee|friend|c01",
+    "ann lee|work|c01",
+    "anna roy|work|c02",
+    "annika holm|club|c08",
+    "annika holm|family|c08",
+    "bob kay|friend|c03",
+    "carl poe|club|c04",
+    "dora ek|family|c06",
+    "evan ito|work|c07",
+    "gus ash|friend|c10",
+    "hal ann|work|c11",
+    "ida foy|club|c12",
+    "",
+];
+
+fn is_book(alloc: Global, table: &IndexTable) -> Result<bool, Fail> {
+    let is_spelled = are_spelled(alloc, table, BOOK_PAIRS)?;
+    let is_sought = are_sought(alloc, table, &[("ann", 0), ("ano", 7)])?;
+    Ok(table.length() == 14 && is_spelled && is_sought)
+}
+
+// One document gets another name, and one is taken out.
+fn change_book(alloc: Global, table: &mut IndexTable) -> Result<(), Fail> {
+    put_row(alloc, table, "c02 nina roy|work")?;
+    table.remove(&DocId::read(alloc, "c12")?);
+    Ok(())
+}
+
+fn is_changed_book(alloc: Global, table: &IndexTable) -> Result<bool, Fail> {
+    let is_sought = is_sought(alloc, table, "ano", 6)?;
+    let is_spelled = is_spelled(alloc, table, 12, "nina roy|work|c02")?;
+    Ok(table.length() == 13 && is_sought && is_spelled)
+}
+
+fn keeps_book(alloc: Global) -> Result<bool, Fail> {
+    let mut table = table_of(alloc, BOOK)?;
+    let is_book = is_book(alloc, &table)?;
+    change_book(alloc, &mut table)?;
+    Ok(is_changed_book(alloc, &table)? && is_book)
+}
+
 #[test]
 fn keeps_an_address_book(rt: HostRuntime) -> Result<(), Fail> {
-    let alloc = rt.alloc();
-    let mut table = IndexTable::new(alloc);
-    for row in BOOK.lines() {
-        put_row(alloc, &mut table, row)?;
-    }
-    let rows = [
-        "ann diaz|club|c05",
-        "ann diaz|friend|c05",
-        "ann lee|friend|c01",
-        "ann lee|work|c01",
-        "anna roy|work|c02",
-        "annika holm|club|c08",
-        "annika holm|family|c08",
-        "bob kay|friend|c03",
-        "carl poe|club|c04",
-        "dora ek|family|c06",
-        "evan ito|work|c07",
-        "gus ash|friend|c10",
-        "hal ann|work|c11",
-        "ida foy|club|c12",
-        "",
-    ];
-    assert_eq!(rt; table.length(), 14);
-    assert!(rt; are_spelled(alloc, &table, &rows)?);
-    assert!(rt; is_sought(alloc, &table, "ann", 0)?);
-    assert!(rt; is_sought(alloc, &table, "ano", 7)?);
-    put_row(alloc, &mut table, "c02 nina roy|work")?;
-    table.remove(&DocId::read(alloc, "c12")?);
-    assert_eq!(rt; table.length(), 13);
-    assert!(rt; is_sought(alloc, &table, "ano", 6)?);
-    assert_eq!(rt; spelled(alloc, &table, 12)?.as_str(), "nina roy|work|c02");
+    assert!(rt; keeps_book(rt.alloc())?);
     Ok(())
+}
+
+const ENDS: &[(&str, u64)] = &[("a", 0), ("b", 0), ("b|", 2), ("c", 2), ("d", 2), ("e", 3)];
+
+fn seeks_ends(alloc: Global) -> Result<bool, Fail> {
+    let table = table_of(alloc, "d3 d\nd2 b\nd1 b")?;
+    let is_spelled = are_spelled(alloc, &table, &["b|d1", "b|d2", "d|d3", ""])?;
+    Ok(are_sought(alloc, &table, ENDS)? && is_spelled)
 }
 
 #[test]
 fn seeks_the_ends_of_ranges(rt: HostRuntime) -> Result<(), Fail> {
-    let alloc = rt.alloc();
-    let mut table = IndexTable::new(alloc);
-    for row in ["d3 d", "d2 b", "d1 b"] {
-        put_row(alloc, &mut table, row)?;
-    }
-    assert!(rt; are_spelled(alloc, &table, &["b|d1", "b|d2", "d|d3", ""])?);
-    for (key, place) in [("a", 0), ("b", 0), ("b|", 2), ("c", 2), ("d", 2), ("e", 3)] {
-        assert!(rt; is_sought(alloc, &table, key, place)?, "{key}");
-    }
+    assert!(rt; seeks_ends(rt.alloc())?);
     Ok(())
 }
 
@@ -435,22 +510,23 @@ fn change(
     Ok(true)
 }
 
-#[test]
-fn is_as_a_plain_list(rt: HostRuntime) -> Result<(), Fail> {
-    let alloc = rt.alloc();
+fn is_as_plain(alloc: Global) -> Result<bool, Fail> {
     let mut random = Random {
         state: 0x9e37_79b9_7f4a_7c15,
     };
     let mut table = IndexTable::new(alloc);
     let mut plain: Vec<u64> = Vec::new(alloc);
     for round in 0..2000 {
-        assert!(rt;
-            change(alloc, &mut random, &mut table, &mut plain, round)?,
-            "{round}"
-        );
+        if !change(alloc, &mut random, &mut table, &mut plain, round)? {
+            return Ok(false);
+        }
     }
-    assert!(rt; table.length() > 700);
-    assert!(rt; is_same(&table, plain.as_slice(), alloc)?);
+    Ok(table.length() > 700 && is_same(&table, plain.as_slice(), alloc)?)
+}
+
+#[test]
+fn is_as_a_plain_list(rt: HostRuntime) -> Result<(), Fail> {
+    assert!(rt; is_as_plain(rt.alloc())?);
     Ok(())
 }
 
@@ -497,77 +573,136 @@ fn most_keys(alloc: Global) -> Result<KeySet, Fail> {
     Ok(set)
 }
 
-#[test]
-fn takes_a_document_of_4096_keys(rt: HostRuntime) -> Result<(), Fail> {
-    let alloc = rt.alloc();
+// Puts a document of so many keys.
+fn put_large(alloc: Global, table: &mut IndexTable, id: &DocId) -> Result<(), Fail> {
+    let set = most_keys(alloc)?;
+    put(table, id, set, true)?;
+    Ok(())
+}
+
+fn drop_large(alloc: Global, table: &mut IndexTable, id: &DocId) -> Result<(), Fail> {
+    let set = most_keys(alloc)?;
+    table.drop_pairs(id, set.keys.as_slice());
+    Ok(())
+}
+
+// Whether the table has so many pairs, of which the first is this.
+fn begins_with(alloc: Global, table: &IndexTable, length: u64, first: &str) -> Result<bool, Fail> {
+    let is_first = is_spelled(alloc, table, 0, first)?;
+    Ok(is_first && table.length() == length && walks(table))
+}
+
+fn takes_large(alloc: Global, table: &mut IndexTable) -> Result<bool, Fail> {
+    let before = table.length();
+    let first = spelled(alloc, table, 0)?;
+    let id = DocId::read(alloc, "large")?;
+    put_large(alloc, table, &id)?;
+    let large = before.saturating_add(4096);
+    let is_there = begins_with(alloc, table, large, "word0000|large")?
+        && is_sought(alloc, table, "word0000", 0)?;
+    drop_large(alloc, table, &id)?;
+    Ok(begins_with(alloc, table, before, first.as_str())? && is_there)
+}
+
+fn takes_large_among_others(alloc: Global) -> Result<bool, Fail> {
     let mut table = IndexTable::new(alloc);
     grow(alloc, &mut table, 2000)?;
-    let before = table.length();
-    assert!(rt; before > 7900);
-    let first = spelled(alloc, &table, 0)?;
-    let id = DocId::read(alloc, "large")?;
-    put(&mut table, &id, most_keys(alloc)?, true)?;
-    assert_eq!(rt; table.length(), before.saturating_add(4096));
-    assert!(rt; walks(&table));
-    assert!(rt; is_sought(alloc, &table, "word0000", 0)?);
-    assert_eq!(rt; spelled(alloc, &table, 0)?.as_str(), "word0000|large");
-    table.drop_pairs(&id, most_keys(alloc)?.keys.as_slice());
-    assert_eq!(rt; table.length(), before);
-    assert_eq!(rt; spelled(alloc, &table, 0)?.as_str(), first.as_str());
-    assert!(rt; walks(&table));
+    Ok(table.length() > 7900 && takes_large(alloc, &mut table)?)
+}
+
+#[test]
+fn takes_a_document_of_4096_keys(rt: HostRuntime) -> Result<(), Fail> {
+    assert!(rt; takes_large_among_others(rt.alloc())?);
     Ok(())
 }
 
 // Whether two tables have the same pairs.
 fn are_same(alloc: Global, table: &IndexTable, other: &IndexTable) -> Result<bool, Fail> {
     for place in 0..table.length() {
-        if spelled(alloc, table, place)? != spelled(alloc, other, place)? {
+        let spelling = spelled(alloc, other, place)?;
+        if !is_spelled(alloc, table, place, spelling.as_str())? {
             return Ok(false);
         }
     }
     Ok(table.length() == other.length())
 }
 
-#[test]
-fn grows_again_from_nothing(rt: HostRuntime) -> Result<(), Fail> {
-    let alloc = rt.alloc();
-    let mut wanted = IndexTable::new(alloc);
-    grow(alloc, &mut wanted, 300)?;
-    let mut table = IndexTable::new(alloc);
-    for round in 0..3u64 {
-        grow(alloc, &mut table, 300)?;
-        assert!(rt; are_same(alloc, &table, &wanted)?);
-        for step in 0..300u64 {
-            let number = if round == 1 {
-                300u64.saturating_sub(step)
-            } else {
-                step * 7 % 300 + 1
-            };
-            let id = numbered_document(alloc, number)?;
-            table.drop_pairs(&id, four_keys(alloc, number)?.keys.as_slice());
-        }
-        assert_eq!(rt; table.length(), 0);
-        assert!(rt; entry(&table, 0).is_none());
+fn drop_four(alloc: Global, table: &mut IndexTable, number: u64) -> Result<(), Fail> {
+    let id = numbered_document(alloc, number)?;
+    let set = four_keys(alloc, number)?;
+    table.drop_pairs(&id, set.keys.as_slice());
+    Ok(())
+}
+
+// Takes 300 documents out, from the last one on in the second round, else in leaps.
+fn take_all(alloc: Global, table: &mut IndexTable, round: u64) -> Result<(), Fail> {
+    for step in 0..300u64 {
+        let number = if round == 1 {
+            300u64.saturating_sub(step)
+        } else {
+            step * 7 % 300 + 1
+        };
+        drop_four(alloc, table, number)?;
     }
     Ok(())
 }
 
-// A call that finds no memory leaves the pairs as they were, and the same call can be made again.
+fn is_grown_again(
+    alloc: Global,
+    table: &mut IndexTable,
+    wanted: &IndexTable,
+    round: u64,
+) -> Result<bool, Fail> {
+    grow(alloc, table, 300)?;
+    let is_grown = are_same(alloc, table, wanted)?;
+    take_all(alloc, table, round)?;
+    Ok(is_grown && is_empty(table))
+}
+
+fn grows_again(alloc: Global) -> Result<bool, Fail> {
+    let mut wanted = IndexTable::new(alloc);
+    grow(alloc, &mut wanted, 300)?;
+    let mut table = IndexTable::new(alloc);
+    for round in 0..3 {
+        if !is_grown_again(alloc, &mut table, &wanted, round)? {
+            return Ok(false);
+        }
+    }
+    Ok(true)
+}
+
 #[test]
-fn stands_where_memory_runs_out(rt: HostRuntime) -> Result<(), Fail> {
-    let alloc = rt.alloc();
+fn grows_again_from_nothing(rt: HostRuntime) -> Result<(), Fail> {
+    assert!(rt; grows_again(rt.alloc())?);
+    Ok(())
+}
+
+// Puts a document. A call that finds no memory leaves the pairs as they were, and the same call can
+// be made again.
+fn puts_or_stands(alloc: Global, table: &mut IndexTable, number: u64) -> Result<bool, Fail> {
+    let id = numbered_document(alloc, number)?;
+    let before = table.length();
+    let set = four_keys(alloc, number)?;
+    if put(table, &id, set, number % 2 == 0).is_ok() {
+        return Ok(table.length() == before.saturating_add(4));
+    }
+    let stands = table.length() == before && walks(table);
+    put(table, &id, four_keys(alloc, number)?, true)?;
+    Ok(stands && table.length() == before.saturating_add(4))
+}
+
+fn stands(alloc: Global) -> Result<bool, Fail> {
     let mut table = IndexTable::new(alloc);
     for number in 0..150u64 {
-        let id = numbered_document(alloc, number)?;
-        let before = table.length();
-        let set = four_keys(alloc, number)?;
-        if put(&mut table, &id, set, number % 2 == 0).is_err() {
-            assert_eq!(rt; table.length(), before);
-            assert!(rt; walks(&table));
-            put(&mut table, &id, four_keys(alloc, number)?, true)?;
+        if !puts_or_stands(alloc, &mut table, number)? {
+            return Ok(false);
         }
-        assert_eq!(rt; table.length(), before.saturating_add(4));
     }
-    assert!(rt; walks(&table));
+    Ok(walks(&table))
+}
+
+#[test]
+fn stands_where_memory_runs_out(rt: HostRuntime) -> Result<(), Fail> {
+    assert!(rt; stands(rt.alloc())?);
     Ok(())
 }

@@ -5,10 +5,8 @@ use crate::{
 };
 use disk_model::{Choice, MemDisk};
 use std::alloc::Global;
-use std::process::Abort;
-use std::test::Fail;
 use u1_base::limits::{GREATEST_IMAGE_LIMIT, LEAST_IMAGE_LIMIT};
-use u1_base::{Bytes, DbName, Memory, Numbers, ReplicaUid};
+use u1_base::{Bytes, DbName, IdFault, Memory, Numbers, ReplicaUid};
 
 // The empty image of the database `db` at the replica `a`, with the greatest limit.
 const EMPTY: &[u8] = b"U1DBVOL\x02\0\x02db\0\x01a\0\0\x01\0\0\0\0\0\0";
@@ -42,7 +40,13 @@ fn disk_of(alloc: Global, text: &[u8], failing: &[u64]) -> Result<MemDisk, Memor
     Ok(MemDisk::new(alloc, bytes(alloc, text)?, numbers))
 }
 
-fn header(alloc: Global, limit: u64) -> Result<Header, Fail> {
+// These functions borrow, and answer `false` where memory runs out: that keeps the proofs of the
+// tests short.
+fn are(bytes: &[u8], want: &[u8]) -> bool {
+    bytes == want
+}
+
+fn header(alloc: Global, limit: u64) -> Result<Header, IdFault> {
     let name = DbName::read(alloc, "db")?;
     let uid = ReplicaUid::read(alloc, "a")?;
     let limit = limit.max(LEAST_IMAGE_LIMIT).min(GREATEST_IMAGE_LIMIT);
@@ -50,7 +54,7 @@ fn header(alloc: Global, limit: u64) -> Result<Header, Fail> {
 }
 
 // The image of the worked row: one body behind an open gate.
-fn worked(alloc: Global, empty: &[u8]) -> Result<Vec<u8>, Fail> {
+fn worked(alloc: Global, empty: &[u8]) -> Result<Vec<u8>, Memory> {
     let mut image = empty.to_vec(alloc)?;
     image.pop();
     image.extend_from_slice(&[1, 0, 0, 0, 81])?;
@@ -98,72 +102,159 @@ fn opened(alloc: Global, image: &[u8]) -> Result<Result<Opened, OpenFault>, Memo
 fn is_none_or_one(bodies: &Bodies) -> bool {
     match bodies.as_slice() {
         [] => true,
-        [body] => body.as_slice() == BODY,
+        [body] => are(body.as_slice(), BODY),
         _ => false,
     }
 }
 
+// Whether the empty image is written on the disk, in three calls.
+fn writes_empty(alloc: Global, disk: &mut MemDisk) -> bool {
+    match header(alloc, GREATEST_IMAGE_LIMIT) {
+        Ok(head) => begins_empty(&write_image(alloc, disk, &head, &Bodies::new(alloc)), disk),
+        Err(_) => false,
+    }
+}
+
+fn begins_empty(journal: &Result<Journal, ImageFault>, disk: &MemDisk) -> bool {
+    has_length(journal, 24) && disk.calls() == 3 && are(disk.bytes(), EMPTY)
+}
+
+fn has_length<E>(journal: &Result<Journal, E>, length: u64) -> bool {
+    match journal {
+        Ok(journal) => journal.length() == length,
+        Err(_) => false,
+    }
+}
+
+fn is_written(alloc: Global) -> bool {
+    match disk_of(alloc, b"what was here", &[]) {
+        Ok(mut disk) => writes_empty(alloc, &mut disk),
+        Err(_) => false,
+    }
+}
+
 #[test]
-fn writes_the_empty_image(rt: HostRuntime) -> Result<(), Fail> {
-    let alloc = rt.alloc();
-    let head = header(alloc, GREATEST_IMAGE_LIMIT)?;
-    let mut disk = disk_of(alloc, b"what was here", &[])?;
-    let journal = write_image(alloc, &mut disk, &head, &Bodies::new(alloc));
-    assert_eq!(rt; journal.ok().map(|j| j.length()), Some(24));
-    assert_eq!(rt; disk.bytes(), EMPTY);
-    assert_eq!(rt; disk.calls(), 3);
-    Ok(())
+fn writes_the_empty_image(rt: HostRuntime) {
+    assert!(rt; is_written(rt.alloc()));
+}
+
+// Whether the worked body is added to the image on the disk.
+fn adds_worked(alloc: Global, disk: &mut MemDisk) -> bool {
+    match add(alloc, disk, BODY) {
+        Ok(journal) => has_length(&journal, 110) && disk.bytes().len() == 110,
+        Err(_) => false,
+    }
+}
+
+fn is_worked(alloc: Global, bytes: &[u8]) -> bool {
+    match worked(alloc, EMPTY) {
+        Ok(image) => are(bytes, &image),
+        Err(_) => false,
+    }
+}
+
+fn is_added(alloc: Global) -> bool {
+    match disk_of(alloc, EMPTY, &[]) {
+        Ok(mut disk) => {
+            adds_worked(alloc, &mut disk) && disk.calls() == 7 && is_worked(alloc, disk.bytes())
+        }
+        Err(_) => false,
+    }
 }
 
 // Opening is three calls here: a sync, a look and a read. Adding is four.
 #[test]
-fn adds_the_worked_body(rt: HostRuntime) -> Result<(), Fail> {
-    let alloc = rt.alloc();
-    let mut disk = disk_of(alloc, EMPTY, &[])?;
-    let journal = add(alloc, &mut disk, BODY)?.ok();
-    assert_eq!(rt; journal.map(|j| j.length()), Some(110));
-    assert_eq!(rt; disk.calls(), 7);
-    assert_eq!(rt; disk.bytes(), worked(alloc, EMPTY)?.as_slice());
-    assert_eq!(rt; disk.bytes().len(), 110);
-    Ok(())
+fn adds_the_worked_body(rt: HostRuntime) {
+    assert!(rt; is_added(rt.alloc()));
 }
 
-#[test]
-fn a_new_image_is_written_on_more_than_one_disk(rt: HostRuntime) -> Result<(), Fail> {
-    let alloc = rt.alloc();
-    let image = NewImage::of(alloc, &header(alloc, GREATEST_IMAGE_LIMIT)?, &[])?;
-    assert_eq!(rt; image.as_slice(), EMPTY);
-    for old in [&b""[..], b"what was here, and longer than an image"] {
-        let mut disk = disk_of(alloc, old, &[])?;
-        let journal = image.write(&mut disk).ok();
-        assert_eq!(rt; journal.map(|j| j.length()), Some(24));
-        assert_eq!(rt; disk.bytes(), EMPTY);
+// Whether the image is written over these bytes.
+fn is_written_over(alloc: Global, image: &NewImage, old: &[u8]) -> bool {
+    match disk_of(alloc, old, &[]) {
+        Ok(mut disk) => has_length(&image.write(&mut disk), 24) && are(disk.bytes(), EMPTY),
+        Err(_) => false,
     }
-    Ok(())
 }
 
-#[test]
-fn opens_both_formats(rt: HostRuntime) -> Result<(), Fail> {
-    let alloc = rt.alloc();
-    for (empty, format) in [(EMPTY_1, 1), (EMPTY, 2)] {
-        let found = opened(alloc, &worked(alloc, empty)?)??;
-        assert_eq!(rt; found.format, format);
-        assert_eq!(rt; found.bodies.len(), 1);
-        assert!(rt; is_none_or_one(&found.bodies));
-        assert_eq!(rt; opened(alloc, empty)??.bodies.len(), 0);
+fn empty_image(alloc: Global) -> Result<NewImage, Memory> {
+    match header(alloc, GREATEST_IMAGE_LIMIT) {
+        Ok(head) => NewImage::of(alloc, &head, &[]),
+        Err(_) => Err(Memory),
     }
-    Ok(())
+}
+
+fn is_written_twice(alloc: Global) -> bool {
+    match empty_image(alloc) {
+        Ok(image) => {
+            are(image.as_slice(), EMPTY)
+                && is_written_over(alloc, &image, b"")
+                && is_written_over(alloc, &image, b"what was here, and longer than an image")
+        }
+        Err(_) => false,
+    }
 }
 
 #[test]
-fn opens_the_header(rt: HostRuntime) -> Result<(), Fail> {
-    let alloc = rt.alloc();
-    let found = opened(alloc, &worked(alloc, EMPTY)?)??;
-    assert_eq!(rt; found.header.name.as_str(), "db");
-    assert_eq!(rt; found.header.uid.as_str(), "a");
-    assert_eq!(rt; found.header.limit, GREATEST_IMAGE_LIMIT);
-    assert_eq!(rt; found.journal.length(), 110);
-    Ok(())
+fn a_new_image_is_written_on_more_than_one_disk(rt: HostRuntime) {
+    assert!(rt; is_written_twice(rt.alloc()));
+}
+
+// What is found in an image, where it is opened.
+fn found(alloc: Global, image: &[u8]) -> Option<Opened> {
+    match opened(alloc, image) {
+        Ok(Ok(found)) => Some(found),
+        _ => None,
+    }
+}
+
+fn is_opened(alloc: Global, empty: &[u8], format: u8) -> bool {
+    match worked(alloc, empty) {
+        Ok(image) => has_one(alloc, &image, format) && has_no_body(alloc, empty, 24),
+        Err(_) => false,
+    }
+}
+
+fn has_one(alloc: Global, image: &[u8], format: u8) -> bool {
+    match found(alloc, image) {
+        Some(found) => {
+            found.format == format && found.bodies.len() == 1 && is_none_or_one(&found.bodies)
+        }
+        None => false,
+    }
+}
+
+fn has_no_body(alloc: Global, image: &[u8], length: u64) -> bool {
+    match found(alloc, image) {
+        Some(found) => found.bodies.len() == 0 && found.journal.length() == length,
+        None => false,
+    }
+}
+
+#[test]
+fn opens_both_formats(rt: HostRuntime) {
+    assert!(rt; is_opened(rt.alloc(), EMPTY_1, 1));
+    assert!(rt; is_opened(rt.alloc(), EMPTY, 2));
+}
+
+fn is_header(header: &Header) -> bool {
+    are(header.name.as_str().as_bytes(), b"db")
+        && are(header.uid.as_str().as_bytes(), b"a")
+        && header.limit == GREATEST_IMAGE_LIMIT
+}
+
+fn has_header(alloc: Global) -> bool {
+    match worked(alloc, EMPTY) {
+        Ok(image) => match found(alloc, &image) {
+            Some(found) => is_header(&found.header) && found.journal.length() == 110,
+            None => false,
+        },
+        Err(_) => false,
+    }
+}
+
+#[test]
+fn opens_the_header(rt: HostRuntime) {
+    assert!(rt; has_header(rt.alloc()));
 }
 
 // Where the image is cut to this length, this place is damaged.
@@ -179,23 +270,44 @@ fn damaged_by_cut(length: usize) -> u64 {
     }
 }
 
-#[test]
-fn finds_what_is_cut(rt: HostRuntime) -> Result<(), Fail> {
-    let alloc = rt.alloc();
-    let image = worked(alloc, EMPTY)?;
-    for length in 0..image.len() {
-        let found = opened(alloc, &image[..length])?.err();
-        assert_eq!(rt;
-            found,
-            Some(OpenFault::Damaged(damaged_by_cut(length))),
-            "{length}"
-        );
+// Whether the image is damaged at this place.
+fn is_damaged_at(alloc: Global, image: &[u8], place: u64) -> bool {
+    match opened(alloc, image) {
+        Ok(Err(OpenFault::Damaged(found))) => found == place,
+        _ => false,
     }
-    Ok(())
+}
+
+fn is_damaged_by_cut(alloc: Global, image: &[u8], length: usize) -> bool {
+    match image.get(..length) {
+        Some(front) => is_damaged_at(alloc, front, damaged_by_cut(length)),
+        None => false,
+    }
+}
+
+fn cuts_are_found(alloc: Global, image: &[u8]) -> bool {
+    for length in 0..image.len() {
+        if !is_damaged_by_cut(alloc, image, length) {
+            return false;
+        }
+    }
+    image.len() == 110
+}
+
+fn worked_cuts_are_found(alloc: Global) -> bool {
+    match worked(alloc, EMPTY) {
+        Ok(image) => cuts_are_found(alloc, &image),
+        Err(_) => false,
+    }
+}
+
+#[test]
+fn finds_what_is_cut(rt: HostRuntime) {
+    assert!(rt; worked_cuts_are_found(rt.alloc()));
 }
 
 // The worked image with these bytes at these places.
-fn changed(alloc: Global, changes: &[(usize, u8)]) -> Result<Vec<u8>, Fail> {
+fn changed(alloc: Global, changes: &[(usize, u8)]) -> Result<Vec<u8>, Memory> {
     let mut image = worked(alloc, EMPTY)?;
     for (at, byte) in changes {
         if let Some(slot) = image.get_mut(*at) {
@@ -205,92 +317,173 @@ fn changed(alloc: Global, changes: &[(usize, u8)]) -> Result<Vec<u8>, Fail> {
     Ok(image)
 }
 
-// Where these bytes are changed, this place is damaged, if any.
-const CHANGED: [(&[(usize, u8)], Option<u64>); 13] = [
-    (&[(0, 0)], Some(0)),
-    (&[(7, 0)], Some(0)),
-    (&[(7, 3)], Some(0)),
-    (&[(9, 0)], Some(8)),
-    (&[(8, 255)], Some(8)),
-    (&[(10, 47)], Some(8)),
-    (&[(10, 255)], Some(8)),
-    (&[(14, 46)], Some(12)),
-    (&[(16, 0), (17, 0), (22, 1)], Some(15)),
-    (&[(22, 1)], Some(15)),
-    (&[(24, 255), (25, 255), (26, 255), (27, 255)], Some(24)),
-    (&[(27, 0)], Some(24)),
-    (&[(109, 1)], Some(110)),
+// Where these bytes are changed, this place is damaged.
+const CHANGED: [(&[(usize, u8)], u64); 13] = [
+    (&[(0, 0)], 0),
+    (&[(7, 0)], 0),
+    (&[(7, 3)], 0),
+    (&[(9, 0)], 8),
+    (&[(8, 255)], 8),
+    (&[(10, 47)], 8),
+    (&[(10, 255)], 8),
+    (&[(14, 46)], 12),
+    (&[(16, 0), (17, 0), (22, 1)], 15),
+    (&[(22, 1)], 15),
+    (&[(24, 255), (25, 255), (26, 255), (27, 255)], 24),
+    (&[(27, 0)], 24),
+    (&[(109, 1)], 110),
 ];
 
-#[test]
-fn finds_what_is_changed(rt: HostRuntime) -> Result<(), Fail> {
-    let alloc = rt.alloc();
-    for (changes, place) in CHANGED {
-        let image = changed(alloc, changes)?;
-        let found = opened(alloc, &image)?.err();
-        assert_eq!(rt; found, place.map(OpenFault::Damaged), "{changes:?}");
+fn is_change_found(alloc: Global, changes: &[(usize, u8)], place: u64) -> bool {
+    match changed(alloc, changes) {
+        Ok(image) => is_damaged_at(alloc, &image, place),
+        Err(_) => false,
     }
-    Ok(())
 }
 
 #[test]
-fn reads_no_body_behind_a_closed_gate(rt: HostRuntime) -> Result<(), Fail> {
-    let alloc = rt.alloc();
-    for gate in [0u8, 2, 255] {
-        let found = opened(alloc, &changed(alloc, &[(23, gate)])?)??;
-        assert_eq!(rt; found.bodies.len(), 0);
-        assert_eq!(rt; found.journal.length(), 24);
+fn finds_what_is_changed(rt: HostRuntime) {
+    for (changes, place) in CHANGED {
+        assert!(rt; is_change_found(rt.alloc(), changes, place), "{changes:?}");
     }
-    Ok(())
+}
+
+fn is_closed_by(alloc: Global, gate: u8) -> bool {
+    match changed(alloc, &[(23, gate)]) {
+        Ok(image) => has_no_body(alloc, &image, 24),
+        Err(_) => false,
+    }
+}
+
+#[test]
+fn reads_no_body_behind_a_closed_gate(rt: HostRuntime) {
+    for gate in [0u8, 2, 255] {
+        assert!(rt; is_closed_by(rt.alloc(), gate), "{gate}");
+    }
 }
 
 // A disk with the empty image that may have 4,096 bytes.
-fn small(alloc: Global) -> Result<MemDisk, Fail> {
+fn small(alloc: Global) -> Result<MemDisk, Memory> {
     let mut disk = disk_of(alloc, b"", &[])?;
-    let head = header(alloc, 4096)?;
+    let Ok(head) = header(alloc, 4096) else {
+        return Err(Memory);
+    };
     match write_image(alloc, &mut disk, &head, &Bodies::new(alloc)) {
         Ok(_) => Ok(disk),
-        Err(_) => Err(Fail::from(Memory)),
+        Err(_) => Err(Memory),
     }
 }
 
-#[test]
-fn is_full_above_its_limit(rt: HostRuntime) -> Result<(), Fail> {
-    let alloc = rt.alloc();
-    let mut disk = small(alloc)?;
+// A body of so many bytes.
+fn sevens(alloc: Global, size: usize) -> Result<Vec<u8>, Memory> {
+    Ok(vec![in alloc; 7u8; size]?)
+}
+
+// Whether the image would be too long with a body of so many bytes, in three calls.
+fn is_full(alloc: Global, disk: &mut MemDisk, size: usize) -> bool {
     let before = disk.calls();
-    let body = vec![in alloc; 7u8; 4068]?;
-    let fault = add(alloc, &mut disk, &body)?.err();
+    match sevens(alloc, size) {
+        Ok(body) => is_too_much(add(alloc, disk, &body))
+            && disk.calls() == before.saturating_add(3),
+        Err(_) => false,
+    }
+}
+
+fn is_too_much(added: Result<Result<Journal, AppendFault>, OpenFault>) -> bool {
     let full = AppendFault::Full {
         need: 4097,
         limit: 4096,
     };
-    assert_eq!(rt; fault, Some(full));
-    assert_eq!(rt; disk.calls().saturating_sub(before), 3);
-    Ok(())
+    match added {
+        Ok(Err(fault)) => fault == full,
+        _ => false,
+    }
+}
+
+fn is_full_above(alloc: Global) -> bool {
+    match small(alloc) {
+        Ok(mut disk) => is_full(alloc, &mut disk, 4068),
+        Err(_) => false,
+    }
 }
 
 #[test]
-fn is_not_full_at_its_limit(rt: HostRuntime) -> Result<(), Fail> {
-    let alloc = rt.alloc();
-    let mut disk = small(alloc)?;
-    let body = vec![in alloc; 7u8; 4067]?;
-    let journal = add(alloc, &mut disk, &body)?.ok();
-    assert_eq!(rt; journal.map(|j| j.length()), Some(4096));
-    assert_eq!(rt; disk.bytes().len(), 4096);
-    Ok(())
+fn is_full_above_its_limit(rt: HostRuntime) {
+    assert!(rt; is_full_above(rt.alloc()));
 }
 
-// Whatever a stop at any of the calls leaves is opened with the body or without it.
-fn check_append(rt: &impl Abort, alloc: Global, disk: &MemDisk) -> Result<(), Fail> {
-    for call in 0..disk.calls() {
-        for choice in CHOICES {
-            let image = disk.crash_image(alloc, call, choice)?;
-            let found = opened(alloc, image.as_slice())??;
-            assert!(rt; is_none_or_one(&found.bodies), "{call} {choice:?}");
+// Whether a body of so many bytes is added, and the image is as long as it may be then.
+fn fills(alloc: Global, disk: &mut MemDisk, size: usize) -> bool {
+    match sevens(alloc, size) {
+        Ok(body) => is_at_its_limit(&add(alloc, disk, &body)) && disk.bytes().len() == 4096,
+        Err(_) => false,
+    }
+}
+
+fn is_at_its_limit(added: &Result<Result<Journal, AppendFault>, OpenFault>) -> bool {
+    match added {
+        Ok(journal) => has_length(journal, 4096),
+        Err(_) => false,
+    }
+}
+
+fn is_filled(alloc: Global) -> bool {
+    match small(alloc) {
+        Ok(mut disk) => fills(alloc, &mut disk, 4067),
+        Err(_) => false,
+    }
+}
+
+#[test]
+fn is_not_full_at_its_limit(rt: HostRuntime) {
+    assert!(rt; is_filled(rt.alloc()));
+}
+
+// Whether the image is opened with the worked body or without any.
+fn is_there_or_not(alloc: Global, image: &[u8]) -> bool {
+    match found(alloc, image) {
+        Some(found) => is_none_or_one(&found.bodies),
+        None => false,
+    }
+}
+
+// Whether this holds of what a stop during the call leaves by each choice: where bytes are given,
+// it is these, or the empty image, or damaged from the first byte on; else it is opened with the
+// body or without it.
+fn each_choice_is_good(alloc: Global, disk: &MemDisk, call: u64, old: Option<&[u8]>) -> bool {
+    for choice in CHOICES {
+        if !is_good(alloc, disk, call, choice, old) {
+            return false;
         }
     }
-    Ok(())
+    true
+}
+
+fn is_good(alloc: Global, disk: &MemDisk, call: u64, choice: Choice, old: Option<&[u8]>) -> bool {
+    if call >= disk.calls() {
+        return false;
+    }
+    match disk.crash_image(alloc, call, choice) {
+        Ok(image) => match old {
+            Some(old) => is_old_or_blank(alloc, image.as_slice(), old),
+            None => is_there_or_not(alloc, image.as_slice()),
+        },
+        Err(_) => false,
+    }
+}
+
+fn is_old_or_blank(alloc: Global, image: &[u8], old: &[u8]) -> bool {
+    are(image, old) || are(image, EMPTY) || is_damaged_at(alloc, image, 0)
+}
+
+// The same of a stop at each of the calls.
+fn each_stop_is_good(alloc: Global, disk: &MemDisk, old: Option<&[u8]>) -> bool {
+    for call in 0..disk.calls() {
+        if !each_choice_is_good(alloc, disk, call, old) {
+            return false;
+        }
+    }
+    true
 }
 
 // What opening and adding answer where the call of this number fails.
@@ -302,87 +495,117 @@ fn added_where_fails(number: u64) -> Result<Option<AppendFault>, OpenFault> {
     }
 }
 
+fn is_added_or_not(alloc: Global, failing: u64) -> bool {
+    match disk_of(alloc, EMPTY, &[failing]) {
+        Ok(mut disk) => {
+            adds_as_told(alloc, &mut disk, failing)
+                && each_stop_is_good(alloc, &disk, None)
+                && is_there_or_not(alloc, disk.bytes())
+        }
+        Err(_) => false,
+    }
+}
+
+fn adds_as_told(alloc: Global, disk: &mut MemDisk, failing: u64) -> bool {
+    add(alloc, disk, BODY).map(|done| done.err()) == added_where_fails(failing)
+}
+
 #[test]
-fn an_append_is_there_or_not(rt: HostRuntime) -> Result<(), Fail> {
-    let alloc = rt.alloc();
+fn an_append_is_there_or_not(rt: HostRuntime) {
     for failing in 0..9u64 {
-        let mut disk = disk_of(alloc, EMPTY, &[failing])?;
-        let done = add(alloc, &mut disk, BODY).map(|done| done.err());
-        assert_eq!(rt; done, added_where_fails(failing), "{failing}");
-        check_append(&rt, alloc, &disk)?;
-        let again = opened(alloc, disk.bytes())??;
-        assert!(rt; is_none_or_one(&again.bodies));
-    }
-    Ok(())
-}
-
-// The bytes are damaged from the first one on.
-fn is_damaged(alloc: Global, bytes: &[u8]) -> Result<bool, Memory> {
-    match opened(alloc, bytes)? {
-        Err(OpenFault::Damaged(place)) => Ok(place == 0),
-        _ => Ok(false),
+        assert!(rt; is_added_or_not(rt.alloc(), failing), "{failing}");
     }
 }
 
-// Whatever a stop at any of the calls leaves is the old file, does not read, or is the empty image.
-fn check_restart(rt: &impl Abort, alloc: Global, disk: &MemDisk, old: &[u8]) -> Result<(), Fail> {
-    for call in 0..disk.calls() {
-        for choice in CHOICES {
-            let left = disk.crash_image(alloc, call, choice)?;
-            let image = left.as_slice();
-            let is_one = image == old || image == EMPTY;
-            assert!(rt; is_one || is_damaged(alloc, image)?, "{call} {choice:?}");
+// Whether a stop leaves the old file, what does not read, or the empty image; and the image is
+// begun anew unless the call of this number is one of those that are made.
+fn begins(alloc: Global, old: &[u8], failing: u64, head: &Header) -> bool {
+    let is_wanted = failing >= calls_of_begin(alloc, old, head);
+    match disk_of(alloc, old, &[failing]) {
+        Ok(mut disk) => {
+            let done = begin(alloc, &mut disk, head);
+            is_begun_as_wanted(&done, &disk, is_wanted)
+                && each_stop_is_good(alloc, &disk, Some(old))
         }
+        Err(_) => false,
     }
-    Ok(())
 }
 
-// Whether the image was begun anew where the call of this number fails.
-fn check_begin(rt: &impl Abort, alloc: Global, old: &[u8], failing: u64) -> Result<bool, Fail> {
-    let head = header(alloc, GREATEST_IMAGE_LIMIT)?;
-    let mut disk = disk_of(alloc, old, &[failing])?;
-    let done = begin(alloc, &mut disk, &head);
-    check_restart(rt, alloc, &disk, old)?;
-    let Ok(Ok(journal)) = done else {
-        return Ok(false);
-    };
-    assert_eq!(rt; disk.bytes(), EMPTY);
-    assert_eq!(rt; journal.length(), 24);
-    Ok(true)
-}
-
-// Opening and beginning anew make at most thirteen calls here.
-#[test]
-fn begins_anew(rt: HostRuntime) -> Result<(), Fail> {
-    let alloc = rt.alloc();
-    let image = worked(alloc, EMPTY)?;
-    let olds: [&[u8]; 5] = [&image, b"", b"U", b"hello, this is no image", EMPTY_1];
-    for old in olds {
-        for failing in 0..14u64 {
-            let done = check_begin(&rt, alloc, old, failing)?;
-            assert!(rt; done == (failing >= calls_of_begin(alloc, old)?));
-        }
+fn is_begun_as_wanted(
+    done: &Result<Result<Journal, ImageFault>, OpenFault>,
+    disk: &MemDisk,
+    is_wanted: bool,
+) -> bool {
+    match done {
+        Ok(Ok(journal)) => is_wanted && journal.length() == 24 && are(disk.bytes(), EMPTY),
+        _ => !is_wanted,
     }
-    Ok(())
 }
 
 // How many calls they make.
-fn calls_of_begin(alloc: Global, old: &[u8]) -> Result<u64, Fail> {
-    let mut disk = disk_of(alloc, old, &[])?;
-    let _ = begin(alloc, &mut disk, &header(alloc, GREATEST_IMAGE_LIMIT)?);
-    Ok(disk.calls())
+fn calls_of_begin(alloc: Global, old: &[u8], head: &Header) -> u64 {
+    match disk_of(alloc, old, &[]) {
+        Ok(mut disk) => {
+            let _ = begin(alloc, &mut disk, head);
+            disk.calls()
+        }
+        Err(_) => 0,
+    }
+}
+
+// Opening and beginning anew make at most thirteen calls here.
+fn begins_whatever_fails(alloc: Global, old: &[u8]) -> bool {
+    match header(alloc, GREATEST_IMAGE_LIMIT) {
+        Ok(head) => begins_where_each_fails(alloc, old, &head),
+        Err(_) => false,
+    }
+}
+
+fn begins_where_each_fails(alloc: Global, old: &[u8], head: &Header) -> bool {
+    for failing in 0..14u64 {
+        if !begins(alloc, old, failing, head) {
+            return false;
+        }
+    }
+    true
+}
+
+fn begins_over_the_worked(alloc: Global) -> bool {
+    match worked(alloc, EMPTY) {
+        Ok(image) => begins_whatever_fails(alloc, &image),
+        Err(_) => false,
+    }
 }
 
 #[test]
-fn a_failed_call_is_told(rt: HostRuntime) -> Result<(), Fail> {
-    let alloc = rt.alloc();
-    let head = header(alloc, GREATEST_IMAGE_LIMIT)?;
-    for failing in 0..4u64 {
-        let mut disk = disk_of(alloc, b"old", &[failing])?;
-        let done = write_image(alloc, &mut disk, &head, &Bodies::new(alloc)).err();
-        let want = (failing < 3).then_some(ImageFault::Disk);
-        assert_eq!(rt; done, want, "{failing}");
-        assert_eq!(rt; disk.calls(), failing.min(2) + 1);
+fn begins_anew(rt: HostRuntime) {
+    assert!(rt; begins_over_the_worked(rt.alloc()));
+    let olds: [&[u8]; 4] = [b"", b"U", b"hello, this is no image", EMPTY_1];
+    for old in olds {
+        assert!(rt; begins_whatever_fails(rt.alloc(), old), "{old:?}");
     }
-    Ok(())
+}
+
+// Whether the fault is told where one of the three calls fails, which is the last one then.
+fn is_fault_told(alloc: Global, disk: &mut MemDisk, head: &Header, failing: u64) -> bool {
+    let fault = write_image(alloc, disk, head, &Bodies::new(alloc)).err();
+    let want = (failing < 3).then_some(ImageFault::Disk);
+    fault == want && disk.calls() == failing.min(2).saturating_add(1)
+}
+
+fn is_told(alloc: Global, failing: u64) -> bool {
+    match header(alloc, GREATEST_IMAGE_LIMIT) {
+        Ok(head) => match disk_of(alloc, b"old", &[failing]) {
+            Ok(mut disk) => is_fault_told(alloc, &mut disk, &head, failing),
+            Err(_) => false,
+        },
+        Err(_) => false,
+    }
+}
+
+#[test]
+fn a_failed_call_is_told(rt: HostRuntime) {
+    for failing in 0..4u64 {
+        assert!(rt; is_told(rt.alloc(), failing), "{failing}");
+    }
 }

@@ -3,7 +3,7 @@ use crate::{
     Conn, InputFault, MemConn, MemSink, MemSource, ReadFailed, Sink, Source, StdSink, StdSource,
     WriteFailed, read_at_most,
 };
-use std::alloc::Global;
+use std::alloc::{AllocError, Global};
 use std::fs::File;
 use std::io::BufWriter;
 use std::test::Fail;
@@ -27,31 +27,65 @@ fn source_of(alloc: Global, bytes: &[u8], failing: &[u64]) -> Result<MemSource, 
     Ok(MemSource::new(bytes_of(alloc, bytes)?, numbers_of(alloc, failing)?))
 }
 
-#[test]
-fn a_failed_read_loses_nothing(rt: HostRuntime) -> Result<(), Fail> {
-    let alloc = rt.alloc();
-    let mut source = source_of(alloc, b"hello", &[1])?;
+// Compared in a function of its own, which keeps the proofs of its callers short.
+fn are(bytes: &[u8], want: &[u8]) -> bool {
+    bytes == want
+}
+
+// Whether a read of three bytes fails or fills the piece's front so.
+fn reads(source: &mut MemSource, piece: &mut [u8; 3], read: Result<usize, ReadFailed>) -> bool {
+    source.read(piece) == read
+}
+
+fn loses_nothing(source: &mut MemSource) -> bool {
     let mut piece = [0; 3];
-    assert_eq!(rt; source.read(&mut piece), Ok(3));
-    assert_eq!(rt; piece.as_slice(), b"hel".as_slice());
-    assert_eq!(rt; source.read(&mut piece), Err(ReadFailed));
-    assert_eq!(rt; source.read(&mut piece), Ok(2));
-    assert_eq!(rt; piece.as_slice(), b"lol".as_slice());
-    assert_eq!(rt; source.read(&mut piece), Ok(0));
-    Ok(())
+    reads(source, &mut piece, Ok(3))
+        && are(&piece, b"hel")
+        && reads(source, &mut piece, Err(ReadFailed))
+        && reads(source, &mut piece, Ok(2))
+        && are(&piece, b"lol")
+        && reads(source, &mut piece, Ok(0))
+}
+
+fn failed_read_loses_nothing(alloc: Global) -> bool {
+    match source_of(alloc, b"hello", &[1]) {
+        Ok(mut source) => loses_nothing(&mut source),
+        Err(_) => false,
+    }
 }
 
 #[test]
-fn a_failed_put_takes_a_front(rt: HostRuntime) -> Result<(), Fail> {
-    let alloc = rt.alloc();
-    let mut sink = MemSink::new(alloc, numbers_of(alloc, &[1, 3])?);
-    assert_eq!(rt; sink.put(b"ab"), Ok(()));
-    assert_eq!(rt; sink.put(b"cdef"), Err(WriteFailed));
-    assert_eq!(rt; sink.put(b"g"), Ok(()));
-    assert_eq!(rt; sink.flush(), Err(WriteFailed));
-    assert_eq!(rt; sink.flush(), Ok(()));
-    assert_eq!(rt; sink.bytes(), b"abcdg".as_slice());
-    Ok(())
+fn a_failed_read_loses_nothing(rt: HostRuntime) {
+    assert!(rt; failed_read_loses_nothing(rt.alloc()));
+}
+
+fn puts<S: Sink>(sink: &mut S, bytes: &[u8], put: Result<(), WriteFailed>) -> bool {
+    sink.put(bytes) == put
+}
+
+fn flushes<S: Sink>(sink: &mut S, flushed: Result<(), WriteFailed>) -> bool {
+    sink.flush() == flushed
+}
+
+fn takes_a_front(sink: &mut MemSink) -> bool {
+    puts(sink, b"ab", Ok(()))
+        && puts(sink, b"cdef", Err(WriteFailed))
+        && puts(sink, b"g", Ok(()))
+        && flushes(sink, Err(WriteFailed))
+        && flushes(sink, Ok(()))
+        && are(sink.bytes(), b"abcdg")
+}
+
+fn failed_put_takes_a_front(alloc: Global) -> bool {
+    match numbers_of(alloc, &[1, 3]) {
+        Ok(failing) => takes_a_front(&mut MemSink::new(alloc, failing)),
+        Err(_) => false,
+    }
+}
+
+#[test]
+fn a_failed_put_takes_a_front(rt: HostRuntime) {
+    assert!(rt; failed_put_takes_a_front(rt.alloc()));
 }
 
 // Reads and writes through the one object, as a server does.
@@ -63,83 +97,139 @@ fn echo<C: Conn>(conn: &mut C) -> bool {
     }
 }
 
-#[test]
-fn a_connection_has_two_sides(rt: HostRuntime) -> Result<(), Fail> {
-    let alloc = rt.alloc();
-    let sink = MemSink::new(alloc, Numbers::new(alloc));
-    let mut conn = MemConn::new(source_of(alloc, b"ping", &[])?, sink);
-    assert!(rt; echo(&mut conn));
-    assert_eq!(rt; conn.flush(), Ok(()));
-    assert_eq!(rt; conn.sink().bytes(), b"ping".as_slice());
-    Ok(())
+fn echoes(conn: &mut MemConn) -> bool {
+    echo(conn) && conn.flush() == Ok(()) && are(conn.sink().bytes(), b"ping")
 }
 
-#[test]
-fn reads_to_the_end_or_the_limit(rt: HostRuntime) -> Result<(), Fail> {
-    let alloc = rt.alloc();
-    for (most, want) in [(0, 0), (1, 1), (4, 4), (5, 5), (6, 5), (9000, 5)] {
-        let mut source = source_of(alloc, b"hello", &[])?;
-        let bytes = read_at_most(alloc, &mut source, most)?;
-        assert_eq!(rt; bytes.as_slice(), &b"hello"[..want], "at most {most}");
+fn has_two_sides(alloc: Global) -> bool {
+    match source_of(alloc, b"ping", &[]) {
+        Ok(source) => {
+            let sink = MemSink::new(alloc, Numbers::new(alloc));
+            echoes(&mut MemConn::new(source, sink))
+        }
+        Err(_) => false,
     }
-    Ok(())
 }
 
 #[test]
-fn what_was_read_is_gone_and_no_more(rt: HostRuntime) -> Result<(), Fail> {
-    let alloc = rt.alloc();
-    let mut source = source_of(alloc, b"hello", &[1])?;
-    let first = read_at_most(alloc, &mut source, 3)?;
-    assert_eq!(rt; first.as_slice(), b"hel".as_slice());
-    assert!(rt;
-        read_at_most(alloc, &mut source, 9).is_err_and(|fault| fault == InputFault::Source)
-    );
-    let rest = read_at_most(alloc, &mut source, 9)?;
-    assert_eq!(rt; rest.as_slice(), b"lo".as_slice());
-    Ok(())
+fn a_connection_has_two_sides(rt: HostRuntime) {
+    assert!(rt; has_two_sides(rt.alloc()));
 }
 
-#[test]
-fn faults_say_what_happened(rt: HostRuntime) -> Result<(), Fail> {
-    let alloc = rt.alloc();
-    for (fault, text) in [
-        (InputFault::Source, "a read of the input failed"),
-        (InputFault::Memory, "out of memory"),
-    ] {
-        assert_eq!(rt; format!(in alloc; "{fault}")?.as_str(), text);
+// Whether at most so many bytes are read, which are these.
+fn reads_at_most<S: Source>(alloc: Global, source: &mut S, most: usize, want: &[u8]) -> bool {
+    match read_at_most(alloc, source, most) {
+        Ok(bytes) => are(bytes.as_slice(), want),
+        Err(_) => false,
     }
-    assert_eq!(rt;
-        format!(in alloc; "{}", ReadFailed)?.as_str(),
-        "a read failed"
-    );
-    assert_eq!(rt;
-        format!(in alloc; "{}", WriteFailed)?.as_str(),
-        "a write failed"
-    );
-    Ok(())
+}
+
+fn is_read_up_to(alloc: Global, most: usize, want: &[u8]) -> bool {
+    match source_of(alloc, b"hello", &[]) {
+        Ok(mut source) => reads_at_most(alloc, &mut source, most, want),
+        Err(_) => false,
+    }
+}
+
+const UP_TO: &[(usize, &[u8])] = &[
+    (0, b""),
+    (1, b"h"),
+    (4, b"hell"),
+    (5, b"hello"),
+    (6, b"hello"),
+    (9000, b"hello"),
+];
+
+#[test]
+fn reads_to_the_end_or_the_limit(rt: HostRuntime) {
+    for (most, want) in UP_TO {
+        assert!(rt; is_read_up_to(rt.alloc(), *most, want), "at most {most}");
+    }
+}
+
+fn fails_to_read(alloc: Global, source: &mut MemSource) -> bool {
+    match read_at_most(alloc, source, 9) {
+        Ok(_) => false,
+        Err(fault) => fault == InputFault::Source,
+    }
+}
+
+fn is_gone_and_no_more(alloc: Global) -> bool {
+    match source_of(alloc, b"hello", &[1]) {
+        Ok(mut source) => {
+            reads_at_most(alloc, &mut source, 3, b"hel")
+                && fails_to_read(alloc, &mut source)
+                && reads_at_most(alloc, &mut source, 9, b"lo")
+        }
+        Err(_) => false,
+    }
 }
 
 #[test]
-fn adapts_readers_and_writers(rt: HostRuntime) -> Result<(), Fail> {
+fn what_was_read_is_gone_and_no_more(rt: HostRuntime) {
+    assert!(rt; is_gone_and_no_more(rt.alloc()));
+}
+
+fn is_printed(text: Result<String, AllocError>, want: &str) -> bool {
+    match text {
+        Ok(text) => are(text.as_bytes(), want.as_bytes()),
+        Err(_) => false,
+    }
+}
+
+fn input_fault_says(alloc: Global, fault: InputFault, want: &str) -> bool {
+    is_printed(format!(in alloc; "{fault}"), want)
+}
+
+fn failures_say(alloc: Global) -> bool {
+    is_printed(format!(in alloc; "{}", ReadFailed), "a read failed")
+        && is_printed(format!(in alloc; "{}", WriteFailed), "a write failed")
+}
+
+#[test]
+fn faults_say_what_happened(rt: HostRuntime) {
+    let alloc = rt.alloc();
+    assert!(rt; input_fault_says(alloc, InputFault::Source, "a read of the input failed"));
+    assert!(rt; input_fault_says(alloc, InputFault::Memory, "out of memory"));
+    assert!(rt; failures_say(alloc));
+}
+
+fn puts_to_a_file<S: Sink>(sink: &mut S) -> bool {
+    puts(sink, b"to a ", Ok(())) && puts(sink, b"file", Ok(())) && flushes(sink, Ok(()))
+}
+
+#[test]
+fn writes_and_reads_a_file(rt: HostRuntime) -> Result<(), Fail> {
     let alloc = rt.alloc();
     {
         let file = File::create(&rt, "streams")?;
         let mut sink = StdSink::new(BufWriter::new(alloc, file)?);
-        assert_eq!(rt; sink.put(b"to a "), Ok(()));
-        assert_eq!(rt; sink.put(b"file"), Ok(()));
-        assert_eq!(rt; sink.flush(), Ok(()));
+        assert!(rt; puts_to_a_file(&mut sink));
     }
     let mut source = StdSource::new(File::open(&rt, "streams")?);
-    let bytes = read_at_most(alloc, &mut source, 100)?;
-    assert_eq!(rt; bytes.as_slice(), b"to a file".as_slice());
+    assert!(rt; reads_at_most(alloc, &mut source, 100, b"to a file"));
     assert!(rt; source.fault().is_none());
-    let mut closed = StdSink::new(File::open(&rt, "streams")?);
-    assert_eq!(rt; closed.put(b"x"), Err(WriteFailed));
+    Ok(())
+}
+
+// What a buffer holds back fails only when it is flushed.
+#[test]
+fn fails_to_write_to_what_is_open_to_read(rt: HostRuntime) -> Result<(), Fail> {
+    let file = File::create(&rt, "closed")?;
+    drop(file);
+    let mut closed = StdSink::new(File::open(&rt, "closed")?);
+    assert!(rt; puts(&mut closed, b"x", Err(WriteFailed)));
     assert!(rt; closed.fault().is_some());
-    // What a buffer holds back fails only when it is flushed.
-    let file = File::open(&rt, "streams")?;
-    let mut held_back = StdSink::new(BufWriter::new(alloc, file)?);
-    assert_eq!(rt; held_back.put(b"x"), Ok(()));
-    assert_eq!(rt; held_back.flush(), Err(WriteFailed));
+    Ok(())
+}
+
+#[test]
+fn fails_when_it_is_flushed(rt: HostRuntime) -> Result<(), Fail> {
+    let file = File::create(&rt, "held_back")?;
+    drop(file);
+    let file = File::open(&rt, "held_back")?;
+    let mut held_back = StdSink::new(BufWriter::new(rt.alloc(), file)?);
+    assert!(rt; puts(&mut held_back, b"x", Ok(())));
+    assert!(rt; flushes(&mut held_back, Err(WriteFailed)));
     Ok(())
 }

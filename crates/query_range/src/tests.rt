@@ -39,7 +39,8 @@ fn table_of(alloc: Global, rows: &[(&str, &str)]) -> Result<IndexTable, Fail> {
     let mut table = IndexTable::new(alloc);
     for (id, words) in rows {
         if let Some(key) = key(alloc, words)? {
-            put(alloc, &mut table, &DocId::read(alloc, id)?, key)?;
+            let id = DocId::read(alloc, id)?;
+            put(alloc, &mut table, &id, key)?;
         }
     }
     Ok(table)
@@ -168,24 +169,32 @@ fn are_refused(alloc: Global, values: &str, width: u64, fault: PatternFault) -> 
     })
 }
 
+// Values with their width, and the place of the part that may not stand there.
+const GLOBS: &[(&str, u64, u64)] = &[
+    ("*|x", 2, 1),
+    ("a*|b", 2, 1),
+    ("*|a*", 2, 1),
+    ("**|", 2, 1),
+    ("*|*|x", 3, 2),
+    ("x|a*|*|b*|y", 5, 3),
+];
+
+const WRONG_WIDTHS: &[(&str, u64)] = &[("x", 2), ("x", 0), ("*|x", 1), ("*|x", 3)];
+
 #[test]
 fn refuses_values(rt: HostRuntime) -> Result<(), Fail> {
-    let alloc = rt.alloc();
-    let globs = [
-        ("*|x", 2, 1),
-        ("a*|b", 2, 1),
-        ("*|a*", 2, 1),
-        ("**|", 2, 1),
-        ("*|*|x", 3, 2),
-        ("x|a*|*|b*|y", 5, 3),
-    ];
-    for (values, width, place) in globs {
-        let fault = PatternFault::BadGlob(place);
-        assert!(rt; are_refused(alloc, values, width, fault)?, "{values}");
+    for (values, width, place) in GLOBS {
+        let fault = PatternFault::BadGlob(*place);
+        assert!(rt; are_refused(rt.alloc(), values, *width, fault)?, "{values}");
     }
-    for (values, width) in [("x", 2), ("x", 0), ("*|x", 1), ("*|x", 3)] {
+    Ok(())
+}
+
+#[test]
+fn refuses_other_numbers_of_values(rt: HostRuntime) -> Result<(), Fail> {
+    for (values, width) in WRONG_WIDTHS {
         let fault = PatternFault::WrongWidth;
-        assert!(rt; are_refused(alloc, values, width, fault)?, "{values}");
+        assert!(rt; are_refused(rt.alloc(), values, *width, fault)?, "{values}");
     }
     Ok(())
 }
@@ -202,93 +211,164 @@ fn named(alloc: Global, part: &Part) -> Result<String, Fail> {
     Ok(name)
 }
 
+// Compared in a function of its own, which keeps the proofs of its callers short.
+fn are_same(text: &str, want: &str) -> bool {
+    text == want
+}
+
+fn is_named(alloc: Global, part: &Part, want: &str) -> Result<bool, Fail> {
+    let name = named(alloc, part)?;
+    Ok(are_same(name.as_str(), want))
+}
+
+// Whether the first part that is read of the value is spelled out so.
+fn is_read_as(alloc: Global, value: &str, want: &str) -> Result<bool, Fail> {
+    let read = pattern(alloc, value)?;
+    match read.parts().first() {
+        Some(part) => is_named(alloc, part, want),
+        None => Ok(false),
+    }
+}
+
+const READ: &[(&str, &str)] = &[
+    ("", "exactly "),
+    ("a", "exactly a"),
+    ("a*b", "exactly a*b"),
+    ("*a", "exactly *a"),
+    ("a*", "from a"),
+    ("a**", "from a*"),
+    ("**", "from *"),
+    ("é*", "from é"),
+    ("*", "any"),
+];
+
 #[test]
 fn reads_values(rt: HostRuntime) -> Result<(), Fail> {
-    let alloc = rt.alloc();
-    let rows = [
-        ("", "exactly "),
-        ("a", "exactly a"),
-        ("a*b", "exactly a*b"),
-        ("*a", "exactly *a"),
-        ("a*", "from a"),
-        ("a**", "from a*"),
-        ("**", "from *"),
-        ("é*", "from é"),
-        ("*", "any"),
-    ];
-    for (value, wanted) in rows {
-        let read = pattern(alloc, value)?;
-        let part = read.parts().first().ok_or("no part")?;
-        assert_eq!(rt; named(alloc, part)?.as_str(), wanted);
+    for (value, wanted) in READ {
+        assert!(rt; is_read_as(rt.alloc(), value, wanted)?, "{value}");
     }
     Ok(())
 }
+
+fn meets(alloc: Global, values: &str, words: &str) -> Result<bool, Fail> {
+    let pattern = pattern(alloc, values)?;
+    let key = key(alloc, words)?.ok_or("no key")?;
+    Ok(pattern.meets(&key))
+}
+
+const MEETS: &[(&str, &str, bool)] = &[
+    ("a", "a", true),
+    ("a", "ab", false),
+    ("a*", "a", true),
+    ("a*", "ab", true),
+    ("a*", "ba", false),
+    ("a*", "", false),
+    ("*", "", true),
+    ("a|b*", "a|bc", true),
+    ("a|b*", "b|bc", false),
+    ("a|*", "a", false),
+    ("a", "a|b", false),
+    ("a*|*", "ab|x", true),
+];
 
 #[test]
 fn meets_keys(rt: HostRuntime) -> Result<(), Fail> {
-    let alloc = rt.alloc();
-    let rows = [
-        ("a", "a", true),
-        ("a", "ab", false),
-        ("a*", "a", true),
-        ("a*", "ab", true),
-        ("a*", "ba", false),
-        ("a*", "", false),
-        ("*", "", true),
-        ("a|b*", "a|bc", true),
-        ("a|b*", "b|bc", false),
-        ("a|*", "a", false),
-        ("a", "a|b", false),
-        ("a*|*", "ab|x", true),
-    ];
-    for (values, words, wanted) in rows {
-        let pattern = pattern(alloc, values)?;
-        let key = key(alloc, words)?.ok_or("no key")?;
-        assert!(rt; pattern.meets(&key) == wanted, "{values} {words}");
+    for (values, words, wanted) in MEETS {
+        assert!(rt;
+            meets(rt.alloc(), values, words)? == *wanted,
+            "{values} {words}"
+        );
     }
     Ok(())
 }
 
+// Whether a query finds just this.
+fn finds(alloc: Global, table: &IndexTable, values: &str, want: &str) -> Result<bool, Fail> {
+    let found = query(alloc, table, values)?;
+    Ok(are_same(found.as_str(), want))
+}
+
+// The first query of the table that finds something else.
+fn first_wrong<'a>(
+    alloc: Global,
+    table: &IndexTable,
+    rows: &[(&'a str, &str)],
+) -> Result<Option<&'a str>, Fail> {
+    for (values, want) in rows {
+        if !finds(alloc, table, values, want)? {
+            return Ok(Some(*values));
+        }
+    }
+    Ok(None)
+}
+
+fn first_wrong_of<'a>(
+    alloc: Global,
+    pairs: &[(&str, &str)],
+    rows: &[(&'a str, &str)],
+) -> Result<Option<&'a str>, Fail> {
+    let table = table_of(alloc, pairs)?;
+    first_wrong(alloc, &table, rows)
+}
+
+const STARS: &[(&str, &str)] = &[("d1", "a*b"), ("d2", "axb")];
+
+const STAR_QUERIES: &[(&str, &str)] = &[
+    ("a*b", "d1 "),
+    ("a**", "d1 "),
+    ("a*", "d1 d2 "),
+    ("b*", ""),
+    ("*", "d1 d2 "),
+    ("*|*", "wrong width"),
+];
+
 #[test]
 fn finds_stars_in_values(rt: HostRuntime) -> Result<(), Fail> {
-    let alloc = rt.alloc();
-    let table = table_of(alloc, &[("d1", "a*b"), ("d2", "axb")])?;
-    let rows = [
-        ("a*b", "d1 "),
-        ("a**", "d1 "),
-        ("a*", "d1 d2 "),
-        ("b*", ""),
-        ("*", "d1 d2 "),
-        ("*|*", "wrong width"),
-    ];
-    for (values, wanted) in rows {
-        assert_eq!(rt; query(alloc, &table, values)?.as_str(), wanted);
-    }
+    assert_eq!(rt; first_wrong_of(rt.alloc(), STARS, STAR_QUERIES)?, None);
     Ok(())
+}
+
+// Whether a range has just these.
+fn has_range(
+    alloc: Global,
+    table: &IndexTable,
+    start: Option<&str>,
+    end: Option<&str>,
+    want: &str,
+) -> Result<bool, Fail> {
+    let found = range(alloc, table, start, end)?;
+    Ok(are_same(found.as_str(), want))
+}
+
+const RANGES: &[(Option<&str>, Option<&str>, &str)] = &[
+    (Some("c"), Some("a"), ""),
+    (Some("b"), Some("b"), "d1 d2 "),
+    (Some("c"), None, "d3 "),
+    (None, None, "d1 d2 d3 "),
+    (None, Some("b"), "d1 d2 "),
+    (None, Some("a"), ""),
+    (Some("a"), Some("d"), "d1 d2 d3 "),
+    (Some("e"), None, ""),
+];
+
+fn has_ranges(alloc: Global) -> Result<bool, Fail> {
+    let table = table_of(alloc, &[("d1", "b"), ("d2", "b"), ("d3", "d")])?;
+    for (start, end, want) in RANGES {
+        if !has_range(alloc, &table, *start, *end, want)? {
+            return Ok(false);
+        }
+    }
+    Ok(true)
 }
 
 #[test]
 fn finds_ranges(rt: HostRuntime) -> Result<(), Fail> {
-    let alloc = rt.alloc();
-    let table = table_of(alloc, &[("d1", "b"), ("d2", "b"), ("d3", "d")])?;
-    let rows = [
-        (Some("c"), Some("a"), ""),
-        (Some("b"), Some("b"), "d1 d2 "),
-        (Some("c"), None, "d3 "),
-        (None, None, "d1 d2 d3 "),
-        (None, Some("b"), "d1 d2 "),
-        (None, Some("a"), ""),
-        (Some("a"), Some("d"), "d1 d2 d3 "),
-        (Some("e"), None, ""),
-    ];
-    for (start, end, wanted) in rows {
-        assert_eq!(rt; range(alloc, &table, start, end)?.as_str(), wanted);
-    }
+    assert!(rt; has_ranges(rt.alloc())?);
     Ok(())
 }
 
 // Names in lower case, and each word of the tags.
-const BOOK: [(&str, &str); 14] = [
+const BOOK: &[(&str, &str)] = &[
     ("c01", "ann lee|friend"),
     ("c01", "ann lee|work"),
     ("c02", "anna roy|work"),
@@ -305,43 +385,60 @@ const BOOK: [(&str, &str); 14] = [
     ("c12", "ida foy|club"),
 ];
 
-#[test]
-fn finds_in_an_address_book(rt: HostRuntime) -> Result<(), Fail> {
-    let alloc = rt.alloc();
-    let table = table_of(alloc, &BOOK)?;
-    let rows = [
-        ("ann*|*", "c05 c01 c02 c08 "),
-        ("ann lee|f*", "c01 "),
-        ("ann lee|work", "c01 "),
-        ("ann|*", ""),
-    ];
-    for (values, wanted) in rows {
-        assert_eq!(rt; query(alloc, &table, values)?.as_str(), wanted);
-    }
-    let found = range(alloc, &table, Some("ann lee"), Some("bob"))?;
-    assert_eq!(rt; found.as_str(), "c01 c02 c08 ");
-    assert_eq!(rt; keys_in(alloc, &table)?.len(), 14);
-    Ok(())
+const BOOK_QUERIES: &[(&str, &str)] = &[
+    ("ann*|*", "c05 c01 c02 c08 "),
+    ("ann lee|f*", "c01 "),
+    ("ann lee|work", "c01 "),
+    ("ann|*", ""),
+];
+
+fn has_book_range(alloc: Global) -> Result<bool, Fail> {
+    let table = table_of(alloc, BOOK)?;
+    let is_range = has_range(alloc, &table, Some("ann lee"), Some("bob"), "c01 c02 c08 ")?;
+    let keys = keys_in(alloc, &table)?;
+    Ok(is_range && keys.len() == 14)
 }
 
 #[test]
-fn lists_distinct_keys(rt: HostRuntime) -> Result<(), Fail> {
-    let alloc = rt.alloc();
-    let rows = [
-        ("d1", "b"),
-        ("d2", "b"),
-        ("d3", "d"),
-        ("d2", "a|x"),
-        ("d3", "b"),
-    ];
-    let keys = keys_in(alloc, &table_of(alloc, &rows)?)?;
-    assert_eq!(rt; keys.len(), 3);
-    for (found, words) in keys.as_slice().iter().zip(["a|x", "b", "d"]) {
-        let texts = texts(alloc, words)?;
-        assert!(rt; compare_keys(found.texts(), texts.as_slice()).is_eq());
+fn finds_in_an_address_book(rt: HostRuntime) -> Result<(), Fail> {
+    assert_eq!(rt; first_wrong_of(rt.alloc(), BOOK, BOOK_QUERIES)?, None);
+    assert!(rt; has_book_range(rt.alloc())?);
+    Ok(())
+}
+
+fn is_key(alloc: Global, key: &Key, words: &str) -> Result<bool, Fail> {
+    let texts = texts(alloc, words)?;
+    Ok(compare_keys(key.texts(), texts.as_slice()).is_eq())
+}
+
+fn are_keys(alloc: Global, keys: &[Key], words: &[&str]) -> Result<bool, Fail> {
+    for (key, words) in keys.iter().zip(words) {
+        if !is_key(alloc, key, words)? {
+            return Ok(false);
+        }
     }
-    let none = keys_in(alloc, &IndexTable::new(alloc))?;
-    assert_eq!(rt; none.len(), 0);
+    Ok(keys.len() == words.len())
+}
+
+// Whether these are the keys of a table of the pairs, each once.
+fn lists(alloc: Global, pairs: &[(&str, &str)], words: &[&str]) -> Result<bool, Fail> {
+    let table = table_of(alloc, pairs)?;
+    let keys = keys_in(alloc, &table)?;
+    are_keys(alloc, keys.as_slice(), words)
+}
+
+const SHARED: &[(&str, &str)] = &[
+    ("d1", "b"),
+    ("d2", "b"),
+    ("d3", "d"),
+    ("d2", "a|x"),
+    ("d3", "b"),
+];
+
+#[test]
+fn lists_distinct_keys(rt: HostRuntime) -> Result<(), Fail> {
+    assert!(rt; lists(rt.alloc(), SHARED, &["a|x", "b", "d"])?);
+    assert!(rt; lists(rt.alloc(), &[], &[])?);
     Ok(())
 }
 
@@ -407,21 +504,33 @@ fn agrees(alloc: Global, random: &mut Random, table: &IndexTable) -> Result<bool
     if are_refused(alloc, values.as_str(), 2, PatternFault::BadGlob(1))? {
         return Ok(true);
     }
-    let wanted = filtered(alloc, table, &pattern(alloc, values.as_str())?)?;
-    Ok(query(alloc, table, values.as_str())? == wanted)
+    is_as_filtered(alloc, table, values.as_str())
+}
+
+fn is_as_filtered(alloc: Global, table: &IndexTable, values: &str) -> Result<bool, Fail> {
+    let pattern = pattern(alloc, values)?;
+    let wanted = filtered(alloc, table, &pattern)?;
+    finds(alloc, table, values, wanted.as_str())
+}
+
+// Whether ten queries of one more table find what a plain filter does.
+fn agree(alloc: Global, random: &mut Random) -> Result<bool, Fail> {
+    let table = random_table(alloc, random)?;
+    for _ in 0..10 {
+        if !agrees(alloc, random, &table)? {
+            return Ok(false);
+        }
+    }
+    Ok(true)
 }
 
 #[test]
 fn is_as_a_plain_filter(rt: HostRuntime) -> Result<(), Fail> {
-    let alloc = rt.alloc();
     let mut random = Random {
         state: 0x9e37_79b9_7f4a_7c15,
     };
     for round in 0..60 {
-        let table = random_table(alloc, &mut random)?;
-        for _ in 0..10 {
-            assert!(rt; agrees(alloc, &mut random, &table)?, "{round}");
-        }
+        assert!(rt; agree(rt.alloc(), &mut random)?, "{round}");
     }
     Ok(())
 }

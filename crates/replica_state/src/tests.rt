@@ -1,18 +1,18 @@
 //! States told as stories: what each step leaves, whether it fits or not; and steps for which memory runs out.
 //!
 //! A line of a story is a step and whether it fits. A story ends with what the state is then.
-ghost use Rattle.std.specs.Prelude.{◌≡◌, ◌<◌};
+ghost use Rattle.std.specs.Prelude.{◌≡◌, ◌<◌, IfOk};
+ghost use Rattle.replica_state.specs.Prepared.{IsReady};
 
-use crate::{Index, IndexExprs, Move, PosTable, State, Step};
-use conflicts::{Accept, DocSet, Making};
+use crate::{Index, IndexExprs, Move, PosTable, Prepared, State, Step};
+use conflicts::{Accept, DocSet, Making, Member};
 use content::Content;
 use expr_parser::{Expr, Exprs};
 use std::alloc::Global;
 use std::marker::Brand;
-use std::process::Abort;
 use std::sync::ledger::{Blank, Ledger};
 use std::test::Fail;
-use u1_base::{DbName, DocId, IndexName, Position, ReplicaUid, Steps, TransId};
+use u1_base::{DbName, DocId, IndexName, Key, Position, ReplicaUid, Steps, TransId};
 use vector_rev::{Clock, Clocks};
 
 // A document, an index over it, two edits; the second content has no text for the index.
@@ -145,76 +145,119 @@ m(lower(n)) b/d2 x y/d1
 
 #[test]
 fn edits(rt: HostRuntime) -> Result<(), Fail> {
-    story(&rt, rt.alloc(), EDITS, EDITED)
+    assert!(rt; is_story(rt.alloc(), EDITS, EDITED)?);
+    Ok(())
 }
 
 #[test]
 fn deletions(rt: HostRuntime) -> Result<(), Fail> {
-    story(&rt, rt.alloc(), DELETIONS, DELETED)
+    assert!(rt; is_story(rt.alloc(), DELETIONS, DELETED)?);
+    Ok(())
 }
 
 #[test]
 fn conflicts_in_an_index(rt: HostRuntime) -> Result<(), Fail> {
-    story(&rt, rt.alloc(), CONFLICTS, CONFLICTED)
+    assert!(rt; is_story(rt.alloc(), CONFLICTS, CONFLICTED)?);
+    Ok(())
 }
 
 #[test]
 fn older_revisions(rt: HostRuntime) -> Result<(), Fail> {
-    story(&rt, rt.alloc(), OLDER, OLDER_LEAVES)
+    assert!(rt; is_story(rt.alloc(), OLDER, OLDER_LEAVES)?);
+    Ok(())
 }
 
 #[test]
 fn unmarked_revisions(rt: HostRuntime) -> Result<(), Fail> {
-    story(&rt, rt.alloc(), UNMARKED, UNMARKED_LEAVES)
+    assert!(rt; is_story(rt.alloc(), UNMARKED, UNMARKED_LEAVES)?);
+    Ok(())
 }
 
 #[test]
 fn moves(rt: HostRuntime) -> Result<(), Fail> {
-    story(&rt, rt.alloc(), MOVES, MOVED)
+    assert!(rt; is_story(rt.alloc(), MOVES, MOVED)?);
+    Ok(())
 }
 
 #[test]
 fn indexes(rt: HostRuntime) -> Result<(), Fail> {
-    story(&rt, rt.alloc(), INDEXES, INDEXED)
-}
-
-fn story(rt: &impl Abort, alloc: Global, lines: &str, left: &str) -> Result<(), Fail> {
-    let mut state = State::new(
-        alloc,
-        DbName::read(alloc, "db")?,
-        ReplicaUid::read(alloc, "a")?,
-    );
-    for line in lines.lines() {
-        if let Some((words, answer)) = line.split_once(" => ") {
-            take(rt, alloc, &mut state, words, answer)?;
-        }
-    }
-    assert_eq!(rt; told(alloc, &state)?.as_str(), left);
+    assert!(rt; is_story(rt.alloc(), INDEXES, INDEXED)?);
     Ok(())
 }
 
-// Where memory runs out, `prepare` left the state as it was, and the step can be prepared again. `rt try --test --fail-alloc`
-// makes each call for memory fail in turn.
-fn take(
-    rt: &impl Abort,
+// Compared in a function of its own, which keeps the proofs of its callers short.
+fn are_same(text: &str, want: &str) -> bool {
+    text == want
+}
+
+fn is_told(alloc: Global, state: &State, want: &str) -> Result<bool, Fail> {
+    let words = told(alloc, state)?;
+    Ok(are_same(words.as_str(), want))
+}
+
+// Whether the state is told so after the lines.
+fn is_story(alloc: Global, lines: &str, left: &str) -> Result<bool, Fail> {
+    let state = after(alloc, lines)?;
+    is_told(alloc, &state, left)
+}
+
+// The state after the lines, each of which has to be as it is told.
+fn after(alloc: Global, lines: &str) -> Result<State, Fail> {
+    let mut state = new_state(alloc)?;
+    for line in lines.lines() {
+        if let Some((words, answer)) = line.split_once(" => ") {
+            take(alloc, &mut state, words, answer)?;
+        }
+    }
+    Ok(state)
+}
+
+fn new_state(alloc: Global) -> Result<State, Fail> {
+    let name = DbName::read(alloc, "db")?;
+    Ok(State::new(alloc, name, ReplicaUid::read(alloc, "a")?))
+}
+
+fn take(alloc: Global, state: &mut State, words: &str, answer: &str) -> Result<(), Fail> {
+    if fits(alloc, state, words)? != are_same(answer, "fits") {
+        return Err(Fail::new("fits, or does not fit"));
+    }
+    let before = told(alloc, state)?;
+    prepare_and_apply(alloc, state, words, before.as_str())
+}
+
+fn fits(alloc: Global, state: &State, words: &str) -> Result<bool, Fail> {
+    let step = step_of(alloc, words)?;
+    Ok(state.fits(&step))
+}
+
+fn prepare_and_apply(
     alloc: Global,
     state: &mut State,
     words: &str,
-    answer: &str,
+    before: &str,
 ) -> Result<(), Fail> {
-    let step = step_of(alloc, words)?;
-    assert_eq!(rt; state.fits(&step), answer == "fits", "{words:?}");
-    let before = told(alloc, state)?;
-    let prepared = match state.prepare(step) {
-        Ok(prepared) => prepared,
-        Err(_) => {
-            assert_eq!(rt; told(alloc, state)?.as_str(), before.as_str(), "{words:?}");
-            state.prepare(step_of(alloc, words)?)?
-        }
-    };
-    assert_eq!(rt; told(alloc, state)?.as_str(), before.as_str(), "{words:?}");
+    let prepared = prepared(alloc, state, words, before)?;
+    let is_same = is_told(alloc, state, before)?;
     state.apply(prepared);
-    Ok(())
+    if is_same {
+        Ok(())
+    } else {
+        Err(Fail::new("the state is another one when the step is prepared"))
+    }
+}
+
+// Where memory runs out, `prepare` left the state as it was, and the step can be prepared again.
+// `rt try --test --fail-alloc` makes each call for memory fail in turn.
+fn prepared(alloc: Global, state: &mut State, words: &str, before: &str) -> Result<Prepared, Fail>
+    ensures { IfOk result (IsReady state.new) }
+{
+    if let Ok(prepared) = state.prepare(step_of(alloc, words)?) {
+        return Ok(prepared);
+    }
+    if !is_told(alloc, state, before)? {
+        return Err(Fail::new("the state is another one where no memory is left"));
+    }
+    Ok(state.prepare(step_of(alloc, words)?)?)
 }
 
 // ---- values of words
@@ -238,25 +281,31 @@ fn accept_of(alloc: Global, words: &str) -> Result<Step, Fail> {
     let (doc, words) = words.split_once(' ').ok_or("no document")?;
     let (words, moved) = words.rsplit_once(' ').ok_or("no move")?;
     let (words, trans) = words.rsplit_once(' ').ok_or("no transaction")?;
-    let (words, mark) = words.rsplit_once(' ').ok_or("no mark")?;
-    let (rev, text) = words.split_once(' ').ok_or("no content")?;
     Ok(Step::Accept {
         doc: DocId::read(alloc, doc)?,
-        accept: Accept {
-            rev: Clock::read(alloc, rev)?,
-            content: content_of(alloc, text)?,
-            making: Making::Received,
-            parents: Clocks::new(alloc),
-            current: mark == "current",
-        },
+        accept: acceptance_of(alloc, words)?,
         trans: TransId::read(alloc, trans)?,
         moved: moved_of(alloc, moved)?,
     })
 }
 
+// `REV CONTENT current|beside`
+fn acceptance_of(alloc: Global, words: &str) -> Result<Accept, Fail> {
+    let (words, mark) = words.rsplit_once(' ').ok_or("no mark")?;
+    let (rev, text) = words.split_once(' ').ok_or("no content")?;
+    let rev = Clock::read(alloc, rev)?;
+    Ok(Accept {
+        rev,
+        content: content_of(alloc, text)?,
+        making: Making::Received,
+        parents: Clocks::new(alloc),
+        current: are_same(mark, "current"),
+    })
+}
+
 // The content of a text; `-` is none.
 fn content_of(alloc: Global, text: &str) -> Result<Option<Content>, Fail> {
-    if text == "-" {
+    if are_same(text, "-") {
         return Ok(None);
     }
     Ok(Some(Content::read(alloc, text.as_bytes())?))
@@ -275,7 +324,7 @@ fn gone_of(alloc: Global, words: &str) -> Result<Step, Fail> {
 
 // The move of a text; `-` is none.
 fn moved_of(alloc: Global, text: &str) -> Result<Option<Move>, Fail> {
-    if text == "-" {
+    if are_same(text, "-") {
         return Ok(None);
     }
     Ok(Some(move_of(alloc, text)?))
@@ -287,14 +336,18 @@ fn move_of(alloc: Global, text: &str) -> Result<Move, Fail> {
     let (uid, text) = text.split_once('/').ok_or("no uid")?;
     let (generation, trans) = text.split_once('/').ok_or("no place")?;
     Ok(Move {
-        table: if table == "known" {
-            PosTable::Known
-        } else {
-            PosTable::Told
-        },
+        table: table_of(table),
         uid: ReplicaUid::read(alloc, uid)?,
         at: place_of(alloc, generation.parse::<u32>()?, trans)?,
     })
+}
+
+fn table_of(name: &str) -> PosTable {
+    if are_same(name, "known") {
+        PosTable::Known
+    } else {
+        PosTable::Told
+    }
 }
 
 fn place_of(alloc: Global, generation: u32, trans: &str) -> Result<Position, Fail> {
@@ -360,14 +413,18 @@ fn push_docs(words: &mut String, state: &State) -> Result<(), Fail> {
 
 fn push_members(words: &mut String, set: &DocSet) -> Result<(), Fail> {
     for place in 0..set.length() {
-        let member = set.member(place).ok_or("too few")?;
-        words.push_str(" ")?;
-        words.push_str(member.rev.text()?.as_str())?;
-        words.push_str(" ")?;
-        match &member.content {
-            Some(content) => push_content(words, content)?,
-            None => words.push('-')?,
-        }
+        push_member(words, set.member(place).ok_or("too few")?)?;
+    }
+    Ok(())
+}
+
+fn push_member(words: &mut String, member: &Member) -> Result<(), Fail> {
+    words.push_str(" ")?;
+    words.push_str(member.rev.text()?.as_str())?;
+    words.push_str(" ")?;
+    match &member.content {
+        Some(content) => push_content(words, content)?,
+        None => words.push('-')?,
     }
     Ok(())
 }
@@ -406,14 +463,24 @@ fn push_positions(
     let mut walk = kept.walk();
     for place in 0..kept.length() {
         let (uid, at) = walk.pair(place).ok_or("too few")?;
-        let trans = match &at.trans {
-            Some(trans) => trans.as_str(),
-            None => "-",
-        };
-        let word = format!(in alloc; " {}/{}/{trans}", uid.as_str(), at.generation)?;
-        words.push_str(word.as_str())?;
+        push_place(alloc, words, uid, at)?;
     }
     words.push_str("\n")?;
+    Ok(())
+}
+
+fn push_place(
+    alloc: Global,
+    words: &mut String,
+    uid: &ReplicaUid,
+    at: &Position,
+) -> Result<(), Fail> {
+    let trans = match &at.trans {
+        Some(trans) => trans.as_str(),
+        None => "-",
+    };
+    let word = format!(in alloc; " {}/{}/{trans}", uid.as_str(), at.generation)?;
+    words.push_str(word.as_str())?;
     Ok(())
 }
 
@@ -435,6 +502,19 @@ fn push_index<L: Ledger>(
     requires parts { blank.parts ≡ L.parts }
     requires some { 0 < L.parts }
 {
+    push_name(alloc, words, index)?;
+    let mut steps = Steps::<L>::new(blank);
+    let table = index.table();
+    for place in 0..table.length() {
+        let (key, id) = table.entry(place, &mut steps).ok_or("too few")?;
+        push_pair(words, key, id)?;
+    }
+    words.push_str("\n")?;
+    Ok(())
+}
+
+// `NAME(EXPR)` or `NAME(EXPR+EXPR)`
+fn push_name(alloc: Global, words: &mut String, index: &Index) -> Result<(), Fail> {
     words.push_str(index.name().as_str())?;
     let mut before = "(";
     for expr in index.exprs().as_slice() {
@@ -443,19 +523,18 @@ fn push_index<L: Ledger>(
         before = "+";
     }
     words.push_str(")")?;
-    let mut steps = Steps::<L>::new(blank);
-    let table = index.table();
-    for place in 0..table.length() {
-        let (key, id) = table.entry(place, &mut steps).ok_or("too few")?;
-        let mut before = " ";
-        for text in key.texts() {
-            words.push_str(before)?;
-            words.push_str(text.as_str())?;
-            before = "+";
-        }
-        words.push_str("/")?;
-        words.push_str(id.as_str())?;
+    Ok(())
+}
+
+// ` KEY/DOC`
+fn push_pair(words: &mut String, key: &Key, id: &DocId) -> Result<(), Fail> {
+    let mut before = " ";
+    for text in key.texts() {
+        words.push_str(before)?;
+        words.push_str(text.as_str())?;
+        before = "+";
     }
-    words.push_str("\n")?;
+    words.push_str("/")?;
+    words.push_str(id.as_str())?;
     Ok(())
 }

@@ -21,6 +21,20 @@ fn told(alloc: Global, body: &[u8]) -> Result<String, AllocError> {
     }
 }
 
+// Compared in functions of their own, which keeps the proofs of their callers short.
+fn are_same(text: &str, want: &str) -> bool {
+    text == want
+}
+
+fn are(bytes: &[u8], want: &[u8]) -> bool {
+    bytes == want
+}
+
+fn is_told(alloc: Global, body: &[u8], want: &str) -> Result<bool, AllocError> {
+    let said = told(alloc, body)?;
+    Ok(are_same(said.as_str(), want))
+}
+
 #[test]
 fn reads_told_positions(rt: HostRuntime) -> Result<(), Fail> {
     let alloc = rt.alloc();
@@ -63,34 +77,40 @@ fn reads_told_positions(rt: HostRuntime) -> Result<(), Fail> {
         (r#"{"generation":1,"transaction_id":"T""#, "bad"),
         ("", "bad"),
     ] {
-        assert_eq!(rt; told(alloc, body.as_bytes())?.as_str(), want, "{body:?}");
+        assert!(rt; is_told(alloc, body.as_bytes(), want)?, "{body:?}");
     }
-    assert_eq!(rt;
-        told(
-            alloc,
-            b"{\"generation\":1,\"transaction_id\":\"T\",\"x\":\"\xff\"}"
-        )?
-        .as_str(),
-        "bad"
-    );
     Ok(())
 }
 
 #[test]
-fn writes_told_positions(rt: HostRuntime) -> Result<(), Fail> {
-    let alloc = rt.alloc();
+fn reads_no_position_that_is_not_utf8(rt: HostRuntime) -> Result<(), Fail> {
+    let body = b"{\"generation\":1,\"transaction_id\":\"T\",\"x\":\"\xff\"}";
+    assert!(rt; is_told(rt.alloc(), body, "bad")?);
+    Ok(())
+}
+
+fn is_written(alloc: Global, at: &Position, want: &[u8]) -> Result<bool, Fail> {
+    let body = write_told(alloc, at)?;
+    Ok(are(body.as_slice(), want))
+}
+
+fn writes_second(alloc: Global) -> Result<bool, Fail> {
     let at = Position {
         generation: 2,
         trans: Some(TransId::read(alloc, "T-2")?),
     };
-    assert_eq!(rt;
-        write_told(alloc, &at)?.as_slice(),
-        br#"{"generation":2,"transaction_id":"T-2"}"#.as_slice()
-    );
-    assert_eq!(rt;
-        write_told(alloc, &Position::start())?.as_slice(),
-        br#"{"generation":0,"transaction_id":""}"#.as_slice()
-    );
+    is_written(alloc, &at, br#"{"generation":2,"transaction_id":"T-2"}"#)
+}
+
+fn writes_start(alloc: Global) -> Result<bool, Fail> {
+    let want = br#"{"generation":0,"transaction_id":""}"#;
+    is_written(alloc, &Position::start(), want)
+}
+
+#[test]
+fn writes_told_positions(rt: HostRuntime) -> Result<(), Fail> {
+    assert!(rt; writes_second(rt.alloc())?);
+    assert!(rt; writes_start(rt.alloc())?);
     Ok(())
 }
 
@@ -111,19 +131,29 @@ fn said(alloc: Global, body: &[u8]) -> Result<String, AllocError> {
 const EMPTY_TARGET: &[u8] =
     br#"{"source_replica_generation":0,"source_replica_uid":"a","source_transaction_id":"","target_replica_generation":0,"target_replica_transaction_id":"","target_replica_uid":"b"}"#;
 
-#[test]
-fn empty_target_answers_its_source(rt: HostRuntime) -> Result<(), Fail> {
-    let alloc = rt.alloc();
-    let info = Info {
+fn empty_info(alloc: Global) -> Result<Info, Fail> {
+    Ok(Info {
         target: ReplicaUid::read(alloc, "b")?,
         target_at: Position::start(),
         source: ReplicaUid::read(alloc, "a")?,
         source_at: Position::start(),
-    };
-    let body = write_info(alloc, &info)?;
-    assert_eq!(rt; body.len(), 173);
-    assert_eq!(rt; body.as_slice(), EMPTY_TARGET);
-    assert_eq!(rt; said(alloc, EMPTY_TARGET)?.as_str(), "b 0 - a 0 -");
+    })
+}
+
+fn is_info_written(alloc: Global) -> Result<bool, Fail> {
+    let body = write_info(alloc, &empty_info(alloc)?)?;
+    Ok(body.len() == 173 && are(body.as_slice(), EMPTY_TARGET))
+}
+
+fn is_said(alloc: Global, body: &[u8], want: &str) -> Result<bool, AllocError> {
+    let said = said(alloc, body)?;
+    Ok(are_same(said.as_str(), want))
+}
+
+#[test]
+fn empty_target_answers_its_source(rt: HostRuntime) -> Result<(), Fail> {
+    assert!(rt; is_info_written(rt.alloc())?);
+    assert!(rt; is_said(rt.alloc(), EMPTY_TARGET, "b 0 - a 0 -")?);
     Ok(())
 }
 
@@ -153,7 +183,7 @@ fn reads_what_a_target_says(rt: HostRuntime) -> Result<(), Fail> {
         ),
         ("{}", "bad"),
     ] {
-        assert_eq!(rt; said(alloc, body.as_bytes())?.as_str(), want, "{body:?}");
+        assert!(rt; is_said(alloc, body.as_bytes(), want)?, "{body:?}");
     }
     Ok(())
 }

@@ -29,6 +29,16 @@ fn told(alloc: Global, bytes: &[u8]) -> Result<String, AllocError> {
     }
 }
 
+// Compared in a function of its own, which keeps the proofs of its callers short.
+fn are_same(text: &str, want: &str) -> bool {
+    text == want
+}
+
+fn tells(alloc: Global, text: &str, want: &str) -> Result<bool, AllocError> {
+    let said = told(alloc, text.as_bytes())?;
+    Ok(are_same(said.as_str(), want))
+}
+
 #[test]
 fn tells_what_a_request_says(rt: HostRuntime) -> Result<(), Fail> {
     let alloc = rt.alloc();
@@ -64,14 +74,21 @@ fn tells_what_a_request_says(rt: HostRuntime) -> Result<(), Fail> {
         ("X\r\n\r\n", "BadHead"),
         ("GET /db/sync-from/a HTTP/2.0\r\n\r\n", "BadHead"),
     ] {
-        assert_eq!(rt; told(alloc, text.as_bytes())?.as_str(), want, "{text:?}");
+        assert!(rt; tells(alloc, text, want)?, "{text:?}");
     }
     Ok(())
 }
 
+// What a request of this length says.
+fn tells_length(alloc: Global, value: &str, want: &str) -> Result<bool, AllocError> {
+    let text = format!(in alloc;
+        "PUT /db/sync-from/a HTTP/1.1\r\nContent-Length: {value}\r\n\r\n"
+    )?;
+    tells(alloc, text.as_str(), want)
+}
+
 #[test]
 fn reads_lengths(rt: HostRuntime) -> Result<(), Fail> {
-    let alloc = rt.alloc();
     for (value, want) in [
         ("9223372036854775807", "Put db a 9223372036854775807 in 69"),
         ("9223372036854775808", "BadHead"),
@@ -84,56 +101,77 @@ fn reads_lengths(rt: HostRuntime) -> Result<(), Fail> {
         ("", "BadHead"),
         ("1\r\nContent-Length: 1", "BadHead"),
     ] {
-        let text = format!(in alloc;
-            "PUT /db/sync-from/a HTTP/1.1\r\nContent-Length: {value}\r\n\r\n"
-        )?;
-        assert_eq!(rt; told(alloc, text.as_bytes())?.as_str(), want, "{value:?}");
+        assert!(rt; tells_length(rt.alloc(), value, want)?, "{value:?}");
     }
-    // the length is tested before all else, also where none is needed
-    let text = "HEAD /x HTTP/1.1\r\nContent-Length: -\r\n\r\n";
-    assert_eq!(rt; told(alloc, text.as_bytes())?.as_str(), "BadHead");
-    let text = "GET /db/sync-from/a HTTP/1.1\r\nContent-Length: 5\r\n\r\n";
-    assert_eq!(rt; told(alloc, text.as_bytes())?.as_str(), "Get db a 0 in 51");
     Ok(())
+}
+
+// The length is tested before all else, also where none is needed.
+#[test]
+fn reads_lengths_first(rt: HostRuntime) -> Result<(), Fail> {
+    let text = "HEAD /x HTTP/1.1\r\nContent-Length: -\r\n\r\n";
+    assert!(rt; tells(rt.alloc(), text, "BadHead")?);
+    let text = "GET /db/sync-from/a HTTP/1.1\r\nContent-Length: 5\r\n\r\n";
+    assert!(rt; tells(rt.alloc(), text, "Get db a 0 in 51")?);
+    Ok(())
+}
+
+// A head that is so long before its end, and then this end.
+fn long_head(alloc: Global, length: usize, end: &str) -> Result<String, AllocError> {
+    let mut text = String::from_str(alloc, "GET /db/sync-from/a HTTP/1.1\r\nX: ")?;
+    for _ in text.len()..length {
+        text.push('x')?;
+    }
+    text.push_str(end)?;
+    Ok(text)
+}
+
+fn tells_long(alloc: Global, length: usize, end: &str, want: &str) -> Result<bool, AllocError> {
+    tells(alloc, long_head(alloc, length, end)?.as_str(), want)
 }
 
 #[test]
 fn looks_at_so_many_bytes(rt: HostRuntime) -> Result<(), Fail> {
     let alloc = rt.alloc();
-    let mut text = String::from_str(alloc, "GET /db/sync-from/a HTTP/1.1\r\nX: ")?;
-    for _ in text.len()..16_380 {
-        text.push('x')?;
-    }
-    assert_eq!(rt; told(alloc, text.as_bytes())?.as_str(), "not yet");
-    text.push_str("\r\n\r")?;
-    assert_eq!(rt; told(alloc, text.as_bytes())?.as_str(), "not yet");
-    text.push_str("\n")?;
-    assert_eq!(rt;
-        told(alloc, text.as_bytes())?.as_str(),
-        "Get db a 0 in 16384"
-    );
-    let mut longer = String::from_str(alloc, "GET /db/sync-from/a HTTP/1.1\r\nX: ")?;
-    for _ in longer.len()..16_381 {
-        longer.push('x')?;
-    }
-    longer.push_str("\r\n\r\n")?;
-    assert_eq!(rt; told(alloc, longer.as_bytes())?.as_str(), "TooLarge");
+    assert!(rt; tells_long(alloc, 16_380, "", "not yet")?);
+    assert!(rt; tells_long(alloc, 16_380, "\r\n\r", "not yet")?);
+    assert!(rt; tells_long(alloc, 16_380, "\r\n\r\n", "Get db a 0 in 16384")?);
+    assert!(rt; tells_long(alloc, 16_381, "\r\n\r\n", "TooLarge")?);
     Ok(())
+}
+
+// A head of so many fields.
+fn tells_fields(alloc: Global, count: u32, want: &str) -> Result<bool, AllocError> {
+    let mut text = String::from_str(alloc, "GET /db/sync-from/a HTTP/1.1\r\n")?;
+    for _ in 0..count {
+        text.push_str("A: b\r\n")?;
+    }
+    text.push_str("\r\n")?;
+    tells(alloc, text.as_str(), want)
 }
 
 #[test]
 fn takes_so_many_fields(rt: HostRuntime) -> Result<(), Fail> {
-    let alloc = rt.alloc();
-    let mut text = String::from_str(alloc, "GET /db/sync-from/a HTTP/1.1\r\n")?;
-    for _ in 0..64 {
-        text.push_str("A: b\r\n")?;
-    }
-    let mut more = text.clone()?;
-    text.push_str("\r\n")?;
-    assert_eq!(rt; told(alloc, text.as_bytes())?.as_str(), "Get db a 0 in 416");
-    more.push_str("A: b\r\n\r\n")?;
-    assert_eq!(rt; told(alloc, more.as_bytes())?.as_str(), "BadHead");
+    assert!(rt; tells_fields(rt.alloc(), 64, "Get db a 0 in 416")?);
+    assert!(rt; tells_fields(rt.alloc(), 65, "BadHead")?);
     Ok(())
+}
+
+// What a head of a reply says, in one line.
+fn reply_told(alloc: Global, bytes: &[u8]) -> Result<String, AllocError> {
+    match read_reply(bytes) {
+        Ok(Heard::NotYet) => String::from_str(alloc, "not yet"),
+        Ok(Heard::Head { head, length }) => {
+            let ReplyHead { status, body } = head;
+            format!(in alloc; "{status} {body} in {length}")
+        }
+        Err(fault) => format!(in alloc; "{fault:?}"),
+    }
+}
+
+fn reply_tells(alloc: Global, text: &str, want: &str) -> Result<bool, AllocError> {
+    let said = reply_told(alloc, text.as_bytes())?;
+    Ok(are_same(said.as_str(), want))
 }
 
 #[test]
@@ -154,15 +192,7 @@ fn tells_what_a_reply_says(rt: HostRuntime) -> Result<(), Fail> {
         ("HTTP/1.1 20 OK\r\n\r\n", "BadHead"),
         ("HTTP/1.1 200 O", "not yet"),
     ] {
-        let got = match read_reply(text.as_bytes()) {
-            Ok(Heard::NotYet) => String::from_str(alloc, "not yet")?,
-            Ok(Heard::Head { head, length }) => {
-                let ReplyHead { status, body } = head;
-                format!(in alloc; "{status} {body} in {length}")?
-            }
-            Err(fault) => format!(in alloc; "{fault:?}")?,
-        };
-        assert_eq!(rt; got.as_str(), want, "{text:?}");
+        assert!(rt; reply_tells(alloc, text, want)?, "{text:?}");
     }
     Ok(())
 }
@@ -186,7 +216,7 @@ fn request(alloc: Global, verb: Verb, body: u64) -> Result<Vec<u8>, Fail>
 }
 
 #[test]
-fn writes_heads(rt: HostRuntime) -> Result<(), Fail> {
+fn writes_requests(rt: HostRuntime) -> Result<(), Fail> {
     let alloc = rt.alloc();
     assert_eq!(rt;
         request(alloc, Verb::Get, 0)?.as_slice(),
@@ -200,33 +230,48 @@ fn writes_heads(rt: HostRuntime) -> Result<(), Fail> {
         request(alloc, Verb::Post, 148)?.as_slice(),
         b"POST /db/sync-from/a HTTP/1.1\r\nHost: h:8080\r\nConnection: close\r\nContent-Type: application/x-u1db-sync-stream\r\nContent-Length: 148\r\n\r\n".as_slice()
     );
-    let reply = ReplyHead {
+    Ok(())
+}
+
+fn refusal(alloc: Global) -> Result<Vec<u8>, Fail> {
+    let head = ReplyHead {
         status: 507,
         body: 22,
     };
-    assert_eq!(rt;
-        write_reply(alloc, &reply, false)?.as_slice(),
-        b"HTTP/1.1 507 Insufficient Storage\r\nContent-Type: application/json\r\nContent-Length: 22\r\nConnection: close\r\n\r\n".as_slice()
-    );
-    let reply = ReplyHead {
+    Ok(write_reply(alloc, &head, false)?.into_vec())
+}
+
+fn answer(alloc: Global) -> Result<Vec<u8>, Fail> {
+    let head = ReplyHead {
         status: 200,
         body: 148,
     };
+    Ok(write_reply(alloc, &head, true)?.into_vec())
+}
+
+#[test]
+fn writes_replies(rt: HostRuntime) -> Result<(), Fail> {
     assert_eq!(rt;
-        write_reply(alloc, &reply, true)?.as_slice(),
+        refusal(rt.alloc())?.as_slice(),
+        b"HTTP/1.1 507 Insufficient Storage\r\nContent-Type: application/json\r\nContent-Length: 22\r\nConnection: close\r\n\r\n".as_slice()
+    );
+    assert_eq!(rt;
+        answer(rt.alloc())?.as_slice(),
         b"HTTP/1.1 200 OK\r\nContent-Type: application/x-u1db-sync-stream\r\nContent-Length: 148\r\nConnection: close\r\n\r\n".as_slice()
     );
     Ok(())
 }
 
+// Whether the head of a request to post so many bytes is read as it was written.
+fn is_read_again(alloc: Global) -> Result<bool, Fail> {
+    let bytes = request(alloc, Verb::Post, 148)?;
+    let said = told(alloc, bytes.as_slice())?;
+    Ok(are_same(said.as_str(), "Post db a 148 in 133"))
+}
+
 #[test]
 fn reads_what_it_wrote(rt: HostRuntime) -> Result<(), Fail> {
-    let alloc = rt.alloc();
-    let bytes = request(alloc, Verb::Post, 148)?;
-    assert_eq!(rt;
-        told(alloc, bytes.as_slice())?.as_str(),
-        "Post db a 148 in 133"
-    );
+    assert!(rt; is_read_again(rt.alloc())?);
     Ok(())
 }
 
@@ -241,6 +286,11 @@ fn address(alloc: Global, text: &str) -> Result<String, AllocError> {
         Err(AddressFault::Bad) => String::from_str(alloc, "bad"),
         Err(AddressFault::Memory) => Err(AllocError),
     }
+}
+
+fn address_is(alloc: Global, text: &str, want: &str) -> Result<bool, AllocError> {
+    let said = address(alloc, text)?;
+    Ok(are_same(said.as_str(), want))
 }
 
 // What the parts of a URL are is as another parser of the URL Standard tells them (Node.js).
@@ -274,7 +324,7 @@ fn reads_addresses(rt: HostRuntime) -> Result<(), Fail> {
         ("http://h", "bad"),
         ("", "bad"),
     ] {
-        assert_eq!(rt; address(alloc, text)?.as_str(), want, "{text:?}");
+        assert!(rt; address_is(alloc, text, want)?, "{text:?}");
     }
     Ok(())
 }

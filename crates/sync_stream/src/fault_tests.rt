@@ -93,32 +93,62 @@ impl Made {
 // Of these ends one is right for each line.
 const ENDS: [&str; 4] = ["", ",", ",,", "x"];
 
-#[test]
-fn one_line_ends_otherwise(rt: HostRuntime) -> Result<(), Fail> {
-    let alloc = rt.alloc();
-    for documents in 0..4 {
-        let made = Made { documents };
-        for number in 1..documents + 4 {
-            for end in ENDS {
-                let text = made.text(alloc, number, end)?;
-                let want = made.told(alloc, made.faulty(number, end))?;
-                tells(&rt, alloc, HeadKind::Reply, text.as_bytes(), want.as_str())?;
+impl Made {
+    // Whether of the stream in which this line ends so the right lines and the fault are told.
+    fn is_told(self, alloc: Global, number: u32, end: &str) -> Result<bool, Fail> {
+        let text = self.text(alloc, number, end)?;
+        let want = self.told(alloc, self.faulty(number, end))?;
+        tells(alloc, HeadKind::Reply, text.as_bytes(), want.as_str())
+    }
+
+    fn is_told_cut(self, alloc: Global, number: u32, end: &str) -> Result<bool, Fail> {
+        let text = self.text(alloc, number, end)?;
+        let want = self.told(alloc, self.faulty(number, end))?;
+        tells_cut(alloc, HeadKind::Reply, text.as_bytes(), want.as_str())
+    }
+
+    fn each_end_is_told(self, alloc: Global, number: u32) -> Result<bool, Fail> {
+        for end in ENDS {
+            if !self.is_told(alloc, number, end)? {
+                return Ok(false);
             }
         }
+        Ok(true)
+    }
+
+    fn each_line_is_told(self, alloc: Global) -> Result<bool, Fail> {
+        for number in 1..self.documents.saturating_add(4) {
+            if !self.each_end_is_told(alloc, number)? {
+                return Ok(false);
+            }
+        }
+        Ok(true)
+    }
+
+    fn each_end_is_told_cut(self, alloc: Global, number: u32) -> Result<bool, Fail> {
+        for end in ENDS {
+            if !self.is_told_cut(alloc, number, end)? {
+                return Ok(false);
+            }
+        }
+        Ok(true)
+    }
+}
+
+#[test]
+fn one_line_ends_otherwise(rt: HostRuntime) -> Result<(), Fail> {
+    for documents in 0..4 {
+        let made = Made { documents };
+        assert!(rt; made.each_line_is_told(rt.alloc())?, "{documents}");
     }
     Ok(())
 }
 
 #[test]
 fn one_line_ends_otherwise_cut_at_each_byte(rt: HostRuntime) -> Result<(), Fail> {
-    let alloc = rt.alloc();
     let made = Made { documents: 1 };
     for number in 1..5 {
-        for end in ENDS {
-            let text = made.text(alloc, number, end)?;
-            let want = made.told(alloc, made.faulty(number, end))?;
-            tells_cut(&rt, alloc, HeadKind::Reply, text.as_bytes(), want.as_str())?;
-        }
+        assert!(rt; made.each_end_is_told_cut(rt.alloc(), number)?, "{number}");
     }
     Ok(())
 }

@@ -5,7 +5,6 @@
 use crate::telling::{tells, tells_cut};
 use crate::{HeadKind, Reader, StreamFault};
 use std::alloc::{AllocError, Global};
-use std::process::Abort;
 use std::test::Fail;
 
 const HEAD: &str = r#"{"new_generation":2,"new_transaction_id":"T-2"}"#;
@@ -31,29 +30,37 @@ fn meant(alloc: Global, row: &str) -> Result<String, AllocError> {
     Ok(text)
 }
 
-// Of the stream of each row this is told, in pieces of each size.
-fn rows(rt: &impl Abort, alloc: Global, kind: HeadKind, rows: &str) -> Result<(), Fail> {
+// Whether what the row says is told of its stream, in pieces of each size.
+fn is_row(alloc: Global, kind: HeadKind, row: &str) -> Result<bool, Fail> {
+    let (stream, want) = row.split_once(" => ").ok_or("nothing is told")?;
+    let stream = meant(alloc, stream)?;
+    tells(alloc, kind, stream.as_bytes(), want)
+}
+
+// The first row of which something else is told. An empty line is no row.
+fn first_wrong<'a>(alloc: Global, kind: HeadKind, rows: &'a str) -> Result<Option<&'a str>, Fail> {
     for row in rows.lines() {
-        if row.is_empty() {
-            continue;
+        if !row.is_empty() && !is_row(alloc, kind, row)? {
+            return Ok(Some(row));
         }
-        let (stream, want) = row.split_once(" => ").ok_or("nothing is told")?;
-        tells(rt, alloc, kind, meant(alloc, stream)?.as_bytes(), want)?;
     }
-    Ok(())
+    Ok(None)
+}
+
+fn is_reply(alloc: Global, row: &str) -> Result<bool, Fail> {
+    let (doc, want) = row.split_once(" => ").ok_or("nothing is told")?;
+    let row = format!(in alloc; "[~$h,~{doc}~]~ => head 2 T-2; {want}")?;
+    is_row(alloc, HeadKind::Reply, row.as_str())
 }
 
 // The same of a document that is the only one of a reply.
-fn docs(rt: &impl Abort, alloc: Global, docs: &str) -> Result<(), Fail> {
+fn first_wrong_doc<'a>(alloc: Global, docs: &'a str) -> Result<Option<&'a str>, Fail> {
     for row in docs.lines() {
-        if row.is_empty() {
-            continue;
+        if !row.is_empty() && !is_reply(alloc, row)? {
+            return Ok(Some(row));
         }
-        let (doc, want) = row.split_once(" => ").ok_or("nothing is told")?;
-        let row = format!(in alloc; "[~$h,~{doc}~]~ => head 2 T-2; {want}")?;
-        rows(rt, alloc, HeadKind::Reply, row.as_str())?;
     }
-    Ok(())
+    Ok(None)
 }
 
 pub(crate) const EXCHANGE: &str = "[\r\n\
@@ -65,33 +72,29 @@ const EXCHANGED: &str = "head 0 -; d1 a:1 {\"v\":1} 1 T-1; end; whole";
 
 #[test]
 fn one_document(rt: HostRuntime) -> Result<(), Fail> {
-    assert_eq!(rt; EXCHANGE.len(), 148);
-    tells(
-        &rt,
-        rt.alloc(),
-        HeadKind::Request,
-        EXCHANGE.as_bytes(),
-        EXCHANGED,
-    )
+    let body = EXCHANGE.as_bytes();
+    assert!(rt; body.len() == 148);
+    assert!(rt; tells(rt.alloc(), HeadKind::Request, body, EXCHANGED)?);
+    Ok(())
 }
 
 #[test]
 fn one_document_cut_at_each_byte(rt: HostRuntime) -> Result<(), Fail> {
-    tells_cut(
-        &rt,
-        rt.alloc(),
-        HeadKind::Request,
-        EXCHANGE.as_bytes(),
-        EXCHANGED,
-    )
+    let body = EXCHANGE.as_bytes();
+    assert!(rt; tells_cut(rt.alloc(), HeadKind::Request, body, EXCHANGED)?);
+    Ok(())
+}
+
+fn tells_the_byte_behind(alloc: Global) -> Result<bool, Fail> {
+    let stream = format!(in alloc; "{EXCHANGE} ")?;
+    let want = "head 0 -; d1 a:1 {\"v\":1} 1 T-1; end; At(5)";
+    tells(alloc, HeadKind::Request, stream.as_bytes(), want)
 }
 
 #[test]
 fn one_byte_behind_the_end(rt: HostRuntime) -> Result<(), Fail> {
-    let alloc = rt.alloc();
-    let stream = format!(in alloc; "{EXCHANGE} ")?;
-    let want = "head 0 -; d1 a:1 {\"v\":1} 1 T-1; end; At(5)";
-    tells(&rt, alloc, HeadKind::Request, stream.as_bytes(), want)
+    assert!(rt; tells_the_byte_behind(rt.alloc())?);
+    Ok(())
 }
 
 // Two replicas have each made a document: the request, and the reply to it.
@@ -105,8 +108,12 @@ const SYNC_REPLY: &str = r#"
 
 #[test]
 fn one_whole_sync(rt: HostRuntime) -> Result<(), Fail> {
-    rows(&rt, rt.alloc(), HeadKind::Request, SYNC_REQUEST)?;
-    rows(&rt, rt.alloc(), HeadKind::Reply, SYNC_REPLY)
+    assert_eq!(rt;
+        first_wrong(rt.alloc(), HeadKind::Request, SYNC_REQUEST)?,
+        None
+    );
+    assert_eq!(rt; first_wrong(rt.alloc(), HeadKind::Reply, SYNC_REPLY)?, None);
+    Ok(())
 }
 
 // A comma stands behind each object line but the last.
@@ -121,7 +128,8 @@ const COMMAS: &str = r#"
 
 #[test]
 fn commas(rt: HostRuntime) -> Result<(), Fail> {
-    rows(&rt, rt.alloc(), HeadKind::Reply, COMMAS)
+    assert_eq!(rt; first_wrong(rt.alloc(), HeadKind::Reply, COMMAS)?, None);
+    Ok(())
 }
 
 const PLACES: &str = r#"
@@ -135,7 +143,8 @@ const PLACES: &str = r#"
 
 #[test]
 fn lines_out_of_place(rt: HostRuntime) -> Result<(), Fail> {
-    rows(&rt, rt.alloc(), HeadKind::Reply, PLACES)
+    assert_eq!(rt; first_wrong(rt.alloc(), HeadKind::Reply, PLACES)?, None);
+    Ok(())
 }
 
 // The body ends before the line `]`: the line that is missing is the faulty one.
@@ -153,7 +162,8 @@ const MISSING: &str = r#"
 
 #[test]
 fn missing_lines(rt: HostRuntime) -> Result<(), Fail> {
-    rows(&rt, rt.alloc(), HeadKind::Reply, MISSING)
+    assert_eq!(rt; first_wrong(rt.alloc(), HeadKind::Reply, MISSING)?, None);
+    Ok(())
 }
 
 // The line `]` may stand without its line end, and nothing behind it. Blanks and tabs may stand round a line, and white
@@ -171,7 +181,8 @@ const ENDS: &str = r#"
 
 #[test]
 fn ends_and_blanks(rt: HostRuntime) -> Result<(), Fail> {
-    rows(&rt, rt.alloc(), HeadKind::Reply, ENDS)
+    assert_eq!(rt; first_wrong(rt.alloc(), HeadKind::Reply, ENDS)?, None);
+    Ok(())
 }
 
 // A head lies in each member.
@@ -191,7 +202,8 @@ const HEADS: &str = r#"
 
 #[test]
 fn heads(rt: HostRuntime) -> Result<(), Fail> {
-    rows(&rt, rt.alloc(), HeadKind::Reply, HEADS)
+    assert_eq!(rt; first_wrong(rt.alloc(), HeadKind::Reply, HEADS)?, None);
+    Ok(())
 }
 
 // Members come in any order and with others, and the last of a name counts.
@@ -203,7 +215,8 @@ $t{"content":"{}",$r"gen":1,$n"id":"d%2F","rev":"a:1","trans_id":"T"}  => d%2F a
 
 #[test]
 fn reads_documents(rt: HostRuntime) -> Result<(), Fail> {
-    docs(&rt, rt.alloc(), READ)
+    assert_eq!(rt; first_wrong_doc(rt.alloc(), READ)?, None);
+    Ok(())
 }
 
 const POSITIONS: &str = r#"
@@ -220,7 +233,8 @@ const POSITIONS: &str = r#"
 
 #[test]
 fn refuses_positions(rt: HostRuntime) -> Result<(), Fail> {
-    docs(&rt, rt.alloc(), POSITIONS)
+    assert_eq!(rt; first_wrong_doc(rt.alloc(), POSITIONS)?, None);
+    Ok(())
 }
 
 const NAMES: &str = r#"
@@ -236,7 +250,8 @@ const NAMES: &str = r#"
 
 #[test]
 fn refuses_ids_and_revisions(rt: HostRuntime) -> Result<(), Fail> {
-    docs(&rt, rt.alloc(), NAMES)
+    assert_eq!(rt; first_wrong_doc(rt.alloc(), NAMES)?, None);
+    Ok(())
 }
 
 const CONTENTS: &str = r#"
@@ -252,41 +267,65 @@ const CONTENTS: &str = r#"
 
 #[test]
 fn refuses_contents(rt: HostRuntime) -> Result<(), Fail> {
-    docs(&rt, rt.alloc(), CONTENTS)
+    assert_eq!(rt; first_wrong_doc(rt.alloc(), CONTENTS)?, None);
+    Ok(())
 }
 
 // ---- single calls
 
-// What the next call answers: `line`, `none` or a fault.
-fn next(alloc: Global, reader: &mut Reader) -> Result<String, AllocError> {
+fn gives_a_line(alloc: Global, reader: &mut Reader) -> bool {
+    matches!(reader.next_line(alloc), Ok(Some(_)))
+}
+
+fn gives_none(alloc: Global, reader: &mut Reader) -> bool {
+    matches!(reader.next_line(alloc), Ok(None))
+}
+
+fn gives_the_fault(alloc: Global, reader: &mut Reader, want: StreamFault) -> bool {
     match reader.next_line(alloc) {
-        Ok(Some(_)) => String::from_str(alloc, "line"),
-        Ok(None) => String::from_str(alloc, "none"),
-        Err(fault) => format!(in alloc; "{fault:?}"),
+        Ok(_) => false,
+        Err(fault) => fault == want,
     }
+}
+
+// A reader of what a row says.
+fn reader_of(alloc: Global, row: &str) -> Result<Reader, Fail> {
+    let mut reader = Reader::new(alloc, HeadKind::Reply);
+    let text = meant(alloc, row)?;
+    reader.push(text.as_bytes())?;
+    Ok(reader)
+}
+
+fn gives_two_lines(alloc: Global, reader: &mut Reader) -> bool {
+    gives_a_line(alloc, reader) && gives_a_line(alloc, reader) && gives_none(alloc, reader)
+}
+
+fn holds_the_rest(alloc: Global) -> Result<bool, Fail> {
+    let mut reader = reader_of(alloc, "[~$h,~$1,~$2")?;
+    Ok(gives_two_lines(alloc, &mut reader) && reader.held() == SECOND.len() as u64)
 }
 
 #[test]
 fn holds_an_unfinished_document(rt: HostRuntime) -> Result<(), Fail> {
-    let alloc = rt.alloc();
-    let mut reader = Reader::new(alloc, HeadKind::Reply);
-    reader.push(meant(alloc, "[~$h,~$1,~$2")?.as_bytes())?;
-    for want in ["line", "line", "none"] {
-        assert_eq!(rt; next(alloc, &mut reader)?.as_str(), want);
-    }
-    assert_eq!(rt; reader.held(), SECOND.len() as u64);
+    assert!(rt; holds_the_rest(rt.alloc())?);
     Ok(())
+}
+
+fn gives_its_fault(alloc: Global, reader: &mut Reader) -> bool {
+    gives_the_fault(alloc, reader, StreamFault::At(1))
+        && gives_the_fault(alloc, reader, StreamFault::At(1))
+        && reader.push(b"\r\n") == Err(StreamFault::At(1))
+        && reader.held() == 4
+}
+
+fn fault_is_kept(alloc: Global) -> Result<bool, Fail> {
+    let mut reader = reader_of(alloc, "x~[")?;
+    Ok(gives_its_fault(alloc, &mut reader))
 }
 
 #[test]
 fn keeps_its_fault(rt: HostRuntime) -> Result<(), Fail> {
-    let alloc = rt.alloc();
-    let mut reader = Reader::new(alloc, HeadKind::Reply);
-    reader.push(b"x\r\n[")?;
-    assert_eq!(rt; next(alloc, &mut reader)?.as_str(), "At(1)");
-    assert_eq!(rt; next(alloc, &mut reader)?.as_str(), "At(1)");
-    assert_eq!(rt; reader.push(b"\r\n"), Err(StreamFault::At(1)));
-    assert_eq!(rt; reader.held(), 4);
+    assert!(rt; fault_is_kept(rt.alloc())?);
     Ok(())
 }
 
@@ -294,50 +333,67 @@ fn keeps_its_fault(rt: HostRuntime) -> Result<(), Fail> {
 
 const LONGEST: usize = 33_554_432;
 
-// A reader of a line of so many bytes: `[`, and the filling. These bytes are behind it.
-fn filled(alloc: Global, filling: u8, length: usize, behind: &[u8]) -> Result<Reader, Fail> {
+// A line of so many bytes: `[`, and the filling.
+fn line(alloc: Global, filling: u8, length: usize) -> Result<Vec<u8>, AllocError> {
     let mut line = Vec::with_capacity(alloc, length)?;
     line.push(b'[')?;
     line.resize(length, filling)?;
+    Ok(line)
+}
+
+// A reader of such a line, and of these bytes behind it.
+fn filled(alloc: Global, filling: u8, length: usize, behind: &[u8]) -> Result<Reader, Fail> {
+    let line = line(alloc, filling, length)?;
     let mut reader = Reader::new(alloc, HeadKind::Reply);
     reader.push(&line)?;
     reader.push(behind)?;
     Ok(reader)
 }
 
+fn longest_is_read(alloc: Global) -> Result<bool, Fail> {
+    let mut reader = filled(alloc, b' ', LONGEST, b"\r\n")?;
+    Ok(gives_none(alloc, &mut reader) && reader.held() == 0)
+}
+
 #[test]
 fn reads_the_longest_line(rt: HostRuntime) -> Result<(), Fail> {
-    let alloc = rt.alloc();
-    let mut reader = filled(alloc, b' ', LONGEST, b"\r\n")?;
-    assert_eq!(rt; next(alloc, &mut reader)?.as_str(), "none");
-    assert_eq!(rt; reader.held(), 0);
+    assert!(rt; longest_is_read(rt.alloc())?);
     Ok(())
+}
+
+// Whether a line of one byte more is too long, with these bytes behind it.
+fn is_too_long(alloc: Global, behind: &[u8]) -> Result<bool, Fail> {
+    let mut reader = filled(alloc, b' ', LONGEST + 1, behind)?;
+    Ok(gives_the_fault(alloc, &mut reader, StreamFault::TooLong(1)))
 }
 
 #[test]
 fn refuses_one_byte_more(rt: HostRuntime) -> Result<(), Fail> {
-    let alloc = rt.alloc();
-    let mut reader = filled(alloc, b' ', LONGEST + 1, b"\r\n")?;
-    assert_eq!(rt; next(alloc, &mut reader)?.as_str(), "TooLong(1)");
+    assert!(rt; is_too_long(rt.alloc(), b"\r\n")?);
     Ok(())
 }
 
 #[test]
 fn refuses_one_byte_more_before_the_line_ends(rt: HostRuntime) -> Result<(), Fail> {
-    let alloc = rt.alloc();
-    let mut reader = filled(alloc, b' ', LONGEST + 1, b"")?;
-    assert_eq!(rt; next(alloc, &mut reader)?.as_str(), "TooLong(1)");
+    assert!(rt; is_too_long(rt.alloc(), b"")?);
     Ok(())
+}
+
+fn waits(alloc: Global, reader: &mut Reader) -> bool {
+    gives_none(alloc, reader)
+        && reader.held() == 33_554_433
+        && reader.push(b"\n").is_ok()
+        && gives_the_fault(alloc, reader, StreamFault::At(1))
+}
+
+fn line_end_is_awaited(alloc: Global) -> Result<bool, Fail> {
+    let mut reader = filled(alloc, b'x', LONGEST, b"\r")?;
+    Ok(waits(alloc, &mut reader))
 }
 
 // A CR at the end may be that of a CR LF: then the line is not too long, and is no `[`.
 #[test]
 fn waits_for_the_line_end(rt: HostRuntime) -> Result<(), Fail> {
-    let alloc = rt.alloc();
-    let mut reader = filled(alloc, b'x', LONGEST, b"\r")?;
-    assert_eq!(rt; next(alloc, &mut reader)?.as_str(), "none");
-    assert_eq!(rt; reader.held(), 33_554_433);
-    reader.push(b"\n")?;
-    assert_eq!(rt; next(alloc, &mut reader)?.as_str(), "At(1)");
+    assert!(rt; line_end_is_awaited(rt.alloc())?);
     Ok(())
 }

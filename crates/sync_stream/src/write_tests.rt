@@ -29,16 +29,30 @@ fn document(alloc: Global, generation: u64, row: &str) -> Result<SyncDoc, Fail>
     ensures { IfOk result (λ doc. doc.at.generation ≡ generation) }
 {
     let (id, row) = row.split_once(' ').ok_or("no revision")?;
-    let (rev, content) = row.split_once(' ').ok_or("no content")?;
-    let trans = format!(in alloc; "T-{generation}")?;
     Ok(SyncDoc {
         id: DocId::read(alloc, id)?,
-        member: Member {
-            rev: Clock::read(alloc, rev)?,
-            content: Some(Content::read(alloc, content.as_bytes())?),
-        },
-        at: position(alloc, generation, trans.as_str())?,
+        member: member(alloc, row)?,
+        at: place(alloc, generation)?,
     })
+}
+
+fn member(alloc: Global, row: &str) -> Result<Member, Fail> {
+    let (rev, content) = row.split_once(' ').ok_or("no content")?;
+    let rev = Clock::read(alloc, rev)?;
+    let content = Content::read(alloc, content.as_bytes())?;
+    Ok(Member {
+        rev,
+        content: Some(content),
+    })
+}
+
+fn place(alloc: Global, generation: u64) -> Result<Position, Fail>
+    requires some { generation ≢ 0 }
+    requires small { generation < 2 ^ 63 }
+    ensures { IfOk result (λ at. at.generation ≡ generation) }
+{
+    let trans = format!(in alloc; "T-{generation}")?;
+    position(alloc, generation, trans.as_str())
 }
 
 // A stream of these documents, from generation 1 on.
@@ -81,56 +95,88 @@ c10 laptop:1 {"name":"Gus Ash","phones":["555-10"],"tags":"friend friend"}
 c11 laptop:1 {"name":"Hal Ann","phones":["555-11"],"tags":"work"}
 c12 laptop:1 {"name":"Ida Foy","phones":["555-12"],"tags":"club"}"#;
 
+fn are(bytes: &[u8], want: &[u8]) -> bool {
+    bytes == want
+}
+
+// Whether of the stream of the book just its documents are told.
+fn tells_the_book(alloc: Global, stream: &[u8]) -> Result<bool, Fail> {
+    let documents = documents_told(alloc, BOOK)?;
+    let want = format!(in alloc; "head 0 -; {}end; whole", documents.as_str())?;
+    tells(alloc, HeadKind::Request, stream, want.as_str())
+}
+
+fn book_is_read_back(alloc: Global) -> Result<bool, Fail> {
+    let stream = written(alloc, HeadKind::Request, &Position::start(), BOOK)?;
+    Ok(tells_the_book(alloc, &stream)? && stream.len() == 1728)
+}
+
 #[test]
 fn an_address_book(rt: HostRuntime) -> Result<(), Fail> {
-    let alloc = rt.alloc();
-    let text = written(alloc, HeadKind::Request, &Position::start(), BOOK)?;
-    assert_eq!(rt; text.len(), 1728);
-    let told_of_docs = documents_told(alloc, BOOK)?;
-    let want = format!(in alloc; "head 0 -; {}end; whole", told_of_docs.as_str())?;
-    tells(&rt, alloc, HeadKind::Request, &text, want.as_str())
+    assert!(rt; book_is_read_back(rt.alloc())?);
+    Ok(())
+}
+
+// Whether the stream of these documents is this.
+fn is_written(
+    alloc: Global,
+    kind: HeadKind,
+    head: &Position,
+    docs: &str,
+    want: &[u8],
+) -> Result<bool, Fail> {
+    let stream = written(alloc, kind, head, docs)?;
+    Ok(are(&stream, want))
+}
+
+fn one_is_written(alloc: Global) -> Result<bool, Fail> {
+    let docs = "d1 a:1 {\"v\":1}";
+    let want = EXCHANGE.as_bytes();
+    is_written(alloc, HeadKind::Request, &Position::start(), docs, want)
 }
 
 #[test]
 fn one_document(rt: HostRuntime) -> Result<(), Fail> {
-    let alloc = rt.alloc();
-    let text = written(
-        alloc,
-        HeadKind::Request,
-        &Position::start(),
-        "d1 a:1 {\"v\":1}",
-    )?;
-    assert_eq!(rt; text.as_slice(), EXCHANGE.as_bytes());
+    assert!(rt; one_is_written(rt.alloc())?);
     Ok(())
+}
+
+fn deletion(alloc: Global) -> Result<SyncDoc, Fail> {
+    let id = DocId::read(alloc, "d1")?;
+    let rev = Clock::read(alloc, "a:1|b:2")?;
+    Ok(SyncDoc {
+        id,
+        member: Member { rev, content: None },
+        at: position(alloc, 9223372036854775807, "T")?,
+    })
+}
+
+const DELETION: &[u8] =
+    b",\r\n{\"content\":null,\"gen\":9223372036854775807,\"id\":\"d1\",\"rev\":\"a:1|b:2\",\"trans_id\":\"T\"}";
+
+fn deletion_is_written(alloc: Global) -> Result<bool, Fail> {
+    let doc = deletion(alloc)?;
+    let text = write_doc(alloc, &doc)?;
+    Ok(are(text.as_slice(), DELETION))
 }
 
 #[test]
 fn a_deletion(rt: HostRuntime) -> Result<(), Fail> {
-    let alloc = rt.alloc();
-    let doc = SyncDoc {
-        id: DocId::read(alloc, "d1")?,
-        member: Member {
-            rev: Clock::read(alloc, "a:1|b:2")?,
-            content: None,
-        },
-        at: position(alloc, 9223372036854775807, "T")?,
-    };
-    assert_eq!(rt;
-        write_doc(alloc, &doc)?.as_slice(),
-        b",\r\n{\"content\":null,\"gen\":9223372036854775807,\"id\":\"d1\",\"rev\":\"a:1|b:2\",\"trans_id\":\"T\"}".as_slice()
-    );
+    assert!(rt; deletion_is_written(rt.alloc())?);
     Ok(())
+}
+
+const EMPTY_REPLY: &[u8] =
+    b"[\r\n{\"new_generation\":1,\"new_transaction_id\":\"T-00000000000000000000000000000000\"}\r\n]\r\n";
+
+fn empty_reply_is_written(alloc: Global) -> Result<bool, Fail> {
+    let at = position(alloc, 1, "T-00000000000000000000000000000000")?;
+    is_written(alloc, HeadKind::Reply, &at, "", EMPTY_REPLY)
 }
 
 #[test]
 fn a_reply_without_documents(rt: HostRuntime) -> Result<(), Fail> {
-    let alloc = rt.alloc();
-    let at = position(alloc, 1, "T-00000000000000000000000000000000")?;
-    let text = written(alloc, HeadKind::Reply, &at, "")?;
-    assert_eq!(rt; text.len(), 86);
-    assert_eq!(rt;
-        text.as_slice(),
-        b"[\r\n{\"new_generation\":1,\"new_transaction_id\":\"T-00000000000000000000000000000000\"}\r\n]\r\n".as_slice()
-    );
+    assert!(rt; EMPTY_REPLY.len() == 86);
+    assert!(rt; empty_reply_is_written(rt.alloc())?);
     Ok(())
 }

@@ -1,7 +1,6 @@
 //! The worked logs: what changed, positions that fit and that do not, and each call that allocates once.
 use crate::{Change, Check, Entry, Log, goes_on};
 use std::alloc::Global;
-use std::process::Abort;
 use std::test::Fail;
 use u1_base::{DocId, Position, TransId};
 
@@ -51,38 +50,75 @@ fn changes(alloc: Global, log: &Log, generation: u64) -> Result<String, Fail> {
     Ok(words)
 }
 
+// Compared in a function of its own, which keeps the proofs of its callers short.
+fn are_same(text: &str, want: &str) -> bool {
+    text == want
+}
+
+// Whether these changes are told of the log of these lines.
+fn are_changes(alloc: Global, lines: &str, generation: u64, want: &str) -> Result<bool, Fail> {
+    let log = log(alloc, lines)?;
+    let words = changes(alloc, &log, generation)?;
+    Ok(are_same(words.as_str(), want))
+}
+
 #[test]
 fn tells_changes(rt: HostRuntime) -> Result<(), Fail> {
-    let alloc = rt.alloc();
-    let twice = log(alloc, "d1 T1\nd1 T2")?;
-    assert_eq!(rt; changes(alloc, &twice, 0)?.as_str(), "d1 2 T2;");
-    let four = log(alloc, FOUR)?;
-    for generation in 0..2 {
-        let all = changes(alloc, &four, generation)?;
-        assert_eq!(rt; all.as_str(), "d2 2 T2;d1 3 T3;d3 4 T4;");
+    for (lines, generation, want) in [
+        ("d1 T1\nd1 T2", 0, "d1 2 T2;"),
+        (FOUR, 0, "d2 2 T2;d1 3 T3;d3 4 T4;"),
+        (FOUR, 1, "d2 2 T2;d1 3 T3;d3 4 T4;"),
+        (FOUR, 2, "d1 3 T3;d3 4 T4;"),
+        (FOUR, 3, "d3 4 T4;"),
+        (FOUR, 4, ""),
+        (FOUR, u64::MAX, ""),
+    ] {
+        assert!(rt;
+            are_changes(rt.alloc(), lines, generation, want)?,
+            "{generation}"
+        );
     }
-    assert_eq!(rt; changes(alloc, &four, 2)?.as_str(), "d1 3 T3;d3 4 T4;");
-    assert_eq!(rt; changes(alloc, &four, 3)?.as_str(), "d3 4 T4;");
-    assert_eq!(rt; changes(alloc, &four, 4)?.as_str(), "");
-    assert_eq!(rt; changes(alloc, &four, u64::MAX)?.as_str(), "");
     Ok(())
+}
+
+// Whether the last entry of the log has this transaction, where there is one.
+fn ends_at(log: &Log, at: &Position) -> bool {
+    match log.position() {
+        Ok(position) => position == *at,
+        Err(_) => false,
+    }
+}
+
+fn is_empty(log: &Log) -> bool {
+    log.generation() == 0 && log.at(0).is_none() && ends_at(log, &Position::start())
+}
+
+fn has_at(log: &Log, generation: u64, want: &str) -> bool {
+    match log.at(generation) {
+        Some(trans) => are_same(trans.as_str(), want),
+        None => false,
+    }
+}
+
+fn has_four(log: &Log) -> bool {
+    log.generation() == 4
+        && log.entries().len() == 4
+        && log.at(0).is_none()
+        && has_at(log, 1, "T1")
+        && has_at(log, 4, "T4")
+        && log.at(5).is_none()
+}
+
+fn tells_four(alloc: Global) -> Result<bool, Fail> {
+    let four = log(alloc, FOUR)?;
+    let last = position(alloc, 4, "T4")?;
+    Ok(has_four(&four) && ends_at(&four, &last))
 }
 
 #[test]
 fn tells_places(rt: HostRuntime) -> Result<(), Fail> {
-    let alloc = rt.alloc();
-    let empty = Log::new(alloc);
-    assert_eq!(rt; empty.generation(), 0);
-    assert!(rt; empty.at(0).is_none());
-    assert!(rt; empty.position()? == Position::start());
-    let four = log(alloc, FOUR)?;
-    assert_eq!(rt; four.generation(), 4);
-    assert!(rt; four.at(0).is_none());
-    assert_eq!(rt; four.at(1).ok_or("none")?.as_str(), "T1");
-    assert_eq!(rt; four.at(4).ok_or("none")?.as_str(), "T4");
-    assert!(rt; four.at(5).is_none());
-    assert!(rt; four.position()? == position(alloc, 4, "T4")?);
-    assert_eq!(rt; four.entries().len(), 4);
+    assert!(rt; is_empty(&Log::new(rt.alloc())));
+    assert!(rt; tells_four(rt.alloc())?);
     Ok(())
 }
 
@@ -95,15 +131,32 @@ fn answer(alloc: Global, log: &Log, at: &Position) -> Result<String, Fail> {
     })
 }
 
-// Checks the positions `GENERATION ID`, each with the answer, one a line.
-fn checks(rt: &impl Abort, alloc: Global, log: &Log, lines: &str) -> Result<(), Fail> {
+// Whether a position `GENERATION ID` has the answer behind it.
+fn is_answered(alloc: Global, log: &Log, line: &str) -> Result<bool, Fail> {
+    let (generation, rest) = line.split_once(' ').ok_or("no blank")?;
+    let (id, want) = rest.split_once(' ').ok_or("no blank")?;
+    let at = position(alloc, generation.parse::<u32>()?, id)?;
+    let words = answer(alloc, log, &at)?;
+    Ok(are_same(words.as_str(), want))
+}
+
+// The first line that has another answer.
+fn first_wrong<'a>(alloc: Global, log: &Log, lines: &'a str) -> Result<Option<&'a str>, Fail> {
     for line in lines.lines() {
-        let (generation, rest) = line.split_once(' ').ok_or("no blank")?;
-        let (id, want) = rest.split_once(' ').ok_or("no blank")?;
-        let at = position(alloc, generation.parse::<u32>()?, id)?;
-        assert_eq!(rt; answer(alloc, log, &at)?.as_str(), want, "{line:?}");
+        if !is_answered(alloc, log, line)? {
+            return Ok(Some(line));
+        }
     }
-    Ok(())
+    Ok(None)
+}
+
+fn first_wrong_of<'a>(
+    alloc: Global,
+    entries: &str,
+    lines: &'a str,
+) -> Result<Option<&'a str>, Fail> {
+    let log = log(alloc, entries)?;
+    first_wrong(alloc, &log, lines)
 }
 
 const CHECKED: &str = "\
@@ -116,22 +169,36 @@ const CHECKED: &str = "\
 
 #[test]
 fn checks_positions(rt: HostRuntime) -> Result<(), Fail> {
-    let alloc = rt.alloc();
-    let four = log(alloc, FOUR)?;
-    checks(&rt, alloc, &four, CHECKED)?;
-    checks(&rt, alloc, &Log::new(alloc), "0 - fits\n1 X not reached 0")
+    assert_eq!(rt; first_wrong_of(rt.alloc(), FOUR, CHECKED)?, None);
+    assert_eq!(rt;
+        first_wrong_of(rt.alloc(), "", "0 - fits\n1 X not reached 0")?,
+        None
+    );
+    Ok(())
+}
+
+// Whether a told position goes on from a kept one, each as its generation and id.
+fn follows(alloc: Global, kept: (u32, &str), told: (u32, &str)) -> Result<bool, Fail> {
+    let kept = position(alloc, kept.0, kept.1)?;
+    let told = position(alloc, told.0, told.1)?;
+    Ok(goes_on(&kept, &told))
 }
 
 #[test]
 fn told_positions_go_on(rt: HostRuntime) -> Result<(), Fail> {
-    let alloc = rt.alloc();
-    let kept = position(alloc, 2, "T2")?;
-    assert!(rt; goes_on(&kept, &position(alloc, 2, "T2")?));
-    assert!(rt; goes_on(&kept, &position(alloc, 3, "T2")?));
-    assert!(rt; !goes_on(&kept, &position(alloc, 2, "X")?));
-    assert!(rt; !goes_on(&kept, &position(alloc, 1, "T2")?));
-    assert!(rt; !goes_on(&kept, &Position::start()));
-    assert!(rt; goes_on(&Position::start(), &Position::start()));
-    assert!(rt; goes_on(&Position::start(), &kept));
+    for (kept, told, want) in [
+        ((2, "T2"), (2, "T2"), true),
+        ((2, "T2"), (3, "T2"), true),
+        ((2, "T2"), (2, "X"), false),
+        ((2, "T2"), (1, "T2"), false),
+        ((2, "T2"), (0, ""), false),
+        ((0, ""), (0, ""), true),
+        ((0, ""), (2, "T2"), true),
+    ] {
+        assert!(rt;
+            follows(rt.alloc(), kept, told)? == want,
+            "{kept:?} {told:?}"
+        );
+    }
     Ok(())
 }

@@ -1,13 +1,41 @@
 //! The worked rows of ids, made ids as another program makes them, and each call that allocates once.
 use crate::{
-    Bytes, DbName, DocId, IdFault, IdKind, IndexName, Key, Memory, Position, ReplicaUid, Text,
-    Texts, TransId, new_id, u16_at, u32_at, u64_at,
+    Bytes, Database, Document, FormOf, Id, IdFault, IdKind, Index, Key, Memory, Position, Replica,
+    Text, Texts, TransId, Transaction, new_id, u16_at, u32_at, u64_at,
 };
 use std::alloc::Global;
-use std::test::Fail;
+
+// Values are made and compared in functions that borrow and answer `false` where memory runs out:
+// that keeps the proofs of the tests short.
+fn are_same(text: &str, want: &str) -> bool {
+    text == want
+}
+
+// Whether the text is an id of this kind, which is read and copied as it stands.
+fn is_read<F: FormOf>(alloc: Global, text: &str) -> bool {
+    match Id::<F>::read(alloc, text) {
+        Ok(id) => are_same(id.as_str(), text) && is_copied(&id, text),
+        Err(_) => false,
+    }
+}
+
+fn is_copied<F: FormOf>(id: &Id<F>, text: &str) -> bool {
+    match id.copy() {
+        Ok(copy) => are_same(copy.as_str(), text),
+        Err(_) => false,
+    }
+}
+
+// Whether the text is refused as an id of this kind, by just this fault.
+fn is_refused<F: FormOf>(alloc: Global, text: &str, want: IdFault) -> bool {
+    match Id::<F>::read(alloc, text) {
+        Ok(_) => false,
+        Err(fault) => fault == want,
+    }
+}
 
 // The text of so many letters `a`.
-fn letters(alloc: Global, count: usize) -> Result<Text, Fail> {
+fn letters(alloc: Global, count: usize) -> Result<Text, Memory> {
     let mut text = String::new(alloc);
     for _ in 0..count {
         text.push_str("a")?;
@@ -15,32 +43,83 @@ fn letters(alloc: Global, count: usize) -> Result<Text, Fail> {
     Ok(Text::from_string(text))
 }
 
-#[test]
-fn reads_document_ids(rt: HostRuntime) -> Result<(), Fail> {
-    let alloc = rt.alloc();
-    let longest = letters(alloc, 128)?;
-    let too_long = letters(alloc, 129)?;
-    for text in ["d1", "a.b_c-d%", "A", "z9", longest.as_str()] {
-        let id = DocId::read(alloc, text)?;
-        assert_eq!(rt; id.as_str(), text);
-        assert_eq!(rt; id.copy()?.as_str(), text);
+fn is_read_at<F: FormOf>(alloc: Global, length: usize) -> bool {
+    match letters(alloc, length) {
+        Ok(text) => is_read::<F>(alloc, text.as_str()),
+        Err(_) => false,
     }
+}
+
+fn is_too_long_at<F: FormOf>(alloc: Global, length: usize) -> bool {
+    match letters(alloc, length) {
+        Ok(text) => is_refused::<F>(alloc, text.as_str(), IdFault::TooLong(length as u64)),
+        Err(_) => false,
+    }
+}
+
+#[test]
+fn reads_document_ids(rt: HostRuntime) {
+    for text in ["d1", "a.b_c-d%", "A", "z9"] {
+        assert!(rt; is_read::<Document>(rt.alloc(), text), "{text:?}");
+    }
+    assert!(rt; is_read_at::<Document>(rt.alloc(), 128));
+}
+
+#[test]
+fn refuses_document_ids(rt: HostRuntime) {
     for (text, fault) in [
         ("", IdFault::Empty),
-        (too_long.as_str(), IdFault::TooLong(129)),
         ("a b", IdFault::BadByte(1)),
         ("a/b", IdFault::BadByte(1)),
         ("é", IdFault::BadByte(0)),
         ("ab\n", IdFault::BadByte(2)),
     ] {
-        assert_eq!(rt; DocId::read(alloc, text).err(), Some(fault), "{text:?}");
+        assert!(rt; is_refused::<Document>(rt.alloc(), text, fault), "{text:?}");
     }
-    Ok(())
+    assert!(rt; is_too_long_at::<Document>(rt.alloc(), 129));
+}
+
+// The longest text of this kind has 64 bytes.
+fn is_longest_at_64<F: FormOf>(alloc: Global) -> bool {
+    is_read_at::<F>(alloc, 64) && is_too_long_at::<F>(alloc, 65)
 }
 
 #[test]
-fn faults_say_why(rt: HostRuntime) -> Result<(), Fail> {
+fn reads_the_other_ids(rt: HostRuntime) {
     let alloc = rt.alloc();
+    assert!(rt; is_longest_at_64::<Replica>(alloc));
+    assert!(rt; is_read::<Replica>(alloc, "a_b-C9"));
+    assert!(rt; is_longest_at_64::<Transaction>(alloc));
+    assert!(rt; is_read::<Transaction>(alloc, "T-1"));
+    assert!(rt; is_longest_at_64::<Index>(alloc));
+    assert!(rt; is_read::<Index>(alloc, "a.b_c-d"));
+    assert!(rt; is_longest_at_64::<Database>(alloc));
+}
+
+#[test]
+fn refuses_the_other_ids(rt: HostRuntime) {
+    let alloc = rt.alloc();
+    assert!(rt; is_refused::<Replica>(alloc, "a.b", IdFault::BadByte(1)));
+    assert!(rt; is_refused::<Transaction>(alloc, "T_1", IdFault::BadByte(1)));
+    assert!(rt; is_refused::<Database>(alloc, "a%", IdFault::BadByte(1)));
+}
+
+fn says(alloc: Global, fault: IdFault, want: &str) -> bool {
+    match format!(in alloc; "{fault}") {
+        Ok(text) => are_same(text.as_str(), want),
+        Err(_) => false,
+    }
+}
+
+fn memory_says(alloc: Global, want: &str) -> bool {
+    match format!(in alloc; "{Memory}") {
+        Ok(text) => are_same(text.as_str(), want),
+        Err(_) => false,
+    }
+}
+
+#[test]
+fn faults_say_why(rt: HostRuntime) {
     for (fault, want) in [
         (IdFault::Empty, "the id is empty"),
         (
@@ -50,68 +129,28 @@ fn faults_say_why(rt: HostRuntime) -> Result<(), Fail> {
         (IdFault::BadByte(1), "byte 1 of the id is not allowed in it"),
         (IdFault::Memory, "out of memory"),
     ] {
-        assert_eq!(rt; format!(in alloc; "{fault}")?.as_str(), want);
+        assert!(rt; says(rt.alloc(), fault, want), "{want}");
     }
-    assert_eq!(rt; format!(in alloc; "{Memory}")?.as_str(), "out of memory");
-    Ok(())
+    assert!(rt; memory_says(rt.alloc(), "out of memory"));
 }
 
-#[test]
-fn reads_the_other_ids(rt: HostRuntime) -> Result<(), Fail> {
-    let alloc = rt.alloc();
-    let longest = letters(alloc, 64)?;
-    let too_long = letters(alloc, 65)?;
-    assert_eq!(rt;
-        ReplicaUid::read(alloc, longest.as_str())?.as_str(),
-        longest.as_str()
-    );
-    assert_eq!(rt;
-        TransId::read(alloc, longest.as_str())?.as_str(),
-        longest.as_str()
-    );
-    assert_eq!(rt;
-        IndexName::read(alloc, longest.as_str())?.as_str(),
-        longest.as_str()
-    );
-    assert_eq!(rt;
-        DbName::read(alloc, longest.as_str())?.as_str(),
-        longest.as_str()
-    );
-    assert_eq!(rt;
-        ReplicaUid::read(alloc, too_long.as_str()).err(),
-        Some(IdFault::TooLong(65))
-    );
-    assert_eq!(rt;
-        TransId::read(alloc, too_long.as_str()).err(),
-        Some(IdFault::TooLong(65))
-    );
-    assert_eq!(rt;
-        IndexName::read(alloc, too_long.as_str()).err(),
-        Some(IdFault::TooLong(65))
-    );
-    assert_eq!(rt;
-        DbName::read(alloc, too_long.as_str()).err(),
-        Some(IdFault::TooLong(65))
-    );
-    assert_eq!(rt; ReplicaUid::read(alloc, "a_b-C9")?.as_str(), "a_b-C9");
-    assert_eq!(rt;
-        ReplicaUid::read(alloc, "a.b").err(),
-        Some(IdFault::BadByte(1))
-    );
-    assert_eq!(rt; TransId::read(alloc, "T-1")?.as_str(), "T-1");
-    assert_eq!(rt;
-        TransId::read(alloc, "T_1").err(),
-        Some(IdFault::BadByte(1))
-    );
-    assert_eq!(rt; IndexName::read(alloc, "a.b_c-d")?.as_str(), "a.b_c-d");
-    assert_eq!(rt; DbName::read(alloc, "a%").err(), Some(IdFault::BadByte(1)));
-    Ok(())
+fn is_made(alloc: Global, seed: u128, kind: IdKind, number: u64, want: &str) -> bool {
+    match new_id(alloc, seed, kind, number) {
+        Ok(text) => are_same(text.as_str(), want),
+        Err(_) => false,
+    }
+}
+
+fn is_made_as_an_id(alloc: Global, want: &str) -> bool {
+    match TransId::made(alloc, 0, IdKind::Trans, 1) {
+        Ok(id) => are_same(id.as_str(), want),
+        Err(_) => false,
+    }
 }
 
 // The digits are those of Python's `uuid.uuid5(uuid.UUID(int=seed), name).hex`.
 #[test]
-fn makes_ids(rt: HostRuntime) -> Result<(), Fail> {
-    let alloc = rt.alloc();
+fn makes_ids(rt: HostRuntime) {
     let seed = 0x0123_4567_89ab_cdef_0123_4567_89ab_cdef;
     for (seed, kind, number, want) in [
         (0, IdKind::Doc, 1, "D-366de83d0d1d5266974182e212cfb767"),
@@ -131,53 +170,105 @@ fn makes_ids(rt: HostRuntime) -> Result<(), Fail> {
             "T-69a1d2df636f5278adecf158bb0b4d35",
         ),
     ] {
-        assert_eq!(rt; new_id(alloc, seed, kind, number)?.as_str(), want);
+        assert!(rt; is_made(rt.alloc(), seed, kind, number, want), "{want}");
     }
-    let id = TransId::made(alloc, 0, IdKind::Trans, 1)?;
-    assert_eq!(rt; id.as_str(), "T-a12aa9bff3485ffcbd67876eea76a865");
-    Ok(())
+    assert!(rt; is_made_as_an_id(rt.alloc(), "T-a12aa9bff3485ffcbd67876eea76a865"));
 }
 
-#[test]
-fn spells_fields(rt: HostRuntime) -> Result<(), Fail> {
-    let mut bytes = Bytes::new(rt.alloc());
+fn spelled(alloc: Global) -> Result<Bytes, Memory> {
+    let mut bytes = Bytes::new(alloc);
     bytes.push(1)?;
     bytes.push_u16(0x0203)?;
     bytes.push_u32(0x0405_0607)?;
     bytes.push_u64(0x0809_0a0b_0c0d_0e0f)?;
     bytes.push_text("db")?;
     bytes.extend(&[255])?;
-    let want = [
-        1, 2, 3, 4, 5, 6, 7, 8, 9, 10, 11, 12, 13, 14, 15, 0, 2, 100, 98, 255,
-    ];
-    assert_eq!(rt; bytes.as_slice(), want.as_slice());
-    assert_eq!(rt; bytes.len(), 20);
-    assert_eq!(rt; u16_at(&want, 1), 0x0203);
-    assert_eq!(rt; u32_at(&want, 3), 0x0405_0607);
-    assert_eq!(rt; u64_at(&want, 7), 0x0809_0a0b_0c0d_0e0f);
-    Ok(())
+    Ok(bytes)
+}
+
+const SPELLED: [u8; 20] = [
+    1, 2, 3, 4, 5, 6, 7, 8, 9, 10, 11, 12, 13, 14, 15, 0, 2, 100, 98, 255,
+];
+
+fn is_spelled(alloc: Global) -> bool {
+    match spelled(alloc) {
+        Ok(bytes) => bytes.len() == 20 && bytes.as_slice() == SPELLED.as_slice(),
+        Err(_) => false,
+    }
 }
 
 #[test]
-fn keeps_keys_and_positions(rt: HostRuntime) -> Result<(), Fail> {
-    let alloc = rt.alloc();
+fn spells_fields(rt: HostRuntime) {
+    assert!(rt; is_spelled(rt.alloc()));
+    assert_eq!(rt; u16_at(&SPELLED, 1), 0x0203);
+    assert_eq!(rt; u32_at(&SPELLED, 3), 0x0405_0607);
+    assert_eq!(rt; u64_at(&SPELLED, 7), 0x0809_0a0b_0c0d_0e0f);
+}
+
+// The key of `ann` and `work`.
+fn key(alloc: Global) -> Result<Key, Memory> {
     let mut texts = Texts::new(alloc);
     texts.push(Text::copy(alloc, "ann")?)?;
     texts.push(Text::copy(alloc, "work")?)?;
-    let key = Key::of(texts).copy()?;
-    assert_eq!(rt; key.texts().len(), 2);
-    assert_eq!(rt; key.texts()[0].as_str(), "ann");
-    assert_eq!(rt; key.texts()[1].duplicate()?.as_str(), "work");
-    let at = Position {
+    Key::of(texts).copy()
+}
+
+fn is_duplicated(text: &Text, want: &str) -> bool {
+    match text.duplicate() {
+        Ok(copy) => are_same(copy.as_str(), want),
+        Err(_) => false,
+    }
+}
+
+fn is_key(key: &Key) -> bool {
+    let texts = key.texts();
+    texts.len() == 2 && are_same(texts[0].as_str(), "ann") && is_duplicated(&texts[1], "work")
+}
+
+fn is_key_kept(alloc: Global) -> bool {
+    match key(alloc) {
+        Ok(key) => is_key(&key),
+        Err(_) => false,
+    }
+}
+
+#[test]
+fn keeps_keys(rt: HostRuntime) {
+    assert!(rt; is_key_kept(rt.alloc()));
+}
+
+// Generation 3 with this transaction id.
+fn third(alloc: Global, trans: &str) -> Result<Position, IdFault> {
+    Ok(Position {
         generation: 3,
-        trans: Some(TransId::read(alloc, "T-3")?),
-    };
-    assert!(rt; at.copy()? == at);
-    assert!(rt; Position::start() != at);
-    let other = Position {
-        generation: 3,
-        trans: Some(TransId::read(alloc, "T-4")?),
-    };
-    assert!(rt; other != at);
-    Ok(())
+        trans: Some(TransId::read(alloc, trans)?),
+    })
+}
+
+fn is_copied_place(at: &Position) -> bool {
+    match at.copy() {
+        Ok(copy) => copy == *at,
+        Err(_) => false,
+    }
+}
+
+fn is_other_place(at: &Position, alloc: Global, trans: &str) -> bool {
+    match third(alloc, trans) {
+        Ok(other) => other != *at,
+        Err(_) => false,
+    }
+}
+
+fn is_kept(alloc: Global) -> bool {
+    match third(alloc, "T-3") {
+        Ok(at) => {
+            is_copied_place(&at) && is_other_place(&at, alloc, "T-4") && Position::start() != at
+        }
+        Err(_) => false,
+    }
+}
+
+#[test]
+fn keeps_positions(rt: HostRuntime) {
+    assert!(rt; is_kept(rt.alloc()));
 }

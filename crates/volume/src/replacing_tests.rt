@@ -1,12 +1,11 @@
 //! Putting a new image in the place of the old one: its bytes, each call that fails, and what a
 //! crash leaves.
-use crate::tests::{EMPTY, Left, ONE, ONE_1, Seen, calls, disks_of, hold};
+use crate::tests::{EMPTY, ONE, ONE_1, Seen, calls, disks_of, hold, leave};
 use crate::{StoreFault, open_images, other_side, put_in_place};
 use disk_model::MemDisk;
 use disks::{DiskName, Disks};
 use journal::NewImage;
 use std::alloc::Global;
-use std::test::Fail;
 
 // Opens the store and writes what it reads as on the other side. It tells the length of the image
 // then.
@@ -32,31 +31,41 @@ fn empty_over(alloc: Global, disks: &mut Disks<MemDisk>) -> Result<u64, StoreFau
 }
 
 // Whether a move to the other side and another one back leave these files.
-fn moves(alloc: Global) -> Result<bool, Fail> {
-    let mut disks = disks_of(alloc, (&[0], ONE, b"other"), DiskName::Root, &[])?;
-    let copied = copy_over(alloc, &mut disks) == Ok(32) && hold(&disks, (&[1], ONE, ONE));
-    let emptied = empty_over(alloc, &mut disks) == Ok(24) && hold(&disks, (&[0], EMPTY, ONE));
-    Ok(copied && emptied)
+fn moves_back(alloc: Global, disks: &mut Disks<MemDisk>) -> bool {
+    copy_over(alloc, disks) == Ok(32)
+        && hold(disks, (&[1], ONE, ONE))
+        && empty_over(alloc, disks) == Ok(24)
+        && hold(disks, (&[0], EMPTY, ONE))
+}
+
+fn moves(alloc: Global) -> bool {
+    match disks_of(alloc, (&[0], ONE, b"other"), DiskName::Root, &[]) {
+        Ok(mut disks) => moves_back(alloc, &mut disks),
+        Err(_) => false,
+    }
 }
 
 #[test]
-fn moves_to_the_other_side_and_back(rt: HostRuntime) -> Result<(), Fail> {
-    assert!(rt; moves(rt.alloc())?);
-    Ok(())
+fn moves_to_the_other_side_and_back(rt: HostRuntime) {
+    assert!(rt; moves(rt.alloc()));
 }
 
 // Whether an image of format 1 is moved as one of format 2, in five calls. Opening is six here: a
 // sync, a look and a read of each of two disks.
-fn is_renewed(alloc: Global) -> Result<bool, Fail> {
-    let mut disks = disks_of(alloc, (&[254], ONE_1, b""), DiskName::Root, &[])?;
-    let done = copy_over(alloc, &mut disks) == Ok(32);
-    Ok(done && hold(&disks, (&[1], ONE_1, ONE)) && calls(&disks) == 11)
+fn is_renewed(alloc: Global) -> bool {
+    match disks_of(alloc, (&[254], ONE_1, b""), DiskName::Root, &[]) {
+        Ok(mut disks) => {
+            copy_over(alloc, &mut disks) == Ok(32)
+                && hold(&disks, (&[1], ONE_1, ONE))
+                && calls(&disks) == 11
+        }
+        Err(_) => false,
+    }
 }
 
 #[test]
-fn writes_format_2_in_the_place_of_format_1(rt: HostRuntime) -> Result<(), Fail> {
-    assert!(rt; is_renewed(rt.alloc())?);
-    Ok(())
+fn writes_format_2_in_the_place_of_format_1(rt: HostRuntime) {
+    assert!(rt; is_renewed(rt.alloc()));
 }
 
 // Whether the move answers this where the call of this number fails, and a crash leaves just what
@@ -66,12 +75,12 @@ fn leaves(
     failing: (DiskName, u64),
     answer: Result<u64, StoreFault>,
     is: &[Seen],
-) -> Result<bool, Fail> {
+) -> bool {
     let (name, number) = failing;
-    let mut disks = disks_of(alloc, (&[0], ONE_1, b"old"), name, &[number])?;
-    let done = empty_over(alloc, &mut disks) == answer;
-    let left = Left::of(alloc, &mut disks)?;
-    Ok(done && left.all(alloc, is)?)
+    match disks_of(alloc, (&[0], ONE_1, b"old"), name, &[number]) {
+        Ok(mut disks) => { empty_over(alloc, &mut disks) == answer && leave(alloc, &mut disks, is) }
+        Err(_) => false,
+    }
 }
 
 const FAILED: Result<u64, StoreFault> = Err(StoreFault::Disk);
@@ -81,30 +90,26 @@ const OLD: Seen = Seen::Stands(DiskName::Left, 1, 1);
 const NEW: Seen = Seen::Stands(DiskName::Right, 2, 0);
 
 #[test]
-fn leaves_the_old_image_until_the_root_is_written(rt: HostRuntime) -> Result<(), Fail> {
+fn leaves_the_old_image_until_the_root_is_written(rt: HostRuntime) {
     for number in 0..3u64 {
         let failing = (DiskName::Right, number);
-        assert!(rt; leaves(rt.alloc(), failing, FAILED, &[OLD])?, "{number}");
+        assert!(rt; leaves(rt.alloc(), failing, FAILED, &[OLD]), "{number}");
     }
-    Ok(())
 }
 
 // The root is given three calls when it is read, and then a write and a sync.
 #[test]
-fn leaves_the_old_image_or_the_new_one(rt: HostRuntime) -> Result<(), Fail> {
+fn leaves_the_old_image_or_the_new_one(rt: HostRuntime) {
     for number in 3..5u64 {
         let failing = (DiskName::Root, number);
         assert!(rt;
-            leaves(rt.alloc(), failing, FAILED, &[OLD, NEW])?,
+            leaves(rt.alloc(), failing, FAILED, &[OLD, NEW]),
             "{number}"
         );
     }
-    Ok(())
 }
 
 #[test]
-fn leaves_the_new_image_when_it_is_named(rt: HostRuntime) -> Result<(), Fail> {
-    let failing = (DiskName::Root, 5);
-    assert!(rt; leaves(rt.alloc(), failing, Ok(24), &[NEW])?);
-    Ok(())
+fn leaves_the_new_image_when_it_is_named(rt: HostRuntime) {
+    assert!(rt; leaves(rt.alloc(), (DiskName::Root, 5), Ok(24), &[NEW]));
 }

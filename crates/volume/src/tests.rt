@@ -4,9 +4,8 @@ use disk_model::{Choice, Disk, MemDisk};
 use disks::{DiskName, Disks};
 use journal::Header;
 use std::alloc::Global;
-use std::test::Fail;
 use u1_base::limits::{GREATEST_IMAGE_LIMIT, LEAST_IMAGE_LIMIT};
-use u1_base::{Bytes, DbName, Memory, Numbers, ReplicaUid};
+use u1_base::{Bytes, DbName, IdFault, Memory, Numbers, ReplicaUid};
 
 /// The empty image of the database `db` at the replica `a`, with the greatest limit.
 pub(crate) const EMPTY: &[u8] = b"U1DBVOL\x02\0\x02db\0\x01a\0\0\x01\0\0\0\0\0\0";
@@ -60,11 +59,16 @@ pub(crate) fn disks_of(
     Ok(Disks::new(root, left, right))
 }
 
+// Compared in a function of its own, which keeps the proofs of its callers short.
+pub(crate) fn are(bytes: &[u8], want: &[u8]) -> bool {
+    bytes == want
+}
+
 /// Whether the three hold these bytes.
 pub(crate) fn hold(disks: &Disks<MemDisk>, bytes: Three) -> bool {
-    disks.disk(DiskName::Root).bytes() == bytes.0
-        && disks.disk(DiskName::Left).bytes() == bytes.1
-        && disks.disk(DiskName::Right).bytes() == bytes.2
+    are(disks.disk(DiskName::Root).bytes(), bytes.0)
+        && are(disks.disk(DiskName::Left).bytes(), bytes.1)
+        && are(disks.disk(DiskName::Right).bytes(), bytes.2)
 }
 
 /// How many calls the three were given.
@@ -75,11 +79,16 @@ pub(crate) fn calls(disks: &Disks<MemDisk>) -> u64 {
     root.saturating_add(left).saturating_add(right)
 }
 
-pub(crate) fn header(alloc: Global, limit: u64) -> Result<Header, Fail> {
+pub(crate) fn header(alloc: Global, limit: u64) -> Result<Header, IdFault> {
     let name = DbName::read(alloc, "db")?;
     let uid = ReplicaUid::read(alloc, "a")?;
     let limit = limit.max(LEAST_IMAGE_LIMIT).min(GREATEST_IMAGE_LIMIT);
     Ok(Header { name, uid, limit })
+}
+
+/// Whether it has the name and the uid of the header above.
+pub(crate) fn is_named(header: &Header) -> bool {
+    are(header.name.as_str().as_bytes(), b"db") && are(header.uid.as_str().as_bytes(), b"a")
 }
 
 /// Opens a store whose files hold these bytes.
@@ -122,16 +131,16 @@ fn all_left(
     Ok(all)
 }
 
-/// What a crash now leaves of the three, each by each choice.
+// What a crash now leaves of the three, each by each choice.
 #[derive(Drop)]
-pub(crate) struct Left {
+struct Left {
     roots: Vec<Bytes>,
     lefts: Vec<Bytes>,
     rights: Vec<Bytes>,
 }
 
 impl Left {
-    pub(crate) fn of(alloc: Global, disks: &mut Disks<MemDisk>) -> Result<Left, Memory> {
+    fn of(alloc: Global, disks: &mut Disks<MemDisk>) -> Result<Left, Memory> {
         Ok(Left {
             roots: all_left(alloc, disks, DiskName::Root)?,
             lefts: all_left(alloc, disks, DiskName::Left)?,
@@ -139,19 +148,42 @@ impl Left {
         })
     }
 
-    /// Whether all that a crash leaves is found to be so.
-    pub(crate) fn all(&self, alloc: Global, is: &[Seen]) -> Result<bool, Memory> {
-        let mut all = true;
+    // Whether all that a crash leaves is found to be so.
+    fn all(&self, alloc: Global, is: &[Seen]) -> bool {
         for root in &self.roots {
-            for left in &self.lefts {
-                for right in &self.rights {
-                    let bytes = (root.as_slice(), left.as_slice(), right.as_slice());
-                    let found = found_as(&opened(alloc, bytes)?);
-                    all = all && is.contains(&found);
+            if !self.all_with(alloc, root.as_slice(), is) {
+                return false;
+            }
+        }
+        true
+    }
+
+    fn all_with(&self, alloc: Global, root: &[u8], is: &[Seen]) -> bool {
+        for left in &self.lefts {
+            for right in &self.rights {
+                let bytes = (root, left.as_slice(), right.as_slice());
+                if !is_found(alloc, bytes, is) {
+                    return false;
                 }
             }
         }
-        Ok(all)
+        true
+    }
+}
+
+// Whether the store of these files is found to be one of those.
+fn is_found(alloc: Global, bytes: Three, is: &[Seen]) -> bool {
+    match opened(alloc, bytes) {
+        Ok(found) => is.contains(&found_as(&found)),
+        Err(_) => false,
+    }
+}
+
+/// Whether a crash now leaves just what is listed.
+pub(crate) fn leave(alloc: Global, disks: &mut Disks<MemDisk>, is: &[Seen]) -> bool {
+    match Left::of(alloc, disks) {
+        Ok(left) => left.all(alloc, is),
+        Err(_) => false,
     }
 }
 
