@@ -1,6 +1,6 @@
 //! Words that are commands.
 use super::{read_line, read_list};
-use crate::{Command, WordsFault};
+use crate::{Command, WordsFault, operands_shown};
 use std::alloc::Global;
 use std::test::Fail;
 
@@ -82,18 +82,17 @@ fn name_of(command: &Command) -> &'static str {
     }
 }
 
-// Whether the line is the command that its second word names.
-fn is_named(alloc: Global, line: &str) -> bool {
-    match (read_line(alloc, line), line.split(' ').nth(1)) {
-        (Ok(command), Some(word)) => name_of(&command) == word,
-        _ => false,
+fn is_named(answer: &Result<Command, WordsFault>, word: &str) -> bool {
+    match answer {
+        Ok(command) => name_of(command) == word,
+        Err(_) => false,
     }
 }
 
 #[test]
 fn each_command(rt: HostRuntime) -> Result<(), Fail> {
     for line in LINES.iter() {
-        assert!(rt; is_named(rt.alloc(), line), "{line}");
+        assert!(rt; is_read(rt.alloc(), line, Wanted::Name), "{line}");
     }
     Ok(())
 }
@@ -167,47 +166,67 @@ fn is_query(answer: &Result<Command, WordsFault>) -> bool {
     }
 }
 
-fn init_is_read(alloc: Global) -> bool {
-    is_init(&read_line(alloc, "DIR init --limit 4096 -- db a"))
+// What a line is read as.
+enum Wanted {
+    /// The command that its second word names.
+    Name,
+    Init,
+    Get,
+    GetOfOption,
+    Node,
 }
 
-fn get_is_read(alloc: Global) -> bool {
-    is_get(&read_line(alloc, "DIR get d1 --deleted"), "d1", true)
+fn is_wanted(answer: &Result<Command, WordsFault>, word: &str, wanted: Wanted) -> bool {
+    match wanted {
+        Wanted::Name => is_named(answer, word),
+        Wanted::Init => is_init(answer),
+        Wanted::Get => is_get(answer, "d1", true),
+        Wanted::GetOfOption => is_get(answer, "--deleted", false),
+        Wanted::Node => is_node(answer),
+    }
 }
 
-fn get_of_option_is_read(alloc: Global) -> bool {
-    is_get(
-        &read_line(alloc, "DIR get -- --deleted"),
-        "--deleted",
-        false,
-    )
+// Dropping a command is dear to prove, so this is the one helper that holds one.
+fn is_read(alloc: Global, line: &str, wanted: Wanted) -> bool {
+    let answer = read_line(alloc, line);
+    is_wanted(&answer, line.split(' ').nth(1).unwrap_or(""), wanted)
 }
 
-fn node_is_read(alloc: Global) -> bool {
-    is_node(&read_line(alloc, "DIR node 80 http://h:8080/db 7 0"))
-}
-
-fn range_is_read(alloc: Global) -> bool {
-    let words = ["DIR", "range", "i", "open", " [\"a\", \"b c\"] "];
-    is_range(&read_list(alloc, &words))
-}
-
-fn query_is_read(alloc: Global) -> bool {
-    is_query(&read_list(alloc, &["", "query", "--", "i", "", "-a b"]))
+fn are_blanks_read(alloc: Global) -> bool {
+    let range = ["DIR", "range", "i", "open", " [\"a\", \"b c\"] "];
+    let query = ["", "query", "--", "i", "", "-a b"];
+    let range = read_list(alloc, &range);
+    let query = read_list(alloc, &query);
+    is_range(&range) && is_query(&query)
 }
 
 #[test]
 fn operands_and_options(rt: HostRuntime) -> Result<(), Fail> {
-    assert!(rt; init_is_read(rt.alloc()));
-    assert!(rt; get_is_read(rt.alloc()));
-    assert!(rt; get_of_option_is_read(rt.alloc()));
+    let alloc = rt.alloc();
+    assert!(rt; is_read(alloc, "DIR init --limit 4096 -- db a", Wanted::Init));
+    assert!(rt; is_read(alloc, "DIR get d1 --deleted", Wanted::Get));
+    assert!(rt; is_read(alloc, "DIR get -- --deleted", Wanted::GetOfOption));
+    assert!(rt; is_read(alloc, "DIR node 80 http://h:8080/db 7 0", Wanted::Node));
     Ok(())
 }
 
 #[test]
-fn operands_of_several_kinds(rt: HostRuntime) -> Result<(), Fail> {
-    assert!(rt; node_is_read(rt.alloc()));
-    assert!(rt; range_is_read(rt.alloc()));
-    assert!(rt; query_is_read(rt.alloc()));
+fn operands_with_blanks(rt: HostRuntime) -> Result<(), Fail> {
+    assert!(rt; are_blanks_read(rt.alloc()));
+    Ok(())
+}
+
+fn is_shown(word: &str, wanted: &str) -> bool {
+    match operands_shown(word) {
+        Some(shown) => shown == wanted,
+        None => false,
+    }
+}
+
+#[test]
+fn operands_for_people(rt: HostRuntime) -> Result<(), Fail> {
+    assert!(rt; is_shown("put", "ID [REV]"));
+    assert!(rt; is_shown("info", ""));
+    assert!(rt; !is_shown("puts", ""));
     Ok(())
 }
