@@ -51,7 +51,9 @@ abbrev pub accept_parts : Accept → AcceptParts
 accept_parts a = (a.rev, (a.making, (a.parents, (a.current, a.content))))
 
 unfoldable pub accept : Format → Field Accept
-accept format = mapped (clock format then λ _. making then λ _. clocks format then λ _. flag then λ _. content) accept_of accept_parts
+accept format =
+    mapped (clock format then λ _. making then λ _. clocks format then λ _. flag then λ _. content)
+    accept_of accept_parts
 
 -- ---- moves
 

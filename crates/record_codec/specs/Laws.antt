@@ -22,14 +22,18 @@ pub record Says (us : List Text) (body : List ℕ) (r : Recorded) : Type 0 where
 -- where the same uids have numbers, each step has one body, and each body says one step
 pub record BodiesReadBack : Type 0 where
   -- the body of a step is read as that step
-  pub back : (us : List Text) (x : Step) → IsStep x → HasNumbers us x → step_in us (body_of us x) ≡ Ok (record { step = x; added = added_of us x })
+  pub back : (us : List Text) (x : Step) → IsStep x → HasNumbers us x
+      → step_in us (body_of us x) ≡ Ok (record { step = x; added = added_of us x })
   -- what is read as a step is its body
-  pub only : (us : List Text) (body : List ℕ) (r : Recorded) → AreNumbered us → AreBytes body → step_in us body ≡ Ok r → Says us body r
+  pub only : (us : List Text) (body : List ℕ) (r : Recorded) → AreNumbered us → AreBytes body
+      → step_in us body ≡ Ok r → Says us body r
   -- two steps have two bodies
-  pub apart : (us : List Text) (x y : Step) → IsStep x → IsStep y → HasNumbers us x → HasNumbers us y → body_of us x ≡ body_of us y → x ≡ y
+  pub apart : (us : List Text) (x y : Step) → IsStep x → IsStep y → HasNumbers us x → HasNumbers us y
+      → body_of us x ≡ body_of us y → x ≡ y
 
 -- the same of format 1, in which no uid has a number
 pub record FirstBodiesReadBack : Type 0 where
   pub back : (x : Step) → IsStep x → first_step_in (first_body_of x) ≡ Ok x
-  pub only : (body : List ℕ) (x : Step) → AreBytes body → first_step_in body ≡ Ok x → IsStep x × (body ≡ first_body_of x)
+  pub only : (body : List ℕ) (x : Step) → AreBytes body → first_step_in body ≡ Ok x
+      → IsStep x × (body ≡ first_body_of x)
   pub apart : (x y : Step) → IsStep x → IsStep y → first_body_of x ≡ first_body_of y → x ≡ y

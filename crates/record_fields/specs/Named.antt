@@ -24,11 +24,13 @@ reference_bytes t u None = to_be_bytes w32 (length (uids t)) ++ (id Replica).spe
 abbrev pub introduced : ℕ → Read Uid → Read Uid
 introduced left (Err _) = Err left
 introduced left (Ok u) =
-    if is_some (number_of (uids u.1.table) u.0) then Err left else Ok (u.0, record { table = with_uid u.1.table u.0; bytes = u.1.bytes })
+    if is_some (number_of (uids u.1.table) u.0) then Err left
+    else Ok (u.0, record { table = with_uid u.1.table u.0; bytes = u.1.bytes })
 
 abbrev pub referred : ℕ → Option Uid → ℕ → Rest → Read Uid
 referred left (Some u) n behind = Ok (u, behind)
-referred left None n behind = if n == length (uids behind.table) then introduced left ((id Replica).read behind) else Err left
+referred left None n behind =
+    if n == length (uids behind.table) then introduced left ((id Replica).read behind) else Err left
 
 abbrev pub reference_at : ℕ → Read ℕ → Read Uid
 reference_at left (Err _) = Err left

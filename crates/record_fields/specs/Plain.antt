@@ -41,7 +41,8 @@ bytes n = record { named = λ _. []; spelled = λ _ s. s; read = bytes_at n }
 
 abbrev pub number_at : Width → Rest → Read ℕ
 number_at w r =
-    if nat_lt (length r.bytes) (byte_len w) then no_field r else Ok (from_be_bytes w (take (byte_len w) r.bytes), beyond (byte_len w) r)
+    if nat_lt (length r.bytes) (byte_len w) then no_field r
+    else Ok (from_be_bytes w (take (byte_len w) r.bytes), beyond (byte_len w) r)
 
 -- a number in so many bytes, the highest first
 abbrev pub number : Width → Field ℕ

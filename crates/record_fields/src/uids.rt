@@ -9,8 +9,8 @@ use u1_base::{Items, Memory, ReplicaUid};
 /// A list of uids.
 pub type ReplicaUids = Items<ReplicaUid>;
 
-/// The uids that have numbers, the header's first: the number of a uid is its place, counted from 0.
-/// Contracts see them as their list, and how many more may be added without memory.
+/// The uids that have numbers, the header's first: the number of a uid is its place, counted from
+/// 0. Contracts see them as their list, and how many more may be added without memory.
 #[derive(Debug, Drop)]
 pub struct Uids {
     list: Vec<ReplicaUid>,

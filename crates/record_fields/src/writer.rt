@@ -12,7 +12,7 @@ ghost use Rattle.record_fields.specs.Plain.{byte, content, expression, expressio
 ghost use Rattle.record_fields.specs.Reading.{texts_of};
 ghost use Rattle.record_fields.specs.Table.{number_of, uids};
 ghost use Rattle.record_fields.specs.Writing.{unwritten, with_field};
-ghost use Rattle.record_fields.specs.declared.format.Format.TheVariants as format_of;
+ghost use Rattle.record_fields.specs.declared.format.Format.TheVariants.{Second};
 
 use crate::uids::{ReplicaUids, Uids, place_of};
 use content::Content;
@@ -169,7 +169,7 @@ impl<'a> Writer<'a> {
     /// The entries of a clock behind one byte with their number.
     #[tactic(auto, using(crate::proofs::Writings::clock_is))]
     pub fn clock(&mut self, value: &Clock) -> Result<(), Memory>
-        ensures { OnOk result (self.new ≡ with_field (clock format_of.Second) value.now self.old) }
+        ensures { OnOk result (self.new ≡ with_field (clock Second) value.now self.old) }
     {
         let entries = value.entries();
         self.byte(entries.len() as u8)?;
@@ -198,7 +198,7 @@ impl<'a> Writer<'a> {
     #[tactic(auto, using(crate::proofs::Writings::clocks_is))]
     pub fn clocks(&mut self, values: &[Clock]) -> Result<(), Memory>
         requires { length values.now < 2 ^ 32 }
-        ensures { OnOk result (self.new ≡ with_field (clocks format_of.Second) values.now self.old) }
+        ensures { OnOk result (self.new ≡ with_field (clocks Second) values.now self.old) }
     {
         self.number(values.len() as u32)?;
         self.each_clock(values)
@@ -206,7 +206,7 @@ impl<'a> Writer<'a> {
 
     fn each_clock(&mut self, values: &[Clock]) -> Result<(), Memory>
         ensures { OnOk result
-            (self.new ≡ with_field (each (clock format_of.Second) (length values.now)) values.now self.old) }
+            (self.new ≡ with_field (each (clock Second) (length values.now)) values.now self.old) }
     {
         for value in values {
             self.clock(value)?;
@@ -258,7 +258,8 @@ impl<'a> Writer<'a> {
     fn each_expression(&mut self, values: &[Expr]) -> Result<(), Memory>
         requires { list_all is_spelled (texts_of values.now) ≡ true }
         ensures { OnOk result
-            (self.new ≡ with_field (each expression (length values.now)) (texts_of values.now) self.old) }
+            (self.new ≡ with_field
+            (each expression (length values.now)) (texts_of values.now) self.old) }
     {
         for value in values {
             let text = value.text(self.alloc)?;
