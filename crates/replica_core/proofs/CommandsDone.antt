@@ -1,10 +1,10 @@
 -- What a command comes to, by how its call ended.
-use Rattle.std.proofs.Common.{◌≡◌, [], ◌∷◌, Option, None, Some, Result, Ok, Err, refl, sym, ap}
+use Rattle.std.proofs.Common.{◌≡◌, [], ◌∷◌, Option, None, Some, Ok, Err, refl, sym, ap}
 use Rattle.std.specs.Prelude.{option_to_list}
 use Rattle.conflicts.specs.State.{State, Step, after_all}
 use Rattle.replica_core.specs.Replica.{after_step}
 use Rattle.replica_core.specs.Calls.{Decided, Answers, Refuses, IsAnswer, IsRefusal, step_in}
-use Rattle.replica_core.specs.Commands.Effects.{Effect, Line, Refusal, calls}
+use Rattle.replica_core.specs.Commands.Effects.{Line, Refusal, calls}
 
 -- the call answered: the decided step is made, if there is one, and the line of the answer is printed
 pub done : {A F : Type 0} (line : A → Line) (refusal : F → Refusal) (decided : Decided A F) (answer : A) → IsAnswer decided answer →

@@ -10,7 +10,7 @@ use Rattle.conflicts.specs.State.{History, State, Step, Text, accepts_in, after_
 use Rattle.replica_state.specs.Held.{lists_of, meaning_of}
 use Rattle.replica_core.specs.Replica.{AddsOnly, Found, HasFailed, HasStep, IsLeft, IsTooLong, Known, MayStand, Stands, after_step, state_in}
 use Rattle.replica_core.specs.Calls.{Decided, Answers, Refuses, IfFailed, IsDone, is_disk_failure, may_have_written, step_in}
-use Rattle.replica_core.specs.Runs.{AfterFirst, AllKept, Continues, Ends, GoesOn, HaveEnded, HaveRun, IsOpenIf, StandsAfterFirst, after_call, bare, bare_end, call_decides, call_failure, call_fault, stays_open, step_of_call, steps_made, steps_written}
+use Rattle.replica_core.specs.Runs.{AllKept, Continues, Ends, GoesOn, HaveEnded, HaveRun, IsOpenIf, StandsAfterFirst, after_call, bare, bare_end, call_decides, call_failure, call_fault, stays_open, step_of_call, steps_made, steps_written}
 use Rattle.replica_core.specs.declared.fault.CommitFault.{CommitFault}
 use Rattle.replica_core.specs.declared.fault.CommitFault.TheVariants as commit
 use Rattle.replica_core.specs.declared.list.Call.{Call}

@@ -1,5 +1,5 @@
 -- One call more, and the end of the list.
-use Rattle.std.proofs.Common.{◌≡◌, ◌+◌, ◌∷◌, [], List, drop, refl, sym, ◌∙◌, ap, subst, arith}
+use Rattle.std.proofs.Common.{◌≡◌, ◌+◌, ◌∷◌, List, drop, sym, ◌∙◌, ap, subst, arith}
 use Rattle.std.proofs.lemmas.List.{drop_all, drop_more}
 use Rattle.replica_core.specs.Runs.{Ends, HaveRun}
 use Rattle.replica_core.specs.declared.list.Call.{Call}
