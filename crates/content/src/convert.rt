@@ -21,7 +21,7 @@ pub(crate) fn convert(alloc: Global, value: Value) -> Result<Json, Memory>
         Value::Null => Ok(Json::Null),
         Value::Bool(truth) => Ok(Json::Bool(truth)),
         Value::Number(number) => Ok(Json::Whole(whole_of(&number))),
-        Value::String(text) => Ok(Json::Text(Text::from_string(text))),
+        Value::String(text) => Ok(Json::Text(Text::from_string(text)?)),
         Value::Array(items) => Ok(Json::List(convert_items(alloc, items)?)),
         Value::Object(members) => Ok(Json::Object(convert_members(alloc, members)?)),
     }
@@ -77,7 +77,7 @@ fn convert_member(alloc: Global, name: String, member: Value) -> Result<Field, M
 {
     let value = convert(alloc, member)?;
     Ok(Field {
-        name: Text::from_string(name),
+        name: Text::from_string(name)?,
         value,
     })
 }

@@ -14,7 +14,7 @@ pub(crate) fn case_folded(alloc: Global, text: &str) -> Result<Text, Memory>
     if is_ascii(text.as_bytes()) {
         return lowered(alloc, text);
     }
-    Ok(Text::from_string(default_case_fold_str(alloc, text)?))
+    Ok(Text::from_string(default_case_fold_str(alloc, text)?)?)
 }
 
 // The same for ASCII, by lanes.
@@ -25,7 +25,7 @@ fn lowered(alloc: Global, text: &str) -> Result<Text, Memory>
     let mut bytes = Vec::from_slice(alloc, text.as_bytes())?;
     lower_ascii(&mut bytes);
     match String::from_utf8(bytes) {
-        Ok(string) => Ok(Text::from_string(string)),
+        Ok(string) => Ok(Text::from_string(string)?),
         Err(_) => unreachable!(),
     }
 }

@@ -18,7 +18,7 @@ pub(crate) fn number_spelled(alloc: Global, number: i64, width: u8) -> Result<Te
     } else {
         push_padded(&mut text, number.unsigned_abs(), width)?;
     }
-    Ok(Text::from_string(text))
+    Text::from_string(text)
 }
 
 fn push_padded(text: &mut String, number: u64, width: usize) -> Result<(), Memory>

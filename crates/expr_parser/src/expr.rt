@@ -69,9 +69,10 @@ impl Expr {
         ensures reads_back { IfOk result
             (λ t. IsExpr (form_of self.now) → expr_in t ≡ Some (form_of self.now)) }
     {
-        let mut text = String::new(alloc);
-        spell(self, &mut text)?;
-        Ok(Text::from_string(text))
+        let mut spelling = String::new(alloc);
+        spell(self, &mut spelling)?;
+        let text = Text::from_string(spelling)?;
+        Ok(text)
     }
 
     /// Whether the two are one expression. Takes no memory.

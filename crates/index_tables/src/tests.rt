@@ -103,8 +103,8 @@ fn document(alloc: Global, number: u64) -> Result<DocId, Fail> {
 // The text of a number below 100 in two digits, and of one below 10 in one: they go as the numbers do.
 fn numbered(alloc: Global, number: u64) -> Result<Option<Key>, Fail> {
     let mut texts = Texts::new(alloc);
-    texts.push(Text::from_string(format!(in alloc; "{:02}", number / 10)?))?;
-    texts.push(Text::from_string(format!(in alloc; "{}", number % 10)?))?;
+    texts.push(Text::from_string(format!(in alloc; "{:02}", number / 10)?)?)?;
+    texts.push(Text::from_string(format!(in alloc; "{}", number % 10)?)?)?;
     Ok(key_of(texts))
 }
 

@@ -31,7 +31,7 @@ fn key_of(alloc: Global, name: &str, number: u32) -> Result<Key, Fault> {
     let number = format!(in alloc; "{number:06}").map_err(|_| Fault::Run)?;
     let mut texts = Texts::new(alloc);
     texts.push(Text::copy(alloc, name)?)?;
-    texts.push(Text::from_string(number))?;
+    texts.push(Text::from_string(number)?)?;
     Ok(Key::of(texts))
 }
 

@@ -157,7 +157,7 @@ fn key_set(alloc: Global, round: Round) -> Result<KeySet, Fault> {
 
 fn key_of(alloc: Global, text: String) -> Result<Key, Memory> {
     let mut texts = Texts::new(alloc);
-    texts.push(Text::from_string(text))?;
+    texts.push(Text::from_string(text)?)?;
     Ok(Key::of(texts))
 }
 

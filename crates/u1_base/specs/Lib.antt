@@ -3,3 +3,4 @@ pub mod Fields
 pub mod Ids
 pub mod NewId
 pub mod Places
+pub mod Storage

@@ -7,6 +7,7 @@
 mod counting;
 mod fields;
 mod ids;
+mod inline;
 mod items;
 mod key;
 mod laws;
@@ -17,6 +18,8 @@ mod position;
 #[cfg(test)]
 mod tests;
 mod text;
+#[cfg(test)]
+mod text_tests;
 
 pub use counting::Steps;
 pub use fields::{u16_at, u32_at, u64_at};

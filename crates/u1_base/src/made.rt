@@ -30,7 +30,7 @@ pub fn new_id(alloc: Global, seed: u128, kind: IdKind, number: u64) -> Result<Te
     let digits = identifier(seed, name.as_bytes(), &mut buffer);
     let mut text = String::from_str(alloc, prefix(kind))?;
     text.push_str(digits)?;
-    Ok(Text::from_string(text))
+    Text::from_string(text)
 }
 
 impl<F: FormOf> Id<F> {

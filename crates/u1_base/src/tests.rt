@@ -40,7 +40,7 @@ fn letters(alloc: Global, count: usize) -> Result<Text, Memory> {
     for _ in 0..count {
         text.push_str("a")?;
     }
-    Ok(Text::from_string(text))
+    Ok(Text::from_string(text)?)
 }
 
 fn is_read_at<F: FormOf>(alloc: Global, length: usize) -> bool {

@@ -1,53 +1,101 @@
 //! A text of the product's own.
-ghost use Rattle.std.specs.Prelude.{◌≡◌, IfOk, string_bytes};
+ghost use Rattle.std.specs.Prelude.{◌≡◌, IfOk, IfSome, string_bytes};
+ghost use Rattle.u1_base.specs.Storage.{bytes_of};
 
 use crate::Memory;
+use crate::inline::Inline;
 use std::alloc::Global;
 use std::cmp::Ordering;
 use std::fmt;
 use std::marker::Model;
+use std::rc::{Rc, RcStr};
 
 /// A UTF-8 text, seen as its bytes. Texts are ordered by bytes.
+///
+/// A text of at most 14 bytes takes no memory beside the value. A longer one lies on the heap, once for
+/// all its copies.
 #[derive(Drop)]
 pub struct Text {
-    inner: String,
+    storage: Storage,
 }
 
+// Where the bytes of a text lie.
+#[derive(Drop)]
+enum Storage {
+    Short(Inline<14>),
+    Medium(Rc<Inline<39>>),
+    Long(RcStr),
+}
+
+const _: () = prove!(size_of::<Text>() == 16);
+
+// With the counts of `Rc` that is 56 bytes, the C library's least piece of memory for a made id.
+const _: () = prove!(size_of::<Inline<39>>() == 40);
+
 impl Model for Text {
-    ghost use Rattle.std.specs.Prelude.{List, ℕ, string_bytes};
+    ghost use Rattle.std.specs.Prelude.{List, ℕ};
+    ghost use Rattle.u1_base.specs.Storage.{bytes_of};
 
     ghost Value = { List ℕ };
 
-    ghost view = { λ t. string_bytes t.inner };
+    ghost view = { λ t. bytes_of t.storage };
 }
 
 impl Text {
     pub fn copy(alloc: Global, text: &str) -> Result<Text, Memory>
         ensures { IfOk result (λ t. t ≡ text.now) }
     {
-        Ok(Text {
-            inner: String::from_str(alloc, text)?,
-        })
+        let storage = match short_or_medium(alloc, text)? {
+            Some(storage) => storage,
+            None => Storage::Long(RcStr::from_str(alloc, text)?),
+        };
+        Ok(Text { storage })
     }
 
-    pub fn from_string(inner: String) -> Text
-        ensures { result ≡ string_bytes inner }
+    /// A string of more than 39 bytes is kept, a shorter one copied.
+    pub fn from_string(text: String) -> Result<Text, Memory>
+        ensures { IfOk result (λ t. t ≡ string_bytes text) }
     {
-        Text { inner }
+        let storage = match short_or_medium(*text.allocator(), text.as_str())? {
+            Some(storage) => storage,
+            None => Storage::Long(RcStr::from_string(text)?),
+        };
+        Ok(Text { storage })
     }
 
+    /// The same text. It takes no memory.
     pub fn duplicate(&self) -> Result<Text, Memory>
         ensures { IfOk result (λ t. t ≡ self.now) }
     {
-        Ok(Text {
-            inner: self.inner.clone()?,
-        })
+        let storage = match &self.storage {
+            Storage::Short(text) => Storage::Short(text.again()),
+            Storage::Medium(text) => Storage::Medium(text.clone()?),
+            Storage::Long(text) => Storage::Long(text.clone()?),
+        };
+        Ok(Text { storage })
     }
 
     pub fn as_str(&self) -> &str
         ensures { result.now ≡ self.now }
     {
-        self.inner.as_str()
+        match &self.storage {
+            Storage::Short(text) => text.as_str(),
+            Storage::Medium(text) => text.as_str(),
+            Storage::Long(text) => text.as_str(),
+        }
+    }
+}
+
+// The storage of a text that is not long.
+fn short_or_medium(alloc: Global, text: &str) -> Result<Option<Storage>, Memory>
+    ensures { IfOk result (λ storage. IfSome storage (λ s. bytes_of s ≡ text.now)) }
+{
+    if let Some(short) = Inline::of(text) {
+        return Ok(Some(Storage::Short(short)));
+    }
+    match Inline::of(text) {
+        Some(medium) => Ok(Some(Storage::Medium(Rc::new(alloc, medium)?))),
+        None => Ok(None),
     }
 }
 

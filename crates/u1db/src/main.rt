@@ -66,7 +66,7 @@ fn words_of(rt: &HostRuntime) -> Result<Texts, Memory> {
     match env::args(rt) {
         Ok(args) => {
             for word in args.skip(1) {
-                words.push(Text::from_string(word))?;
+                words.push(Text::from_string(word)?)?;
             }
         }
         Err(error) if error.kind() == ErrorKind::OutOfMemory => return Err(Memory),
@@ -85,7 +85,7 @@ fn path_of(rt: &HostRuntime, words: &[Text]) -> Result<Text, Memory> {
         None => String::new(rt.alloc()),
     };
     path.push_str("/left")?;
-    Ok(Text::from_string(path))
+    Text::from_string(path)
 }
 
 // Runs the command with a seed, or tells that the system gave none.

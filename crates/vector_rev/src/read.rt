@@ -123,7 +123,7 @@ impl Clock {
         for (i, entry) in entries.iter().enumerate() {
             push_separated(&mut text, i, entry)?;
         }
-        Ok(Text::from_string(text))
+        Text::from_string(text)
     }
 }
 

@@ -26,7 +26,7 @@ fn many(alloc: Global, prefix: &str, count: u32) -> Result<Text, Fail> {
         }
         text.push_str(format!(in alloc; "{prefix}{n:02}:1")?.as_str())?;
     }
-    Ok(Text::from_string(text))
+    Ok(Text::from_string(text)?)
 }
 
 // A piece, so many times.
@@ -35,7 +35,7 @@ fn repeated(alloc: Global, piece: &str, count: u32) -> Result<Text, Fail> {
     for _ in 0..count {
         text.push_str(piece)?;
     }
-    Ok(Text::from_string(text))
+    Ok(Text::from_string(text)?)
 }
 
 // The entries `NAME COUNTER`, one a line.
@@ -84,7 +84,7 @@ fn reads_64_entries(alloc: Global) -> Result<bool, Fail> {
 // The text of one entry, whose uid is so long.
 fn long(alloc: Global, count: u32) -> Result<Text, Fail> {
     let name = repeated(alloc, "a", count)?;
-    Ok(Text::from_string(format!(in alloc; "{}:1", name.as_str())?))
+    Ok(Text::from_string(format!(in alloc; "{}:1", name.as_str())?)?)
 }
 
 fn reads_64_bytes(alloc: Global) -> Result<bool, Fail> {

@@ -4,4 +4,4 @@ use Rattle.expr_eval.proofs.case_fold.case_folded.Goals as goal
 
 pub returns : goal.returns
 unfolding folded
-returns c = c.from_string.ensures ∙ c.in_ok-default_case_fold_str.ensures
+returns c = c.in_ok-from_string.ensures ∙ c.in_ok-default_case_fold_str.ensures

@@ -9,8 +9,8 @@ use Rattle.expr_parser.proofs.expr.Expr.text.Goals as goal
 pub returns : goal.returns
 returns c =
     let f = form_of c.args.self.now in
-    let spelling : c.from_string.result ≡ canonical f = c.from_string.ensures
-    ∙ (c.in_ok-spell.ensures ∙ ap (λ x. x ++ canonical f) c.new-text.ensures.bytes) in
+    let spelling : c.in_ok-text.text ≡ canonical f = c.in_ok-text.ensures
+    ∙ (c.in_ok-spell.ensures ∙ ap (λ x. x ++ canonical f) c.new-spelling.ensures.bytes) in
     record {
       value = spelling;
       shortest = subst (IsShortest f) (sym spelling) (canonical-shortest f);

@@ -1,0 +1,6 @@
+-- The bytes are UTF-8 by the type's invariant.
+use Rattle.std.proofs.lemmas.Str.{IsUtf8-had}
+use Rattle.u1_base.proofs.inline.Inline.as_str.Goals as goal
+
+pub from_utf8_unchecked-requires : goal.from_utf8_unchecked-requires
+from_utf8_unchecked-requires g c = IsUtf8-had _ c.self.invariant.1
