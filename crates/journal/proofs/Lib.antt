@@ -6,4 +6,5 @@ pub mod Restarts
 pub mod Spells
 pub mod ReaderFields
 pub mod Readings
+pub mod Passed
 mod Examples

@@ -2,7 +2,7 @@
 use Rattle.std.proofs.Common.{◌≡◌, ◌∷◌, [], List, ℕ, length, sym, ◌∙◌, ap, subst, length-append}
 use Rattle.disk_model.specs.Device.{File, IsSettled}
 use Rattle.journal.specs.Image.{Head, ReadsAs, up_to_gate}
-use Rattle.journal.specs.Journal.{Holds, IsExtent}
+use Rattle.journal.specs.Journal.{IsExtent}
 use Rattle.journal.specs.Spelled.{HoldsSpelled, Spelled, Spells, extent_of}
 
 pub spelled_extent : (head : Head) (bodies : List (List ℕ)) (spelled : Spelled) → Spells head bodies spelled → IsExtent 2 head bodies (extent_of spelled)

@@ -1,5 +1,5 @@
 -- Private words of the readers of single fields, from which opening is put together.
-use Rattle.std.specs.Prelude.{◌≡◌, ◌≢◌, ◌⊎◌, ℕ, ◌+◌, ◌<◌, ◌≤◌, List, ◌∷◌, ◌++◌, length, drop}
+use Rattle.std.specs.Prelude.{◌≡◌, ◌≢◌, ◌⊎◌, ℕ, ◌+◌, ◌<◌, ◌≤◌, List, ◌∷◌, ◌++◌, length, drop, Result, Ok, Err}
 use Rattle.std.specs.Str.{IsUtf8}
 use Rattle.u1_base.specs.Fields.{text_field, u64_bytes}
 use Rattle.u1_base.specs.Ids.{IsId}
@@ -9,7 +9,6 @@ use Rattle.journal.specs.Damage.{Begins, DamagedAt}
 use Rattle.journal.specs.declared.parsed.Parsed.{Parsed}
 use Rattle.journal.specs.declared.parsed.Parsed.TheVariants as parsed
 use Rattle.journal.specs.declared.parsed.Start.{Start}
-use Rattle.journal.specs.declared.parsed.Entries.{Entries}
 
 -- the bytes begin with no field of the kind
 abbrev pub NoFirst : List ℕ → Type 0
@@ -54,12 +53,12 @@ BreaksAt place bytes =
     ⊎ ((tail : List ℕ) × (bytes ≡ entries bodies ++ 1 ∷ tail) × (place ≡ length (entries bodies) + 1)
     × NoBody tail))
 
-abbrev pub ReadsEntries : List ℕ → Parsed Entries → Type 0
-ReadsEntries bytes (parsed.Whole read) =
-    AreBodies read.bodies × (read.length ≡ length (entries read.bodies))
-    × ((gate : ℕ) × (rest : List ℕ) × (gate ≢ 1) × (bytes ≡ entries read.bodies ++ gate ∷ rest))
-ReadsEntries bytes (parsed.Broken place) = BreaksAt place bytes
-ReadsEntries bytes parsed.Memory = Unit {0}
+-- the bytes are entries of this length, and then a gate that is not open; or they break
+abbrev pub EndsEntries : List ℕ → Result ℕ ℕ → Type 0
+EndsEntries bytes (Ok size) =
+    (bodies : List (List ℕ)) × AreBodies bodies × (size ≡ length (entries bodies))
+    × ((gate : ℕ) × (rest : List ℕ) × (gate ≢ 1) × (bytes ≡ entries bodies ++ gate ∷ rest))
+EndsEntries bytes (Err place) = BreaksAt place bytes
 
 -- the entries of these bodies stand before the place
 pub record Reached (bodies : List (List ℕ)) (place : ℕ) (bytes : List ℕ) : Type 0 where

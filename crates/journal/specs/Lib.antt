@@ -8,3 +8,5 @@ pub mod Fields
 pub mod Adding
 pub mod Restarting
 pub mod Spelled
+pub mod Stored
+pub mod Passing

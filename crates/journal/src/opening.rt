@@ -8,13 +8,12 @@ ghost use Rattle.disk_model.specs.Counts.{called, pieces};
 ghost use Rattle.journal.specs.Journal.{Holds};
 ghost use Rattle.journal.specs.Opening.{Opens};
 
-use crate::parsed::{Entries, Parsed, Start};
-use crate::reading::{behind, entries_of, header_of};
-use crate::{Bodies, Header, Journal};
-use disk_model::{Disk, ReadFault, read_synced};
+use crate::{Bodies, Header, Journal, Stored, read_image};
+use disk_model::Disk;
 use std::alloc::Global;
 use std::error::Error;
 use std::fmt;
+use u1_base::Memory;
 
 /// What was opened.
 #[derive(Debug, Drop)]
@@ -66,44 +65,31 @@ pub fn open_image<D: Disk>(alloc: Global, disk: &mut D) -> Result<Opened, OpenFa
     ensures most_calls { IsTrue D.tells → (D.known disk.new).made ≤ called (2 + pieces (length (D.known disk.old).seen)) (D.known disk.old).made }
     ensures cause { HasCauseOf OpenFault.Disk (D.known disk.old).faults (D.known disk.new).faults result }
 {
-    let stored = match read_synced(alloc, disk) {
+    let stored = match read_image(alloc, disk) {
         Ok(stored) => stored,
-        Err(ReadFault::Disk) => return Err(OpenFault::Disk),
-        Err(ReadFault::Memory) => return Err(OpenFault::Memory),
+        Err(fault) => return Err(fault),
     };
-    open_bytes(alloc, stored.as_slice())
+    match stored.copy_bodies(alloc) {
+        Ok(bodies) => Ok(with_bodies(stored, bodies)),
+        Err(Memory) => Err(OpenFault::Memory),
+    }
 }
 
-fn open_bytes(alloc: Global, stored: &[u8]) -> Result<Opened, OpenFault>
-    ensures reads { Opens stored.now result }
-    ensures no_call { ¬ (IsErrOf result OpenFault.Disk) }
+fn with_bodies(stored: Stored, bodies: Bodies) -> Opened
+    ensures { result ≡ record {
+      header = stored.header;
+      journal = stored.journal;
+      bodies = bodies;
+      format = stored.format;
+    } }
 {
-    let start = match header_of(alloc, stored) {
-        Parsed::Whole(start) => start,
-        Parsed::Broken(place) => return Err(OpenFault::Damaged(place as u64)),
-        Parsed::Memory => return Err(OpenFault::Memory),
-    };
-    let Start {
-        format,
+    let journal = stored.journal();
+    let format = stored.format();
+    let header = stored.into_header();
+    Opened {
         header,
-        length,
-    } = start;
-    let after_header = behind(stored, length);
-    match entries_of(alloc, after_header) {
-        Parsed::Whole(entries) => {
-            let Entries {
-                bodies,
-                length: more,
-            } = entries;
-            let journal = Journal::of((length + more + 1) as u64, header.limit);
-            Ok(Opened {
-                header,
-                journal,
-                bodies,
-                format,
-            })
-        }
-        Parsed::Broken(place) => Err(OpenFault::Damaged((length + place) as u64)),
-        Parsed::Memory => Err(OpenFault::Memory),
+        journal,
+        bodies,
+        format,
     }
 }

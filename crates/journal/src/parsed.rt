@@ -1,5 +1,5 @@
 //! What the readers of an image find.
-use crate::{Bodies, Header};
+use crate::Header;
 
 /// A field, or a row of fields, that was read; or the place where none could be; or out of memory.
 #[derive(Debug, Drop)]
@@ -14,12 +14,5 @@ pub enum Parsed<T> {
 pub struct Start {
     pub format: u8,
     pub header: Header,
-    pub length: usize,
-}
-
-/// The bodies of entries, and the length of the entries in bytes.
-#[derive(Debug, Drop)]
-pub struct Entries {
-    pub bodies: Bodies,
     pub length: usize,
 }

@@ -3,9 +3,9 @@ ghost use Rattle.std.specs.Prelude.{◌≡◌, ◌<◌, ◌≤◌, [], ◌∷◌
 ghost use Rattle.u1_base.specs.Fields.{text_field, u64_bytes};
 ghost use Rattle.journal.specs.Image.{IsBody, IsFormat, IsLimit, body_field, first_field};
 ghost use Rattle.journal.specs.Damage.{Begins};
-ghost use Rattle.journal.specs.Fields.{NoBody, NoFirst, NoLimit, NoText, ReadsEntries, ReadsHeader, ReadsIdField};
+ghost use Rattle.journal.specs.Fields.{EndsEntries, NoBody, NoFirst, NoLimit, NoText, ReadsHeader, ReadsIdField};
 
-use crate::parsed::{Entries, Parsed, Start};
+use crate::parsed::{Parsed, Start};
 use crate::{Bodies, Header};
 use std::alloc::Global;
 use u1_base::limits::{GREATEST_IMAGE_LIMIT, LEAST_IMAGE_LIMIT};
@@ -91,7 +91,7 @@ fn limit_of(bytes: &[u8]) -> Option<u64>
 }
 
 /// The body behind its length.
-fn body_of(bytes: &[u8]) -> Option<&[u8]>
+pub(crate) fn body_of(bytes: &[u8]) -> Option<&[u8]>
     ensures { MatchOption result (NoBody bytes.now) (λ body. IsBody body.now × Begins (body_field body.now) bytes.now) }
 {
     if bytes.len() < 4 {
@@ -141,29 +141,27 @@ pub(crate) fn header_of(alloc: Global, bytes: &[u8]) -> Parsed<Start>
     })
 }
 
-/// The entries that the bytes begin with, up to the first closed gate.
-pub(crate) fn entries_of(alloc: Global, bytes: &[u8]) -> Parsed<Entries>
-    ensures { ReadsEntries bytes.now result }
+/// The length of the entries that the bytes begin with, up to the first closed gate, or the place
+/// where a gate is missing or has no body behind it.
+pub(crate) fn end_of_entries(bytes: &[u8]) -> Result<usize, usize>
+    ensures { EndsEntries bytes.now result }
 {
-    let mut bodies = Bodies::new(alloc);
     let mut at = 0;
     while at < bytes.len() {
         if bytes[at] != OPEN_GATE {
-            return Parsed::Whole(Entries { bodies, length: at });
+            return Ok(at);
         }
         let after_gate = behind(bytes, at + 1);
         let Some(body) = body_of(after_gate) else {
-            return Parsed::Broken(at + 1);
+            return Err(at + 1);
         };
-        match add_copy(alloc, &mut bodies, body) {
-            Ok(()) => at += 5 + body.len(),
-            Err(Memory) => return Parsed::Memory,
-        }
+        at += 5 + body.len();
     }
-    Parsed::Broken(at)
+    Err(at)
 }
 
-fn add_copy(alloc: Global, bodies: &mut Bodies, body: &[u8]) -> Result<(), Memory>
+/// Adds a copy of the body.
+pub(crate) fn add_copy(alloc: Global, bodies: &mut Bodies, body: &[u8]) -> Result<(), Memory>
     ensures { OnOk result (bodies.new ≡ bodies.old ++ body.now ∷ []) }
 {
     bodies.push(Bytes::from_vec(body.to_vec(alloc)?))

@@ -1,7 +1,7 @@
 //! The worked images, their damage, and what a stop at each device call leaves.
 use crate::{
-    AppendFault, Bodies, Header, ImageFault, Journal, NewImage, OpenFault, Opened, open_image,
-    restart_image, write_image,
+    AppendFault, Bodies, Header, ImageFault, Journal, NewImage, OpenFault, Opened, Stored,
+    open_image, read_image, restart_image, write_image,
 };
 use disk_model::{Choice, MemDisk};
 use std::alloc::Global;
@@ -608,4 +608,62 @@ fn a_failed_call_is_told(rt: HostRuntime) {
     for failing in 0..4u64 {
         assert!(rt; is_told(rt.alloc(), failing), "{failing}");
     }
+}
+
+// Where the bodies begin, one after the other, and where the closed gate stands behind them.
+fn met(alloc: Global, stored: &Stored) -> Result<Vec<usize>, Memory> {
+    let mut places = Vec::new(alloc);
+    let mut place = stored.start();
+    while let Some(entry) = stored.entry_at(place) {
+        places.push(entry.place)?;
+        place = entry.next;
+    }
+    places.push(place)?;
+    Ok(places)
+}
+
+// Reads the image, and goes through it.
+fn places_in(alloc: Global, image: &[u8]) -> Result<Result<Vec<usize>, OpenFault>, Memory> {
+    let mut disk = disk_of(alloc, image, &[])?;
+    match read_image(alloc, &mut disk) {
+        Ok(stored) => Ok(Ok(met(alloc, &stored)?)),
+        Err(fault) => Ok(Err(fault)),
+    }
+}
+
+// Whether it has bodies at the first places, and its closed gate at the last one.
+fn has_places(alloc: Global, image: &[u8], places: &[usize]) -> Result<bool, Memory> {
+    Ok(match places_in(alloc, image)? {
+        Ok(found) => found.as_slice() == places,
+        Err(_) => false,
+    })
+}
+
+#[test]
+fn goes_through_the_entries(rt: HostRuntime) -> Result<(), Fail> {
+    let alloc = rt.alloc();
+    assert!(rt; has_places(alloc, EMPTY, &[23])?);
+    assert!(rt; has_places(alloc, &worked(alloc, EMPTY)?, &[28, 109])?);
+    Ok(())
+}
+
+// Two bodies, and bytes behind the closed gate that look like a third one.
+#[test]
+fn goes_through_two_entries_to_the_closed_gate(rt: HostRuntime) -> Result<(), Fail> {
+    let alloc = rt.alloc();
+    let mut image = worked(alloc, EMPTY)?;
+    image.pop();
+    image.extend_from_slice(b"\x01\0\0\0\x03xyz\0\x01\0\0\0\x01z\0")?;
+    assert!(rt; has_places(alloc, &image, &[28, 114, 117])?);
+    Ok(())
+}
+
+// Damage behind a whole entry is found before an entry is lent.
+#[test]
+fn lends_no_entry_of_a_damaged_image(rt: HostRuntime) -> Result<(), Fail> {
+    let alloc = rt.alloc();
+    let image = changed(alloc, &[(109, 1)])?;
+    let found = places_in(alloc, &image)?.err();
+    assert_eq!(rt; found, Some(OpenFault::Damaged(110)));
+    Ok(())
 }

@@ -13,8 +13,8 @@ use Rattle.volume.specs.declared.opening.StoreFault.TheVariants as fault
 -- what was opened, or the fault that was named, is what is found of the files; the other faults say nothing of them
 abbrev pub OpensStore : Trio (List ℕ) → Result OpenedImages StoreFault → Type 0
 OpensStore files (Ok opened) =
-    (found_of files ≡ Stands opened.side opened.format opened.header opened.bodies)
-    × IsExtent opened.format opened.header opened.bodies opened.journal
+    (found_of files ≡ Stands opened.side opened.image.format opened.image.header opened.image.bodies)
+    × IsExtent opened.image.format opened.image.header opened.image.bodies opened.image.journal
 OpensStore files (Err fault.Blank) = found_of files ≡ Blank
 OpensStore files (Err (fault.Damaged disk place)) = found_of files ≡ Damaged disk place
 OpensStore files (Err fault.Disk) = Unit {0}

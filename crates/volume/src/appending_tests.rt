@@ -14,11 +14,8 @@ fn add(
     body: &[u8],
 ) -> Result<Result<u64, AppendFault>, StoreFault> {
     let opened = open_images(alloc, disks)?;
-    let OpenedImages {
-        side,
-        mut journal,
-        ..
-    } = opened;
+    let OpenedImages { side, image } = opened;
+    let mut journal = image.journal();
     if body.is_empty() || body.len() > u32::MAX as usize {
         return Err(StoreFault::Memory);
     }

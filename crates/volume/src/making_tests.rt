@@ -65,7 +65,7 @@ fn is_header(header: &Header) -> bool {
 
 fn has_header(alloc: Global, disks: &mut Disks<MemDisk>) -> bool {
     match open_images(alloc, disks) {
-        Ok(opened) => is_header(&opened.header),
+        Ok(opened) => is_header(opened.image.header()),
         Err(_) => false,
     }
 }

@@ -9,7 +9,7 @@ ghost use Rattle.disks.specs.Joint.{now_of};
 ghost use Rattle.disks.specs.Moments.{ChangedOnly, LeavesTogether, SameElsewhere};
 ghost use Rattle.disks.specs.Disks.{disks_known};
 ghost use Rattle.journal.specs.Journal.{Holds};
-ghost use Rattle.journal.specs.Opening.{Opens};
+ghost use Rattle.journal.specs.Passing.{ReadsImage};
 ghost use Rattle.journal.specs.Spelled.{HoldsSpelled, extent_of};
 ghost use Rattle.volume.specs.Store.{Names};
 ghost use Rattle.volume.specs.Crashes.{OnlyLooks};
@@ -18,7 +18,7 @@ ghost use Rattle.volume.specs.Steps.{IsWhole};
 use crate::root::naming;
 use disk_model::{Disk, DiskFailed};
 use disks::{DiskName, Disks, write_synced_on};
-use journal::{Journal, NewImage, OpenFault, Opened, open_image};
+use journal::{Journal, NewImage, OpenFault, Stored, read_image};
 use std::alloc::Global;
 
 /// Puts a new image in the place of all that this disk holds. A crash on the way may leave anything
@@ -49,17 +49,17 @@ pub(crate) fn write_on<D: Disk>(
     image.write(disks)
 }
 
-/// Syncs this disk, and opens its image.
-pub(crate) fn open_image_on<D: Disk>(
+/// Syncs this disk, and reads its image.
+pub(crate) fn read_image_on<D: Disk>(
     alloc: Global,
     disks: &mut Disks<D>,
     name: DiskName,
-) -> Result<Opened, OpenFault>
+) -> Result<Stored, OpenFault>
     ensures reads { (stored : List ℕ)
         × (IsTrue D.tells → stored ≡ (pick name (disks_known D.known disks.old).files).seen)
-        × Opens stored result }
-    ensures ok { IsTrue D.tells → IfOk result (λ opened.
-        Holds opened.journal opened.format opened.header opened.bodies
+        × ReadsImage stored result }
+    ensures ok { IsTrue D.tells → IfOk result (λ image.
+        Holds image.journal image.format image.header image.bodies
         (pick name (disks_known D.known disks.new).files)) }
     ensures others { IsTrue D.tells → SameElsewhere name
         (disks_known D.known disks.old).files (disks_known D.known disks.new).files }
@@ -69,7 +69,7 @@ pub(crate) fn open_image_on<D: Disk>(
         (disks_known D.known disks.old).faults (disks_known D.known disks.new).faults result }
 {
     disks.turn_to(name);
-    open_image(alloc, disks)
+    read_image(alloc, disks)
 }
 
 /// Lets the root name this image. A crash on the way leaves the root torn, and the images as they

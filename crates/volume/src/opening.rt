@@ -10,25 +10,21 @@ ghost use Rattle.volume.specs.Crashes.{OnlyLooks};
 ghost use Rattle.volume.specs.Faults.{disk_text};
 ghost use Rattle.volume.specs.Opening.{OpensStore, RootNames};
 
-use crate::one_disk::open_image_on;
+use crate::one_disk::read_image_on;
 use crate::root::named_by;
 use disk_model::{Disk, DiskFailed, Front};
 use disks::{DiskName, Disks, front_synced_on};
-use journal::{Bodies, Header, Journal, OpenFault, Opened};
+use journal::{OpenFault, Stored};
 use std::alloc::Global;
 use std::error::Error;
 use std::fmt;
 
-/// The image that counts, opened.
+/// The image that counts, read whole. It lends its bodies one after the other.
 #[derive(Debug, Drop)]
 pub struct OpenedImages {
     /// The disk on which it lies, left or right.
     pub side: DiskName,
-    pub header: Header,
-    pub journal: Journal,
-    pub bodies: Bodies,
-    /// The format of the image, 1 or 2.
-    pub format: u8,
+    pub image: Stored,
 }
 
 /// Why no store was opened.
@@ -84,7 +80,7 @@ fn text_of(disk: DiskName) -> &'static str
     }
 }
 
-/// Opens the store: the image that the root names, with its bodies.
+/// Opens the store: reads the image that the root names.
 ///
 /// The root and that image are synced before they are read. Nothing is written, and a crash on the
 /// way leaves no more than one at the start might.
@@ -93,8 +89,8 @@ pub fn open_images<D: Disk>(alloc: Global, disks: &mut Disks<D>) -> Result<Opene
         × (IsTrue D.tells → stored ≡ seen_of (disks_known D.known disks.old).files)
         × OpensStore stored result }
     ensures ok { IsTrue D.tells → IfOk result (λ opened.
-        IsStore opened.journal opened.side opened.format opened.header opened.bodies
-        (disks_known D.known disks.new).files) }
+        IsStore opened.image.journal opened.side opened.image.format opened.image.header
+        opened.image.bodies (disks_known D.known disks.new).files) }
     ensures side { IfOk result (λ opened. opened.side ≢ DiskName.Root) }
     ensures looks { IsTrue D.tells
         → OnlyLooks (disks_known D.known disks.old) (disks_known D.known disks.new) }
@@ -102,35 +98,11 @@ pub fn open_images<D: Disk>(alloc: Global, disks: &mut Disks<D>) -> Result<Opene
         (disks_known D.known disks.old).faults (disks_known D.known disks.new).faults result }
 {
     let side = named_side(disks)?;
-    match open_image_on(alloc, disks, side) {
-        Ok(opened) => Ok(with_side(side, opened)),
+    match read_image_on(alloc, disks, side) {
+        Ok(image) => Ok(OpenedImages { side, image }),
         Err(OpenFault::Damaged(place)) => Err(StoreFault::Damaged { disk: side, place }),
         Err(OpenFault::Disk) => Err(StoreFault::Disk),
         Err(OpenFault::Memory) => Err(StoreFault::Memory),
-    }
-}
-
-fn with_side(side: DiskName, opened: Opened) -> OpenedImages
-    ensures { result ≡ record {
-      side = side;
-      header = opened.header;
-      journal = opened.journal;
-      bodies = opened.bodies;
-      format = opened.format;
-    } }
-{
-    let Opened {
-        header,
-        journal,
-        bodies,
-        format,
-    } = opened;
-    OpenedImages {
-        side,
-        header,
-        journal,
-        bodies,
-        format,
     }
 }
 

@@ -31,14 +31,15 @@ fn takes_the_side_by_the_lowest_bit(rt: HostRuntime) {
 
 // Whether this is the right image in format 1, with its header and its body.
 fn is_the_right_one(found: &OpenedImages) -> bool {
-    let body = match found.bodies.as_slice() {
-        [body] => are(body.as_slice(), BODY),
-        _ => false,
+    let image = &found.image;
+    let body = match image.entry_at(image.start()) {
+        Some(entry) => are(entry.body, BODY) && image.entry_at(entry.next).is_none(),
+        None => false,
     };
-    body && is_named(&found.header)
+    body && is_named(image.header())
         && found.side == DiskName::Right
-        && found.format == 1
-        && found.journal.length() == 32
+        && image.format() == 1
+        && image.journal().length() == 32
 }
 
 fn reads_the_right_one(alloc: Global) -> bool {

@@ -1,5 +1,5 @@
 //! A plain reading of a store, against which opening is compared.
-use crate::tests::Three;
+use crate::tests::{Three, sizes};
 use crate::{OpenedImages, StoreFault};
 use disks::DiskName;
 
@@ -103,11 +103,8 @@ pub(crate) fn is_plain(found: &Result<OpenedImages, StoreFault>, bytes: Three) -
     let want = plain(bytes);
     match found {
         Ok(opened) => {
-            let mut all = 0usize;
-            for body in opened.bodies.as_slice() {
-                all = all.saturating_add(body.as_slice().len());
-            }
-            want == Some((opened.side, Ends::Closed(opened.bodies.len(), all)))
+            let (bodies, bytes) = sizes(&opened.image);
+            want == Some((opened.side, Ends::Closed(bodies, bytes)))
         }
         Err(StoreFault::Blank) => want.is_none(),
         Err(StoreFault::Damaged { disk, place }) => {

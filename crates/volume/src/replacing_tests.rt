@@ -12,7 +12,10 @@ use std::alloc::Global;
 fn copy_over(alloc: Global, disks: &mut Disks<MemDisk>) -> Result<u64, StoreFault> {
     let opened = open_images(alloc, disks)?;
     let to = other_side(opened.side);
-    let Ok(image) = NewImage::of(alloc, &opened.header, opened.bodies.as_slice()) else {
+    let Ok(bodies) = opened.image.copy_bodies(alloc) else {
+        return Err(StoreFault::Memory);
+    };
+    let Ok(image) = NewImage::of(alloc, opened.image.header(), bodies.as_slice()) else {
         return Err(StoreFault::Memory);
     };
     let journal = put_in_place(disks, &image, to)?;
@@ -23,7 +26,7 @@ fn copy_over(alloc: Global, disks: &mut Disks<MemDisk>) -> Result<u64, StoreFaul
 fn empty_over(alloc: Global, disks: &mut Disks<MemDisk>) -> Result<u64, StoreFault> {
     let opened = open_images(alloc, disks)?;
     let to = other_side(opened.side);
-    let Ok(image) = NewImage::of(alloc, &opened.header, &[]) else {
+    let Ok(image) = NewImage::of(alloc, opened.image.header(), &[]) else {
         return Err(StoreFault::Memory);
     };
     let journal = put_in_place(disks, &image, to)?;

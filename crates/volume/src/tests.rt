@@ -2,7 +2,7 @@
 use crate::{OpenedImages, StoreFault, open_images};
 use disk_model::{Choice, Disk, MemDisk};
 use disks::{DiskName, Disks};
-use journal::Header;
+use journal::{Header, Stored};
 use std::alloc::Global;
 use u1_base::limits::{GREATEST_IMAGE_LIMIT, LEAST_IMAGE_LIMIT};
 use u1_base::{Bytes, DbName, IdFault, Memory, Numbers, ReplicaUid};
@@ -187,6 +187,19 @@ pub(crate) fn leave(alloc: Global, disks: &mut Disks<MemDisk>, is: &[Seen]) -> b
     }
 }
 
+/// How many bodies the image lends, and how many bytes they have together.
+pub(crate) fn sizes(image: &Stored) -> (usize, usize) {
+    let mut bodies = 0usize;
+    let mut bytes = 0usize;
+    let mut place = image.start();
+    while let Some(entry) = image.entry_at(place) {
+        bodies = bodies.saturating_add(1);
+        bytes = bytes.saturating_add(entry.body.len());
+        place = entry.next;
+    }
+    (bodies, bytes)
+}
+
 /// What is found of a store: the fault, or the side, the format and the number of bodies.
 #[derive(Clone, Copy, Debug, PartialEq, Eq)]
 pub(crate) enum Seen {
@@ -196,7 +209,7 @@ pub(crate) enum Seen {
 
 pub(crate) fn found_as(found: &Result<OpenedImages, StoreFault>) -> Seen {
     match found {
-        Ok(opened) => Seen::Stands(opened.side, opened.format, opened.bodies.len()),
+        Ok(opened) => Seen::Stands(opened.side, opened.image.format(), sizes(&opened.image).0),
         Err(fault) => Seen::Fault(*fault),
     }
 }

@@ -9,4 +9,4 @@ of-requires c = subst AreBodies (sym c.as_slice.ensures) (c.in_ok-opened.ensures
 pub put_in_place-requires-clause-store : goal.put_in_place-requires-clause-store
 put_in_place-requires-clause-store c t =
     let opened = c.in_ok-opened.opened in
-    (opened.journal, opened.side, (λ e. c.other_side-to.ensures.other (sym e)), (opened.format, opened.header, opened.bodies, c.in_ok-opened.ensures.ok t))
+    (opened.image.journal, opened.side, (λ e. c.other_side-to.ensures.other (sym e)), (opened.image.format, opened.image.header, opened.image.bodies, c.in_ok-opened.ensures.ok t))
