@@ -14,9 +14,17 @@ use std::rc::{Rc, RcStr};
 ///
 /// A text of at most 14 bytes takes no memory beside the value. A longer one lies on the heap, once for
 /// all its copies.
-#[derive(Drop)]
 pub struct Text {
     storage: Storage,
+}
+
+// Written by hand, so that whoever lets a text go makes one call, whatever its form.
+impl Drop for Text {
+    #[inline]
+    fn drop(self) {
+        let Text { storage } = self;
+        drop(storage);
+    }
 }
 
 // Where the bytes of a text lie.
