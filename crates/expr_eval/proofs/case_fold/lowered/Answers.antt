@@ -20,4 +20,4 @@ returns c =
     let wrote : (with_items bytes c.lower_ascii.new.bytes).items ≡ str_to_ascii_lowercase c.args.text.now =
     lowered_items bytes c.deref_mut.result.now c.lower_ascii.new.bytes c.args.text.now c.deref_mut.ensures.value c.deref_mut.ensures.len
     (c.in_ok-bytes.ensures.items ∙ c.as_bytes.ensures.value) c.lower_ascii.ensures in
-    c.in_ok-from_string.ensures ∙ (ap (λ v. v.items) c.in-Ok.ensures.ok ∙ (wrote ∙ sym (folded-ascii c.args.text.now c.requires)))
+    c.in_ok-from_string-in-Ok.ensures ∙ (ap (λ v. v.items) c.in-Ok.ensures.ok ∙ (wrote ∙ sym (folded-ascii c.args.text.now c.requires)))
