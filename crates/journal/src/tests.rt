@@ -622,48 +622,76 @@ fn met(alloc: Global, stored: &Stored) -> Result<Vec<usize>, Memory> {
     Ok(places)
 }
 
-// Reads the image, and goes through it.
-fn places_in(alloc: Global, image: &[u8]) -> Result<Result<Vec<usize>, OpenFault>, Memory> {
-    let mut disk = disk_of(alloc, image, &[])?;
-    match read_image(alloc, &mut disk) {
-        Ok(stored) => Ok(Ok(met(alloc, &stored)?)),
-        Err(fault) => Ok(Err(fault)),
+// Whether it has bodies at the first places, and its closed gate at the last one.
+fn are_met(alloc: Global, stored: &Stored, places: &[usize]) -> bool {
+    match met(alloc, stored) {
+        Ok(found) => found.as_slice() == places,
+        Err(_) => false,
     }
 }
 
-// Whether it has bodies at the first places, and its closed gate at the last one.
-fn has_places(alloc: Global, image: &[u8], places: &[usize]) -> Result<bool, Memory> {
-    Ok(match places_in(alloc, image)? {
-        Ok(found) => found.as_slice() == places,
+fn has_places_on(alloc: Global, disk: &mut MemDisk, places: &[usize]) -> bool {
+    match read_image(alloc, disk) {
+        Ok(stored) => are_met(alloc, &stored, places),
         Err(_) => false,
-    })
+    }
 }
 
-#[test]
-fn goes_through_the_entries(rt: HostRuntime) -> Result<(), Fail> {
-    let alloc = rt.alloc();
-    assert!(rt; has_places(alloc, EMPTY, &[23])?);
-    assert!(rt; has_places(alloc, &worked(alloc, EMPTY)?, &[28, 109])?);
-    Ok(())
+fn has_places(alloc: Global, image: &[u8], places: &[usize]) -> bool {
+    match disk_of(alloc, image, &[]) {
+        Ok(mut disk) => has_places_on(alloc, &mut disk, places),
+        Err(_) => false,
+    }
 }
 
-// Two bodies, and bytes behind the closed gate that look like a third one.
-#[test]
-fn goes_through_two_entries_to_the_closed_gate(rt: HostRuntime) -> Result<(), Fail> {
-    let alloc = rt.alloc();
+// The same of the worked image, with these bytes in the place of its closed gate.
+fn has_places_with(alloc: Global, end: &[u8], places: &[usize]) -> bool {
+    match worked_up_to(alloc, end) {
+        Ok(image) => has_places(alloc, image.as_slice(), places),
+        Err(_) => false,
+    }
+}
+
+fn worked_up_to(alloc: Global, end: &[u8]) -> Result<Vec<u8>, Memory> {
     let mut image = worked(alloc, EMPTY)?;
     image.pop();
-    image.extend_from_slice(b"\x01\0\0\0\x03xyz\0\x01\0\0\0\x01z\0")?;
-    assert!(rt; has_places(alloc, &image, &[28, 114, 117])?);
-    Ok(())
+    image.extend_from_slice(end)?;
+    Ok(image)
+}
+
+// Two bodies, and behind the closed gate bytes that look like a third one.
+const TWO_AND_MORE: &[u8] = b"\x01\0\0\0\x03xyz\0\x01\0\0\0\x01z\0";
+
+#[test]
+fn goes_through_the_entries(rt: HostRuntime) {
+    assert!(rt; has_places(rt.alloc(), EMPTY, &[23]));
+    assert!(rt; has_places_with(rt.alloc(), b"\0", &[28, 109]));
+    assert!(rt; has_places_with(rt.alloc(), TWO_AND_MORE, &[28, 114, 117]));
+}
+
+fn lends_none_on(alloc: Global, disk: &mut MemDisk, want: OpenFault) -> bool {
+    match read_image(alloc, disk) {
+        Ok(_) => false,
+        Err(fault) => fault == want,
+    }
+}
+
+fn lends_none(alloc: Global, image: &[u8], want: OpenFault) -> bool {
+    match disk_of(alloc, image, &[]) {
+        Ok(mut disk) => lends_none_on(alloc, &mut disk, want),
+        Err(_) => false,
+    }
+}
+
+fn is_damaged_behind_an_entry(alloc: Global) -> bool {
+    match worked_up_to(alloc, b"\x01") {
+        Ok(image) => lends_none(alloc, image.as_slice(), OpenFault::Damaged(110)),
+        Err(_) => false,
+    }
 }
 
 // Damage behind a whole entry is found before an entry is lent.
 #[test]
-fn lends_no_entry_of_a_damaged_image(rt: HostRuntime) -> Result<(), Fail> {
-    let alloc = rt.alloc();
-    let image = changed(alloc, &[(109, 1)])?;
-    let found = places_in(alloc, &image)?.err();
-    assert_eq!(rt; found, Some(OpenFault::Damaged(110)));
-    Ok(())
+fn lends_no_entry_of_a_damaged_image(rt: HostRuntime) {
+    assert!(rt; is_damaged_behind_an_entry(rt.alloc()));
 }
