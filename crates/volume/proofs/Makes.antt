@@ -1,18 +1,19 @@
 -- Making a store: while the images are written the root is empty, and while the root is written both are there.
 use Rattle.std.proofs.Common.{◌≡◌, ◌≢◌, ◌⊎◌, ⊎_elim, inl, inr, ℕ, ◌≤◌, List, [], length, get_or, refl, sym, ◌∙◌, ap, subst, arith}
 use Rattle.disk_model.specs.Disk.{IsCrashImage, IsAny, Torn}
-use Rattle.disk_model.specs.Device.{File, IsSettled}
+use Rattle.disk_model.specs.Device.{Device, File, IsSettled, file_of}
 use Rattle.disks.specs.declared.name.DiskName.{DiskName}
 use Rattle.disks.specs.declared.name.DiskName.TheVariants.{Root, Left, Right}
 use Rattle.disks.specs.declared.trio.Trio.{Trio}
 use Rattle.disks.specs.Trio.{pick}
-use Rattle.disks.specs.Joint.{AreCrashImages, Devices, seen_of, now_of}
+use Rattle.disks.specs.Disks.{files_of}
+use Rattle.disks.specs.Joint.{AreCrashImages, Devices, MayStay, seen_of, now_of}
 use Rattle.disks.specs.Moments.{LeavesTogether, ChangedOnly, SameElsewhere}
-use Rattle.disks.proofs.Runs.{begins, goes_on, weaker}
+use Rattle.disks.proofs.Runs.{begins, goes_on, reads_may_stay, weaker}
 use Rattle.journal.specs.Image.{Head, ReadsAs}
 use Rattle.volume.specs.Store.{Names, found_of}
 use Rattle.volume.specs.Store.Found.{Blank}
-use Rattle.volume.specs.Crashes.{MayFind, IsEmptyStore}
+use Rattle.volume.specs.Crashes.{MayFind, IsBlankOrEmpty, IsEmptyStore, OnlyLooks}
 use Rattle.volume.specs.Steps.{IsBlank, IsWhole, IsMade}
 use Rattle.volume.proofs.Finding.{found_blank}
 use Rattle.volume.proofs.Standing.{settled_file, of_one}
@@ -115,3 +116,14 @@ makes_run head old mid new reads empty first then =
     (λ blank. inl (seen_of old.files, reads, blank ∙ sym (found_blank (seen_of old.files) empty)))
     (λ made. inr made)
     m))
+
+-- no disk was called
+pub no_look : (old : Devices) → OnlyLooks old old
+no_look old = record { seen = refl; leaves = begins old (AreCrashImages (now_of old.files)) (λ images i. i) }
+
+-- what the reads give now is one of what a crash now may leave
+pub left_now : {D : Type 0} (known : D → Device) (trio : Trio D) (head : Head)
+    → MayStay (file_of (known trio.root)) → MayStay (file_of (known trio.left)) → MayStay (file_of (known trio.right))
+    → ((images : Trio (List ℕ)) → AreCrashImages (now_of (files_of known trio)) images → IsBlankOrEmpty head (found_of images))
+    → IsBlankOrEmpty head (found_of (seen_of (files_of known trio)))
+left_now known trio head root left right here = here (seen_of (files_of known trio)) (reads_may_stay known trio root left right)

@@ -10,7 +10,7 @@ use Rattle.journal.specs.Image.{Head}
 use Rattle.journal.specs.Journal.{Extent}
 use Rattle.journal.specs.Spelled.{Spelled, Spells}
 use Rattle.volume.specs.Store.{Found, found_of, IsStore}
-use Rattle.volume.specs.Store.Found.{Stands}
+use Rattle.volume.specs.Store.Found.{Blank, Stands}
 
 -- nothing was written: the reads give what they gave, and a crash on the way leaves no more than one at the start might
 pub record OnlyLooks (old new : Devices) : Type 0 where
@@ -24,6 +24,10 @@ MayFind moment found = (files : Trio (List ℕ)) × AreCrashImages moment files 
 -- the empty store of this head, in format 2, on either side
 abbrev pub IsEmptyStore : Head → Found → Type 0
 IsEmptyStore head found = (found ≡ Stands Left 2 head []) ⊎ (found ≡ Stands Right 2 head [])
+
+-- there is no database, or the empty store of this head
+abbrev pub IsBlankOrEmpty : Head → Found → Type 0
+IsBlankOrEmpty head found = (found ≡ Blank) ⊎ IsEmptyStore head found
 
 -- a crash on the way leaves what a crash at the start might leave, or the empty store of this head
 abbrev pub LeavesOldOrEmpty : Head → Devices → Devices → Type 0

@@ -1,11 +1,12 @@
 //! Making a store: the empty image on both sides, and then the root, which names the left one.
-ghost use Rattle.std.specs.Prelude.{◌≡◌, ◌≤◌, ℕ, List, [], IsTrue, IfOk, IsErrOf, OnOk};
+ghost use Rattle.std.specs.Prelude.{◌≡◌, ◌≢◌, ◌≤◌, ℕ, List, [], IsTrue, IfOk, IsErrOf, OnOk};
 ghost use Rattle.u1_base.specs.Causes.{HasCause, HasCauseOf};
 ghost use Rattle.disk_model.specs.Counts.{called};
 ghost use Rattle.disks.specs.Disks.{disks_known};
+ghost use Rattle.disks.specs.Joint.{seen_of};
 ghost use Rattle.journal.specs.Journal.{IsExtent};
-ghost use Rattle.volume.specs.Store.{IsStore};
-ghost use Rattle.volume.specs.Crashes.{LeavesOldOrEmpty, OnlyLooks};
+ghost use Rattle.volume.specs.Store.{IsStore, found_of};
+ghost use Rattle.volume.specs.Crashes.{IsBlankOrEmpty, LeavesOldOrEmpty, OnlyLooks};
 ghost use Rattle.volume.specs.Making.{Inits};
 ghost use Rattle.volume.specs.Steps.{IsBlank, IsMade, LeavesBlankOrEmpty};
 
@@ -70,8 +71,8 @@ impl Error for InitFault {}
 ///
 /// The image is spelled first, so that all memory is taken before a disk is called. Then the root
 /// is synced and looked at, the image is put on the left disk and on the right one, and the byte 0
-/// in the root, each with its sync. At `Exists` nothing is written, and at `Memory` no
-/// disk was called. After `Disk` there is the empty store, or what might have been there before.
+/// in the root, each with its sync. Nothing is written where the root is not empty, and at `Memory`
+/// no disk was called. After `Disk` there is the empty store, or what might have been there before.
 pub fn init_images<D: Disk>(
     alloc: Global,
     disks: &mut Disks<D>,
@@ -83,8 +84,10 @@ pub fn init_images<D: Disk>(
     ensures ok { IsTrue D.tells → IfOk result (λ journal.
         IsStore journal DiskName.Left 2 header.now [] (disks_known D.known disks.new).files) }
     ensures extent { IfOk result (λ journal. IsExtent 2 header.now [] journal) }
-    ensures exists { IsTrue D.tells → IsErrOf result InitFault.Exists
+    ensures looks { IsTrue D.tells → (disks_known D.known disks.old).files.root.seen ≢ []
         → OnlyLooks (disks_known D.known disks.old) (disks_known D.known disks.new) }
+    ensures left { IsTrue D.tells → (disks_known D.known disks.old).files.root.seen ≡ []
+        → IsBlankOrEmpty header.now (found_of (seen_of (disks_known D.known disks.new).files)) }
     ensures any_moment { IsTrue D.tells → LeavesOldOrEmpty header.now
         (disks_known D.known disks.old) (disks_known D.known disks.new) }
     ensures untouched { IsErrOf result InitFault.Memory → disks.new ≡ disks.old }
