@@ -1,5 +1,5 @@
 -- What reading a body answers.
-use Rattle.std.specs.Prelude.{◌≡◌, ℕ, List, ◌++◌, codes, Result, Ok, Err}
+use Rattle.std.specs.Prelude.{◌≡◌, ◌≤◌, ℕ, List, ◌++◌, codes, Result, Ok, Err}
 use Rattle.std.specs.Fmt.{decimal}
 use Rattle.conflicts.specs.State.{Step}
 use Rattle.replica_state.specs.declared.step.Step.{Step as Held}
@@ -29,6 +29,12 @@ abbrev pub DecodesAlone : Result Step ℕ → Result Held RecordFault → Type 0
 DecodesAlone read (Ok s) = read ≡ Ok (step_of s)
 DecodesAlone read (Err (Bad place)) = read ≡ Err place
 DecodesAlone read (Err Memory) = Unit {0}
+
+-- the place of a fault is in the body of so many bytes, or behind its last one
+abbrev pub IsBadWithin : {T : Type 0} → ℕ → Result T RecordFault → Type 0
+IsBadWithin size (Ok read) = Unit {0}
+IsBadWithin size (Err (Bad place)) = place ≤ size
+IsBadWithin size (Err Memory) = Unit {0}
 
 -- private: by the number of bytes that are left
 abbrev pub read_whole : Format → List Text → List ℕ → Result Recorded ℕ

@@ -1,8 +1,8 @@
 //! Steps from bodies.
-ghost use Rattle.std.specs.Prelude.{◌≡◌, IfOk};
+ghost use Rattle.std.specs.Prelude.{◌≡◌, IfOk, length};
 ghost use Rattle.replica_state.specs.Steps.{step_of};
 ghost use Rattle.record_codec.specs.Bodies.{first_body_of, first_step_in, recorded_in, step_in};
-ghost use Rattle.record_codec.specs.Decoding.{Decodes, DecodesAlone, Records, read_whole, recorded};
+ghost use Rattle.record_codec.specs.Decoding.{Decodes, DecodesAlone, IsBadWithin, Records, read_whole, recorded};
 ghost use Rattle.record_codec.specs.Laws.{Says};
 ghost use Rattle.record_codec.specs.Steps.{IsStep};
 
@@ -12,6 +12,7 @@ use replica_state::Step;
 use std::alloc::Global;
 use std::error::Error;
 use std::fmt;
+use u1_base::Memory;
 
 /// A step that was read.
 #[derive(Drop)]
@@ -46,10 +47,22 @@ impl fmt::Display for RecordFault {
 
 impl Error for RecordFault {}
 
+impl From<Memory> for RecordFault {
+    ghost use Rattle.std.specs.Prelude.{◌≡◌};
+    ghost use Rattle.record_codec.specs.declared.decoding.RecordFault.TheVariants as fault;
+
+    ghost from_gives = { λ _ e. e ≡ fault.Memory };
+
+    fn from(_memory: Memory) -> RecordFault {
+        RecordFault::Memory
+    }
+}
+
 /// Reads the step that a body in format 2 says, where these uids have numbers.
 pub fn decode(alloc: Global, bytes: &[u8], uids: &Uids) -> Result<Decoded, RecordFault>
     ensures reads { Decodes (step_in uids.now.uids bytes.now) result }
     ensures says { IfOk result (λ d. Says uids.now.uids bytes.now (recorded d)) }
+    ensures within { IsBadWithin (length bytes.now) result }
 {
     // Lending the uids is what tells the proof that they are as they have numbers.
     let _uids = uids.as_slice();
@@ -60,6 +73,7 @@ pub fn decode(alloc: Global, bytes: &[u8], uids: &Uids) -> Result<Decoded, Recor
 pub fn decode_first(alloc: Global, bytes: &[u8]) -> Result<Step, RecordFault>
     ensures reads { DecodesAlone (first_step_in bytes.now) result }
     ensures says { IfOk result (λ s. IsStep (step_of s) × (bytes.now ≡ first_body_of (step_of s))) }
+    ensures within { IsBadWithin (length bytes.now) result }
 {
     let unnumbered = Uids::none(alloc);
     match record(alloc, Format::First, bytes, &unnumbered) {
@@ -80,7 +94,8 @@ impl Decoded {
 // The step, or the place of the fault.
 #[tactic(auto, unfolding(crate::specs::Bodies::recorded_in))]
 fn record(alloc: Global, format: Format, bytes: &[u8], uids: &Uids) -> Result<Decoded, RecordFault>
-    ensures { Decodes (recorded_in format uids.now.uids bytes.now) result }
+    ensures reads { Decodes (recorded_in format uids.now.uids bytes.now) result }
+    ensures within { IsBadWithin (length bytes.now) result }
 {
     match read_whole(alloc, format, bytes, uids) {
         Ok(decoded) => Ok(decoded),
