@@ -1,0 +1,4 @@
+pub mod Putting
+pub mod Listing
+pub mod JsonLists
+mod Worked

@@ -1,0 +1,5 @@
+-- The pieces are the text.
+use Rattle.command_lines.proofs.places.print_generation.Goals as goal
+
+pub returns : goal.returns
+returns g c = rw (c.as_bytes.ensures.value, c.format.ensures.text) at c.put_all.ensures
