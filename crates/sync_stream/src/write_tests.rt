@@ -156,6 +156,9 @@ const DELETION: &[u8] =
 
 fn deletion_is_written(alloc: Global) -> Result<bool, Fail> {
     let doc = deletion(alloc)?;
+    if doc.at.generation < 1 {
+        return Ok(false);
+    }
     let text = write_doc(alloc, &doc)?;
     Ok(are(text.as_slice(), DELETION))
 }
