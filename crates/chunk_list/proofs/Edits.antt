@@ -1,10 +1,12 @@
 -- One chunk changed among those that were laid out.
-use Rattle.std.proofs.Common.{◌≡◌, ℕ, ◌+◌, ◌<◌, ◌≤◌, List, ◌++◌, length, get_or, set, refl, sym, subst, ◌∙◌, ap, arith, inl, inr, get_or-set_same, get_or-set_other}
+use Rattle.std.proofs.Common.{◌≡◌, ℕ, ◌+◌, ◌<◌, ◌≤◌, List, ◌++◌, length, get_or, set, refl, sym, subst, ◌∙◌, ap, arith}
+use Rattle.std.proofs.Common.{inl, inr, get_or-set_same, get_or-set_other}
 use Rattle.std.proofs.lemmas.Bool.{cases_lt, cases_eq}
 use Rattle.std.proofs.lemmas.List.{get_or_read, length-set, set-append_left, set-append_right}
 use Rattle.std.proofs.lemmas.List.Concat.{get_or-flat_map}
 use Rattle.std.proofs.lemmas.List.Elements.{All-set}
-use Rattle.std.proofs.lemmas.List.Edits.{insert-append_left, insert-append_right, remove-append_left, remove-append_right}
+use Rattle.std.proofs.lemmas.List.Edits.{insert-append_left, insert-append_right, remove-append_left}
+use Rattle.std.proofs.lemmas.List.Edits.{remove-append_right}
 use Rattle.std.specs.Global.{Vec}
 use Rattle.std.specs.Vec.{vec_items, vec_len, vec_capacity}
 use Rattle.std.specs.List.{insert, remove}
@@ -12,7 +14,8 @@ use Rattle.chunk_list.specs.Chunks.{joined, full, AreChunks, AreChunksBut, AreLa
 use Rattle.chunk_list.proofs.Pieces.{start_at-set_low, start_at-set_high, edit-joined}
 
 -- the chunk that was left out is like the others
-pub settled : {T : Type 0} (chunks : List (Vec T)) (at : ℕ) → AreChunksBut chunks at → ((d : Vec T) → IsHeld at (get_or chunks at d)) → AreChunks chunks
+pub settled : {T : Type 0} (chunks : List (Vec T)) (at : ℕ) → AreChunksBut chunks at
+    → ((d : Vec T) → IsHeld at (get_or chunks at d)) → AreChunks chunks
 settled chunks at b here = record {
   wide = b.wide;
   held = λ k d lt. elim (cases_eq k at) [
@@ -22,17 +25,21 @@ settled chunks at b here = record {
 }
 
 -- the content of the chunk that a place falls into becomes another one in the same memory
-pub record IsEdit {T : Type 0} (chunks : List (Vec T)) (starts : List ℕ) (p i inside : ℕ) (old new : Vec T) : Type 0 where
+pub record IsEdit {T : Type 0} (chunks : List (Vec T)) (starts : List ℕ) (p i inside : ℕ)
+    (old new : Vec T) : Type 0 where
   pub laid_out : AreLaidOut chunks starts
   pub is_at : IsAt chunks p i inside
   pub old_is : old ≡ get_or chunks i old
   pub capacity : vec_capacity new ≡ vec_capacity old
 
-pub edit : {T : Type 0} {chunks : List (Vec T)} {starts : List ℕ} {p i inside : ℕ} {old : Vec T} (new : Vec T) → AreLaidOut chunks starts → IsAt chunks p i inside
+pub edit : {T : Type 0} {chunks : List (Vec T)} {starts : List ℕ} {p i inside : ℕ} {old : Vec T} (new : Vec T)
+    → AreLaidOut chunks starts → IsAt chunks p i inside
     → old ≡ get_or chunks i old → vec_capacity new ≡ vec_capacity old → IsEdit chunks starts p i inside old new
-edit new laid_out is_at old_is capacity = record { laid_out = laid_out; is_at = is_at; old_is = old_is; capacity = capacity }
+edit new laid_out is_at old_is capacity =
+    record { laid_out = laid_out; is_at = is_at; old_is = old_is; capacity = capacity }
 
-module _ {T : Type 0} {chunks : List (Vec T)} {starts : List ℕ} {p i inside : ℕ} {old new : Vec T} (e : IsEdit chunks starts p i inside old new) where
+module _ {T : Type 0} {chunks : List (Vec T)} {starts : List ℕ} {p i inside : ℕ} {old new : Vec T}
+    (e : IsEdit chunks starts p i inside old new) where
   l : AreLaidOut chunks starts
   l = e.laid_out
 
@@ -51,37 +58,53 @@ module _ {T : Type 0} {chunks : List (Vec T)} {starts : List ℕ} {p i inside : 
   pub edited : vec_len new ≤ full + 1 → AreChunksBut (set chunks i new) i
   edited fits = record {
     within = omega (arith, there, length-set chunks i new);
-    wide = All-set IsWide chunks i new (omega (arith, e.capacity, ap vec_capacity e.old_is, l.chunks_are.wide i old there)) l.chunks_are.wide;
+    wide = All-set IsWide chunks i new
+        (omega (arith, e.capacity, ap vec_capacity e.old_is, l.chunks_are.wide i old there)) l.chunks_are.wide;
     top = λ d. omega (arith, ap vec_len (new_at d));
-    others = λ k d lt ne. subst (IsHeld k) (sym (get_or-set_other chunks i k new d ne)) (l.chunks_are.held k d (omega (arith, length-set chunks i new)));
+    others = λ k d lt ne. subst (IsHeld k) (sym (get_or-set_other chunks i k new d ne))
+        (l.chunks_are.held k d (omega (arith, length-set chunks i new)));
   }
 
   -- the later starts move as far as the chunk is longer or shorter
   pub starts_with : (to : List ℕ) → length to ≡ length starts → ((k : ℕ) → k ≤ i → get_or to k 0 ≡ get_or starts k 0)
-      → ((k : ℕ) → i < k → k < length starts → get_or to k 0 + vec_len old ≡ get_or starts k 0 + vec_len new) → AreStarts (set chunks i new) to
+      → ((k : ℕ) → i < k → k < length starts → get_or to k 0 + vec_len old ≡ get_or starts k 0 + vec_len new)
+      → AreStarts (set chunks i new) to
   starts_with to long low high = record {
     as_many = omega (arith, long, l.starts_are.as_many, length-set chunks i new);
     begins = λ k lt.
         let in_old : k < length chunks = omega (arith, length-set chunks i new) in
         elim (cases_lt i k) [
           | inl gt ↦
-              omega (arith, high k gt (omega (arith, l.starts_are.as_many)), l.starts_are.begins k in_old, new.ok.0, old.ok.0, ap length same_items, start_at-set_high vec_items chunks i k new old there gt)
+              omega (
+                arith,
+                high k gt (omega (arith, l.starts_are.as_many)),
+                l.starts_are.begins k in_old,
+                new.ok.0,
+                old.ok.0,
+                ap length same_items,
+                start_at-set_high vec_items chunks i k new old there gt,
+              )
           | inr at ↦ low k at ∙ l.starts_are.begins k in_old ∙ sym (start_at-set_low vec_items chunks i k new at)
         ];
   }
 
   -- an edit of the chunk is that edit of the list
-  edited_joined : (E : List T → ℕ → List T) (W : ℕ → ℕ → Type 0) → ((xs ys : List T) (n : ℕ) → W n (length xs) → E (xs ++ ys) n ≡ E xs n ++ ys)
-      → ((xs ys : List T) (n : ℕ) → E (xs ++ ys) (length xs + n) ≡ xs ++ E ys n) → W inside (length (vec_items old)) → vec_items new ≡ E (vec_items old) inside
+  edited_joined : (E : List T → ℕ → List T) (W : ℕ → ℕ → Type 0)
+      → ((xs ys : List T) (n : ℕ) → W n (length xs) → E (xs ++ ys) n ≡ E xs n ++ ys)
+      → ((xs ys : List T) (n : ℕ) → E (xs ++ ys) (length xs + n) ≡ xs ++ E ys n) → W inside (length (vec_items old))
+      → vec_items new ≡ E (vec_items old) inside
       → joined (set chunks i new) ≡ E (joined chunks) p
   edited_joined E W left right w is =
-      edit-joined vec_items E W left right chunks i inside new old there (subst (λ (xs : List T). W inside (length xs)) same_items w) (is ∙ ap (λ (xs : List T). E xs inside) same_items)
+      edit-joined vec_items E W left right chunks i inside new old there
+      (subst (λ (xs : List T). W inside (length xs)) same_items w) (is ∙ ap (λ (xs : List T). E xs inside) same_items)
       ∙ ap (E (joined chunks)) e.is_at.is
 
-  pub put_joined : (x : T) → vec_items new ≡ insert (vec_items old) inside x → joined (set chunks i new) ≡ insert (joined chunks) p x
+  pub put_joined : (x : T) → vec_items new ≡ insert (vec_items old) inside x
+      → joined (set chunks i new) ≡ insert (joined chunks) p x
   put_joined x =
       edited_joined (λ l n. insert l n x) (λ n m. n ≤ m) (λ a b n. insert-append_left a b n x)
-      (λ a b n. insert-append_right a b (length a) (length a + n) x refl (omega arith) ∙ ap (λ (m : ℕ). a ++ insert b m x) (omega arith))
+      (λ a b n. insert-append_right a b (length a) (length a + n) x refl (omega arith)
+      ∙ ap (λ (m : ℕ). a ++ insert b m x) (omega arith))
       (omega (arith, e.is_at.up_to old, same_len old, old.ok.0))
 
   module _ (lt : p < length (joined chunks)) where
@@ -90,15 +113,20 @@ module _ {T : Type 0} {chunks : List (Vec T)} {starts : List ℕ} {p i inside : 
 
     pub value_here : (x : T) → x ≡ get_or (vec_items old) inside x → x ≡ get_or (joined chunks) p x
     value_here x is =
-        is ∙ ap (λ (xs : List T). get_or xs inside x) same_items ∙ sym (get_or-flat_map vec_items chunks i inside old x there (omega (arith, held, ap length same_items)))
+        is ∙ ap (λ (xs : List T). get_or xs inside x) same_items
+        ∙ sym (get_or-flat_map vec_items chunks i inside old x there (omega (arith, held, ap length same_items)))
         ∙ ap (λ (n : ℕ). get_or (joined chunks) n x) e.is_at.is
 
-    pub take_joined : vec_items new ≡ remove (vec_items old) inside → joined (set chunks i new) ≡ remove (joined chunks) p
+    pub take_joined : vec_items new ≡ remove (vec_items old) inside
+        → joined (set chunks i new) ≡ remove (joined chunks) p
     take_joined =
         edited_joined remove (λ n m. n < m) remove-append_left
-        (λ a b n. remove-append_right a b (length a) (length a + n) refl (omega arith) ∙ ap (λ (m : ℕ). a ++ remove b m) (omega arith)) held
+        (λ a b n. remove-append_right a b (length a) (length a + n) refl (omega arith)
+        ∙ ap (λ (m : ℕ). a ++ remove b m) (omega arith)) held
 
-    pub exchange_joined : (x : T) → vec_items new ≡ set (vec_items old) inside x → joined (set chunks i new) ≡ set (joined chunks) p x
+    pub exchange_joined : (x : T) → vec_items new ≡ set (vec_items old) inside x
+        → joined (set chunks i new) ≡ set (joined chunks) p x
     exchange_joined x =
         edited_joined (λ l n. set l n x) (λ n m. n < m) (λ a b n. set-append_left a b n x)
-        (λ a b n. set-append_right a b (length a) (length a + n) x refl (omega arith) ∙ ap (λ (m : ℕ). a ++ set b m x) (omega arith)) held
+        (λ a b n. set-append_right a b (length a) (length a + n) x refl (omega arith)
+        ∙ ap (λ (m : ℕ). a ++ set b m x) (omega arith)) held

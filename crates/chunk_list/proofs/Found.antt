@@ -1,5 +1,6 @@
 -- What a search in one chunk says of the whole list.
-use Rattle.std.proofs.Common.{◌≡◌, ℕ, ◌+◌, ◌-◌, ◌<◌, ◌≤◌, List, length, get_or, sym, subst, ◌∙◌, ap, arith, min, inl, inr}
+use Rattle.std.proofs.Common.{◌≡◌, ℕ, ◌+◌, ◌-◌, ◌<◌, ◌≤◌, List, length, get_or, sym, subst, ◌∙◌, ap, arith, min, inl}
+use Rattle.std.proofs.Common.{inr}
 use Rattle.std.proofs.lemmas.Bool.{cases_lt}
 use Rattle.std.proofs.lemmas.List.{get_or_default, get_or_read}
 use Rattle.std.proofs.lemmas.List.Concat.{get_or-flat_map}
@@ -11,13 +12,17 @@ use Rattle.chunk_list.specs.Chunks.{start_at, joined, AreLaidOut}
 use Rattle.chunk_list.proofs.Pieces.{start_at-end, start_at-next}
 
 -- what holds at a place of a chunk holds there in the list
-holds_joined : {T : Type 0} (chunks : List (Vec T)) (P : T → Type 0) (i j : ℕ) (c : Vec T) → i < length chunks → c ≡ get_or chunks i c → j < vec_len c → HoldsAt P c.items j → HoldsAt P (joined chunks) (start_at vec_items chunks i + j)
+holds_joined : {T : Type 0} (chunks : List (Vec T)) (P : T → Type 0) (i j : ℕ) (c : Vec T) → i < length chunks
+    → c ≡ get_or chunks i c → j < vec_len c → HoldsAt P c.items j
+    → HoldsAt P (joined chunks) (start_at vec_items chunks i + j)
 holds_joined chunks P i j c within is inside holds = λ d.
     let fits : j < length (vec_items (get_or chunks i c)) = omega (arith, ap vec_len is, (get_or chunks i c).ok.0) in
-    subst P (ap (λ (v : Vec _). get_or (vec_items v) j d) is ∙ sym (get_or-flat_map vec_items chunks i j c d within fits)) (holds d)
+    subst P (ap (λ (v : Vec _). get_or (vec_items v) j d) is
+    ∙ sym (get_or-flat_map vec_items chunks i j c d within fits)) (holds d)
 
 -- a search ended at a place r of a chunk, of which the first `known` items pass
-pub record IsSearched {T : Type 0} (chunks : List (Vec T)) (starts : List ℕ) (at start r known : ℕ) (c : Vec T) : Type 0 where
+pub record IsSearched {T : Type 0} (chunks : List (Vec T)) (starts : List ℕ) (at start r known : ℕ)
+    (c : Vec T) : Type 0 where
   pub laid_out : AreLaidOut chunks starts
   pub within : at < length chunks
   pub start_is : start ≡ get_or starts at start
@@ -26,9 +31,11 @@ pub record IsSearched {T : Type 0} (chunks : List (Vec T)) (starts : List ℕ) (
   pub low : known ≤ r
   pub high : r ≤ vec_len c
 
-module _ {T : Type 0} {chunks : List (Vec T)} {starts : List ℕ} {at start r known : ℕ} {c : Vec T} (s : IsSearched chunks starts at start r known c) where
+module _ {T : Type 0} {chunks : List (Vec T)} {starts : List ℕ} {at start r known : ℕ} {c : Vec T}
+    (s : IsSearched chunks starts at start r known c) where
   pub begin_is : start ≡ start_at vec_items chunks at
-  begin_is = get_or_read starts at start (omega (arith, s.within, s.laid_out.starts_are.as_many)) s.start_is 0 ∙ s.laid_out.starts_are.begins at s.within
+  begin_is = get_or_read starts at start (omega (arith, s.within, s.laid_out.starts_are.as_many)) s.start_is 0
+      ∙ s.laid_out.starts_are.begins at s.within
 
   same_len : vec_len c ≡ length (vec_items (get_or chunks at c))
   same_len = ap vec_len s.is ∙ (get_or chunks at c).ok.0
@@ -39,7 +46,8 @@ module _ {T : Type 0} {chunks : List (Vec T)} {starts : List ℕ} {at start r kn
   pub chunk_within : vec_len c ≤ length (joined chunks)
   chunk_within = omega (arith, same_len, length-flat_map-take vec_items chunks at c s.within)
 
-  pub found_before : (P : T → Type 0) → (0 < at → HoldsAt (λ v. HoldsAt P (vec_items v) 0) chunks at) → (known < r → HoldsAt P (vec_items c) (r - 1)) → 0 < start + r → HoldsAt P (joined chunks) (start + r - 1)
+  pub found_before : (P : T → Type 0) → (0 < at → HoldsAt (λ v. HoldsAt P (vec_items v) 0) chunks at)
+      → (known < r → HoldsAt P (vec_items c) (r - 1)) → 0 < start + r → HoldsAt P (joined chunks) (start + r - 1)
   found_before P here before some =
       let positive : 0 < r = elim (cases_lt 0 at) [
         | inl later ↦ omega (arith, s.known_is, s.low)
@@ -51,23 +59,35 @@ module _ {T : Type 0} {chunks : List (Vec T)} {starts : List ℕ} {at start r kn
       let last : HoldsAt P (vec_items c) (r - 1) = elim (cases_lt known r) [
         | inl more ↦ before more
         | inr all ↦
-            let later : 0 < at = elim (cases_lt 0 at) [ inl l ↦ l | inr first ↦ absurd (omega (arith, s.known_is, s.low, positive)) ] in
+            let later : 0 < at = elim (cases_lt 0 at) [
+              | inl l ↦ l
+              | inr first ↦ absurd (omega (arith, s.known_is, s.low, positive))
+            ] in
             let first : 0 ≡ r - 1 = omega (arith, s.known_is, s.low) in
-            subst (HoldsAt P (vec_items c)) first (subst (λ (v : Vec T). HoldsAt P (vec_items v) 0) (sym s.is) (here later c))
+            subst (HoldsAt P (vec_items c)) first
+            (subst (λ (v : Vec T). HoldsAt P (vec_items v) 0) (sym s.is) (here later c))
       ] in
-      subst (HoldsAt P (joined chunks)) (omega (arith, begin_is)) (holds_joined chunks P at (r - 1) c s.within s.is (omega (arith, s.high)) last)
+      subst (HoldsAt P (joined chunks)) (omega (arith, begin_is))
+      (holds_joined chunks P at (r - 1) c s.within s.is (omega (arith, s.high)) last)
 
-  pub found_after : (Q : T → Type 0) → (at + 1 < length chunks → HoldsAt (λ v. HoldsAt Q (vec_items v) 0) chunks (at + 1)) → (r < length (vec_items c) → HoldsAt Q (vec_items c) r) → start + r < length (joined chunks) → HoldsAt Q (joined chunks) (start + r)
+  pub found_after : (Q : T → Type 0)
+      → (at + 1 < length chunks → HoldsAt (λ v. HoldsAt Q (vec_items v) 0) chunks (at + 1))
+      → (r < length (vec_items c) → HoldsAt Q (vec_items c) r) → start + r < length (joined chunks)
+      → HoldsAt Q (joined chunks) (start + r)
   found_after Q next after less =
       elim (cases_lt r (vec_len c)) [
-        | inl inside ↦ subst (HoldsAt Q (joined chunks)) (omega (arith, begin_is)) (holds_joined chunks Q at r c s.within s.is inside (after (omega (arith, c.ok.0))))
+        | inl inside ↦ subst (HoldsAt Q (joined chunks)) (omega (arith, begin_is))
+            (holds_joined chunks Q at r c s.within s.is inside (after (omega (arith, c.ok.0))))
         | inr all ↦
-            let ends : start_at vec_items chunks (at + 1) ≡ start + r = omega (arith, start_at-next vec_items chunks at c s.within, begin_is, same_len, s.high) in
+            let ends : start_at vec_items chunks (at + 1) ≡ start + r =
+            omega (arith, start_at-next vec_items chunks at c s.within, begin_is, same_len, s.high) in
             let more : at + 1 < length chunks = elim (cases_lt (at + 1) (length chunks)) [
               | inl m ↦ m
-              | inr last ↦ absurd (omega (arith, ends, start_at-end vec_items chunks (at + 1) (omega (arith, s.within))))
+              | inr last ↦ absurd (omega
+                  (arith, ends, start_at-end vec_items chunks (at + 1) (omega (arith, s.within))))
             ] in
             let d : Vec T = get_or chunks (at + 1) c in
             let full : 0 < vec_len d = (s.laid_out.chunks_are.held (at + 1) c more).some (omega arith) in
-            subst (HoldsAt Q (joined chunks)) (omega arith) (holds_joined chunks Q (at + 1) 0 d more (get_or_default chunks (at + 1) c d more) full (next more c))
+            subst (HoldsAt Q (joined chunks)) (omega arith)
+            (holds_joined chunks Q (at + 1) 0 d more (get_or_default chunks (at + 1) c d more) full (next more c))
       ]

@@ -7,7 +7,8 @@ use Rattle.std.specs.Global.{Vec}
 use Rattle.std.specs.Vec.{vec_items}
 use Rattle.chunk_list.specs.Chunks.{joined, IsAt, IsRun}
 
-module _ {T : Type 0} (chunks : List (Vec T)) (i p inside : ℕ) (w : IsAt chunks p i inside) (c : Vec T) (c_is : c ≡ get_or chunks i c) (lt : p < length (joined chunks))
+module _ {T : Type 0} (chunks : List (Vec T)) (i p inside : ℕ) (w : IsAt chunks p i inside) (c : Vec T)
+    (c_is : c ≡ get_or chunks i c) (lt : p < length (joined chunks))
     (xs : List T) (xs_is : xs ≡ vec_items c)
   where
     items : xs ≡ vec_items (get_or chunks i c)
@@ -18,9 +19,18 @@ module _ {T : Type 0} (chunks : List (Vec T)) (i p inside : ℕ) (w : IsAt chunk
 
     pub run_is : IsRun (joined chunks) p (take (length xs - inside) (drop inside xs))
     run_is = subst (IsRun (joined chunks) p) (sym (take_rest xs inside)) (record {
-      within = λ k lt_run. omega (arith, length-drop inside xs, some, w.is, length-flat_map-take vec_items chunks i c w.within, ap length items);
+      within = λ k lt_run. omega (
+        arith,
+        length-drop inside xs,
+        some,
+        w.is,
+        length-flat_map-take vec_items chunks i c w.within,
+        ap length items,
+      );
       same = λ k d lt_run.
           get_or-drop inside xs k d ∙ ap (λ (l : List T). get_or l (inside + k) d) items
-          ∙ sym (get_or-flat_map vec_items chunks i (inside + k) c d w.within (omega (arith, length-drop inside xs, ap length items))) ∙ ap (λ (n : ℕ). get_or (joined chunks) n d) (omega (arith, w.is));
+          ∙ sym (get_or-flat_map vec_items chunks i (inside + k) c d w.within
+          (omega (arith, length-drop inside xs, ap length items)))
+          ∙ ap (λ (n : ℕ). get_or (joined chunks) n d) (omega (arith, w.is));
       some = λ less. omega (arith, length-drop inside xs, some);
     })

@@ -22,7 +22,8 @@ module _ {T : Type 0} where
 
   -- no chunk as near as that has `least` places free, but perhaps the one at `at`
   abbrev pub NoneFree : List (Vec T) → ℕ → ℕ → ℕ → Type 0
-  NoneFree chunks at reach least = (k : ℕ) (d : Vec T) → k < length chunks → (k ≡ at → ⊥) → k ≤ at + reach → at ≤ k + reach → full < vec_len (slice_index_or chunks k d) + least
+  NoneFree chunks at reach least = (k : ℕ) (d : Vec T) → k < length chunks → (k ≡ at → ⊥) → k ≤ at + reach
+      → at ≤ k + reach → full < vec_len (slice_index_or chunks k d) + least
 
   -- spare chunks may have come in among the others, and others may have gone out, in the memory that there was
   pub record AreTurned (chunks spare new_chunks new_spare : Vec (Vec T)) : Type 0 where

@@ -10,4 +10,5 @@ pub record Kept (T : Type 0) : Type 0 where
 -- it is stored as the pair of its fields
 abbrev pub kept_code : {T : Type 0} → Coded T → Coded (Kept T)
 kept_code {T} code =
-    code_by (List T × ℕ) (coded× (coded_list code) coded_ℕ) (λ v. (v.items, v.room)) (λ p. record { items = p.0; room = p.1 }) (λ _. refl)
+    code_by (List T × ℕ) (coded× (coded_list code) coded_ℕ) (λ v. (v.items, v.room))
+    (λ p. record { items = p.0; room = p.1 }) (λ _. refl)

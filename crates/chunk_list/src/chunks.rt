@@ -1,7 +1,9 @@
 //! Items that move between chunks, and chunks that come in and go out.
-ghost use Rattle.std.specs.Prelude.{◌≡◌, ◌+◌, ◌<◌, ◌≤◌, ◌⊎◌, ◌++◌, ℕ, length, slice_index_or, slice_set, OnOk, vec_len, vec_capacity};
+ghost use Rattle.std.specs.Prelude.{◌≡◌, ◌+◌, ◌<◌, ◌≤◌, ◌⊎◌, ◌++◌, ℕ, length, slice_index_or};
+ghost use Rattle.std.specs.Prelude.{slice_set, OnOk, vec_len, vec_capacity};
 ghost use Rattle.std.specs.List.{All, insert};
-ghost use Rattle.chunk_list.specs.Chunks.{AreChunks, AreChunksBut, AreLaidOut, CanTurn, IsSpare, IsWide, full, joined};
+ghost use Rattle.chunk_list.specs.Chunks.{AreChunks, AreChunksBut, AreLaidOut, CanTurn, IsSpare};
+ghost use Rattle.chunk_list.specs.Chunks.{IsWide, full, joined};
 ghost use Rattle.chunk_list.specs.Edits.{AreTurned, IsGiven};
 
 use crate::list::CHUNK;
@@ -72,7 +74,8 @@ pub(crate) fn give<T: Drop>(chunks: &mut Vec<Vec<T>>, from: usize, to: usize, co
     }
 }
 
-// Cuts the chunk at `at`, which has one item too many, in two: a spare chunk comes in behind it, with half of the items.
+// Cuts the chunk at `at`, which has one item too many, in two: a spare chunk comes in behind it,
+// with half of the items.
 pub(crate) fn cut<T: Drop>(chunks: &mut Vec<Vec<T>>, spare: &mut Vec<Vec<T>>, at: usize)
     requires chunks { AreChunksBut chunks.old.items at }
     requires over { (d : _) → vec_len (slice_index_or chunks.old.items at d) ≡ full + 1 }
@@ -90,7 +93,8 @@ pub(crate) fn cut<T: Drop>(chunks: &mut Vec<Vec<T>>, spare: &mut Vec<Vec<T>>, at
     put(chunks, at + 1, upper);
 }
 
-// Takes the chunk at `at` out, which is empty. It is spare now, where so many chunks are needed, and else given back.
+// Takes the chunk at `at` out, which is empty. It is spare now, where so many chunks are needed,
+// and else given back.
 pub(crate) fn set_out<T: Drop>(
     chunks: &mut Vec<Vec<T>>,
     spare: &mut Vec<Vec<T>>,
@@ -102,10 +106,12 @@ pub(crate) fn set_out<T: Drop>(
     requires empty { (d : _) → vec_len (slice_index_or chunks.old.items at d) ≡ 0 }
     requires each { All IsSpare spare.old.items }
     requires fits { vec_len chunks.old + vec_len spare.old ≤ vec_capacity spare.old }
-    ensures same { (joined chunks.new.items ≡ joined chunks.old.items) × AreChunks chunks.new.items }
+    ensures same { (joined chunks.new.items ≡ joined chunks.old.items)
+        × AreChunks chunks.new.items }
     ensures turned { AreTurned chunks.old spare.old chunks.new spare.new }
     ensures some { 0 < vec_len chunks.new }
-    ensures needed { needed ≤ vec_len chunks.old + vec_len spare.old → needed ≤ vec_len chunks.new + vec_len spare.new }
+    ensures needed { needed ≤ vec_len chunks.old + vec_len spare.old
+        → needed ≤ vec_len chunks.new + vec_len spare.new }
 {
     let chunk = chunks.remove(at);
     let left = chunks.len() + spare.len();
@@ -122,9 +128,12 @@ fn extend<T: Drop>(
 ) -> Result<(), AllocError>
     requires turns { CanTurn chunks.old spare.old starts.old }
     requires as_many { vec_len starts.old ≡ vec_len chunks.old }
-    ensures same { (chunks.new.items ≡ chunks.old.items) × (spare.new.items ≡ spare.old.items) × (starts.new.items ≡ starts.old.items) }
+    ensures same { (chunks.new.items ≡ chunks.old.items) × (spare.new.items ≡ spare.old.items)
+        × (starts.new.items ≡ starts.old.items) }
     ensures turns { CanTurn chunks.new spare.new starts.new }
-    ensures ok { OnOk result ((vec_len chunks.new + vec_len spare.new < vec_capacity chunks.new) × (vec_len chunks.new + vec_len spare.new < vec_capacity spare.new) × (vec_len chunks.new + vec_len spare.new < vec_capacity starts.new)) }
+    ensures ok { OnOk result ((vec_len chunks.new + vec_len spare.new < vec_capacity chunks.new)
+        × (vec_len chunks.new + vec_len spare.new < vec_capacity spare.new)
+        × (vec_len chunks.new + vec_len spare.new < vec_capacity starts.new)) }
 {
     chunks.reserve(spare.len() + 1)?;
     starts.reserve(spare.len() + 1)?;

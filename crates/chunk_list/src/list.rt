@@ -1,5 +1,6 @@
 //! The list, and what a caller may do with it.
-ghost use Rattle.std.specs.Prelude.{◌≡◌, ◌+◌, ◌*◌, ◌-◌, ◌^◌, ◌<◌, ◌≤◌, ℕ, [], true, false, length, slice_get, slice_index_or, slice_set, IsTrue, ◌↔◌, OnOk};
+ghost use Rattle.std.specs.Prelude.{◌≡◌, ◌+◌, ◌*◌, ◌-◌, ◌^◌, ◌<◌, ◌≤◌, ℕ, [], true, false, length};
+ghost use Rattle.std.specs.Prelude.{slice_get, slice_index_or, slice_set, IsTrue, ◌↔◌, OnOk};
 ghost use Rattle.std.specs.Fn.{FnReturnsAt};
 ghost use Rattle.std.specs.Option.{option_copied};
 ghost use Rattle.std.specs.List.{HoldsAt, insert, remove};
@@ -109,8 +110,9 @@ impl<T> ChunkList<T> {
         Walk::new(self)
     }
 
-    /// The place of the first item that does not pass the test, where those that pass stand first, and that item; the
-    /// length and None where all pass. It looks at no more than two times as many items as the length has bits.
+    /// The place of the first item that does not pass the test, where those that pass stand first,
+    /// and that item; the length and None where all pass. It looks at no more than two times as
+    /// many items as the length has bits.
     #[tactic(auto, using(crate::proofs::Places::some_chunk))]
     pub fn search<L: Ledger, F: Fn(&T) -> bool>(
         &self,
@@ -119,8 +121,10 @@ impl<T> ChunkList<T> {
     ) -> (usize, Option<&T>)
         requires { F.IsAlwaysCallable passes }
         ensures within { result.0 ≤ length self.now.items }
-        ensures before { 0 < result.0 → HoldsAt (λ x. FnReturnsAt F.Fn passes x true) self.now.items (result.0 - 1) }
-        ensures after { result.0 < length self.now.items → HoldsAt (λ x. FnReturnsAt F.Fn passes x false) self.now.items result.0 }
+        ensures before { 0 < result.0
+            → HoldsAt (λ x. FnReturnsAt F.Fn passes x true) self.now.items (result.0 - 1) }
+        ensures after { result.0 < length self.now.items
+            → HoldsAt (λ x. FnReturnsAt F.Fn passes x false) self.now.items result.0 }
         ensures item { option_copied result.1 ≡ slice_get self.now.items result.0 }
         ensures looks { (k : ℕ) → length self.now.items < 2 ^ k → steps.new ≤ steps.old + 2 * k }
     {
@@ -129,7 +133,8 @@ impl<T> ChunkList<T> {
         }
         let at = chunk_of(&self.chunks, &passes, steps);
         let start = self.starts[at];
-        // The first item of the chunk passes, unless it is the first chunk, of which nothing is known.
+        // The first item of the chunk passes, unless it is the first chunk, of which nothing is
+        // known.
         let known = at.min(1);
         let chunk = &self.chunks[at];
         let place = place_in(chunk, known, &passes, steps);
@@ -146,8 +151,10 @@ impl<T> ChunkList<T> {
     pub fn find<F: Fn(&T) -> bool>(&self, passes: F) -> (usize, Option<&T>)
         requires { F.IsAlwaysCallable passes }
         ensures within { result.0 ≤ length self.now.items }
-        ensures before { 0 < result.0 → HoldsAt (λ x. FnReturnsAt F.Fn passes x true) self.now.items (result.0 - 1) }
-        ensures after { result.0 < length self.now.items → HoldsAt (λ x. FnReturnsAt F.Fn passes x false) self.now.items result.0 }
+        ensures before { 0 < result.0
+            → HoldsAt (λ x. FnReturnsAt F.Fn passes x true) self.now.items (result.0 - 1) }
+        ensures after { result.0 < length self.now.items
+            → HoldsAt (λ x. FnReturnsAt F.Fn passes x false) self.now.items result.0 }
         ensures item { option_copied result.1 ≡ slice_get self.now.items result.0 }
     {
         counted::<T, Brand, F>(self, passes, Blank::new(1))
@@ -203,8 +210,8 @@ impl<T> ChunkList<T> {
         mem::replace(&mut chunk[inside], item)
     }
 
-    /// Takes the item at a place out; those behind it move down by one. It takes no memory, and gives some back
-    /// where a chunk became empty that the room does not need.
+    /// Takes the item at a place out; those behind it move down by one. It takes no memory, and
+    /// gives some back where a chunk became empty that the room does not need.
     pub fn remove(&mut self, place: usize) -> T
     where
         T: Drop,
@@ -235,8 +242,10 @@ fn counted<T, L: Ledger, F: Fn(&T) -> bool>(
     requires parts { blank.parts ≡ L.parts }
     requires some { 0 < L.parts }
     ensures within { result.0 ≤ length list.now.items }
-    ensures before { 0 < result.0 → HoldsAt (λ x. FnReturnsAt F.Fn passes x true) list.now.items (result.0 - 1) }
-    ensures after { result.0 < length list.now.items → HoldsAt (λ x. FnReturnsAt F.Fn passes x false) list.now.items result.0 }
+    ensures before { 0 < result.0
+        → HoldsAt (λ x. FnReturnsAt F.Fn passes x true) list.now.items (result.0 - 1) }
+    ensures after { result.0 < length list.now.items
+        → HoldsAt (λ x. FnReturnsAt F.Fn passes x false) list.now.items result.0 }
     ensures item { option_copied result.1 ≡ slice_get list.now.items result.0 }
 {
     let mut steps = Steps::<L>::new(blank);

@@ -1,15 +1,17 @@
 //! Items that go into a chunk and out of it, and places for one item too many.
-ghost use Rattle.std.specs.Prelude.{◌≡◌, ◌≢◌, ◌⊎◌, ◌+◌, ◌*◌, ◌^◌, ◌<◌, ◌≤◌, length, slice_index_or, MatchOption, vec_len, vec_capacity};
+ghost use Rattle.std.specs.Prelude.{◌≡◌, ◌≢◌, ◌⊎◌, ◌+◌, ◌*◌, ◌^◌, ◌<◌, ◌≤◌, length, slice_index_or};
+ghost use Rattle.std.specs.Prelude.{MatchOption, vec_len, vec_capacity};
 ghost use Rattle.std.specs.List.{All, insert, remove};
-ghost use Rattle.chunk_list.specs.Chunks.{AreChunks, AreChunksBut, AreLaidOut, AreStarts, IsSpare, full, joined};
+ghost use Rattle.chunk_list.specs.Chunks.{AreChunks, AreChunksBut, AreLaidOut, AreStarts, IsSpare};
+ghost use Rattle.chunk_list.specs.Chunks.{full, joined};
 ghost use Rattle.chunk_list.specs.Edits.{AreTurned, HasFree, NoneFree};
 
 use crate::chunks::{cut, give, put};
 use crate::list::CHUNK;
 use crate::starts::{locate, shift};
 
-// A full chunk takes places from a chunk that is no further away than this and has so many free. So chunks are well
-// filled, and few are cut.
+// A full chunk takes places from a chunk that is no further away than this and has so many free. So
+// chunks are well filled, and few are cut.
 const NEAR: usize = 4;
 
 const SOME: usize = 32;
@@ -18,7 +20,8 @@ const SOME: usize = 32;
 fn nearest<T>(chunks: &Vec<Vec<T>>, at: usize, reach: usize, least: usize) -> Option<usize>
     requires at { at < length chunks.now.items }
     requires least { (0 < least) × (least ≤ full) }
-    ensures { MatchOption result (NoneFree chunks.now.items at reach least) (HasFree chunks.now.items at) }
+    ensures { MatchOption result (NoneFree chunks.now.items at reach least)
+        (HasFree chunks.now.items at) }
 {
     let furthest = reach.min(chunks.len());
     let mut step = 1;
@@ -42,8 +45,9 @@ fn nearer(from: usize, at: usize) -> usize
     if at < from { from - 1 } else { from + 1 }
 }
 
-// Gives the chunk at `at`, which has one item too many, half of the places that are free in the chunk at `free`: chunk
-// by chunk as many items move towards it, or fewer where a chunk between has places for them.
+// Gives the chunk at `at`, which has one item too many, half of the places that are free in the
+// chunk at `free`: chunk by chunk as many items move towards it, or fewer where a chunk between has
+// places for them.
 fn share<T: Drop>(chunks: &mut Vec<Vec<T>>, at: usize, free: usize)
     requires chunks { AreChunksBut chunks.old.items at }
     requires over { (d : _) → vec_len (slice_index_or chunks.old.items at d) ≡ full + 1 }
@@ -66,14 +70,15 @@ fn share<T: Drop>(chunks: &mut Vec<Vec<T>>, at: usize, free: usize)
     }
 }
 
-// Gives the chunk at `at`, which has one item too many, places from a chunk near by, or else cuts it in two; where no
-// chunk is spare, it gets places from wherever there are some.
+// Gives the chunk at `at`, which has one item too many, places from a chunk near by, or else cuts
+// it in two; where no chunk is spare, it gets places from wherever there are some.
 pub(crate) fn relieve<T: Drop>(chunks: &mut Vec<Vec<T>>, spare: &mut Vec<Vec<T>>, at: usize)
     requires chunks { AreChunksBut chunks.old.items at }
     requires over { (d : _) → vec_len (slice_index_or chunks.old.items at d) ≡ full + 1 }
     requires each { All IsSpare spare.old.items }
     requires fits { vec_len chunks.old + vec_len spare.old ≤ vec_capacity chunks.old }
-    requires enough { length (joined chunks.old.items) ≤ (vec_len chunks.old + vec_len spare.old) * full }
+    requires enough { length (joined chunks.old.items)
+        ≤ (vec_len chunks.old + vec_len spare.old) * full }
     ensures same { joined chunks.new.items ≡ joined chunks.old.items }
     ensures chunks { AreChunks chunks.new.items }
     ensures turned { AreTurned chunks.old spare.old chunks.new spare.new }
@@ -92,7 +97,8 @@ pub(crate) fn relieve<T: Drop>(chunks: &mut Vec<Vec<T>>, spare: &mut Vec<Vec<T>>
     }
 }
 
-// Puts an item into the chunk that its place falls into, which may then have one too many, and says which one that is.
+// Puts an item into the chunk that its place falls into, which may then have one too many, and says
+// which one that is.
 pub(crate) fn put_in<T: Drop>(
     chunks: &mut Vec<Vec<T>>,
     starts: &mut Vec<usize>,
@@ -118,7 +124,8 @@ pub(crate) fn put_in<T: Drop>(
     at
 }
 
-// Takes an item out of the chunk that its place falls into, which may then be empty, and says which one that is.
+// Takes an item out of the chunk that its place falls into, which may then be empty, and says which
+// one that is.
 #[tactic(auto, using(crate::proofs::Places::some_chunk))]
 pub(crate) fn take_out<T>(
     chunks: &mut Vec<Vec<T>>,

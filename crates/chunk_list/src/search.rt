@@ -17,13 +17,18 @@ pub(crate) fn chunk_of<T, L: Ledger, F: Fn(&T) -> bool>(
     requires some { 0 < length chunks.now.items }
     requires chunks { AreChunks chunks.now.items }
     ensures within { result < length chunks.now.items }
-    ensures here { 0 < result → HoldsAt (λ c. HoldsAt (λ x. FnReturnsAt F.Fn passes.now x true) c.items 0) chunks.now.items result }
-    ensures next { result + 1 < length chunks.now.items → HoldsAt (λ c. HoldsAt (λ x. FnReturnsAt F.Fn passes.now x false) c.items 0) chunks.now.items (result + 1) }
+    ensures here { 0 < result
+        → HoldsAt (λ c. HoldsAt (λ x. FnReturnsAt F.Fn passes.now x true) c.items 0)
+        chunks.now.items result }
+    ensures next { result + 1 < length chunks.now.items
+        → HoldsAt (λ c. HoldsAt (λ x. FnReturnsAt F.Fn passes.now x false) c.items 0)
+        chunks.now.items (result + 1) }
     ensures looks { (k : ℕ) → length chunks.now.items - 1 < 2 ^ k → steps.new ≤ steps.old + k }
 {
     let first_passes = |chunk: &Vec<T>| -> bool
         requires { F.IsAlwaysCallable passes.now }
-        ensures { 0 < length chunk.now.items → HoldsAt (λ x. FnReturnsAt F.Fn passes.entry.now x result) chunk.now.items 0 }
+        ensures { 0 < length chunk.now.items
+            → HoldsAt (λ x. FnReturnsAt F.Fn passes.entry.now x result) chunk.now.items 0 }
     {
         if chunk.len() == 0 {
             return true;
@@ -44,8 +49,10 @@ pub(crate) fn place_in<T, L: Ledger, F: Fn(&T) -> bool>(
     requires known { known ≤ length items.now.items }
     ensures low { known ≤ result }
     ensures high { result ≤ length items.now.items }
-    ensures before { known < result → HoldsAt (λ x. FnReturnsAt F.Fn passes.now x true) items.now.items (result - 1) }
-    ensures after { result < length items.now.items → HoldsAt (λ x. FnReturnsAt F.Fn passes.now x false) items.now.items result }
+    ensures before { known < result
+        → HoldsAt (λ x. FnReturnsAt F.Fn passes.now x true) items.now.items (result - 1) }
+    ensures after { result < length items.now.items
+        → HoldsAt (λ x. FnReturnsAt F.Fn passes.now x false) items.now.items result }
     ensures looks { (k : ℕ) → length items.now.items - known < 2 ^ k → steps.new ≤ steps.old + k }
 {
     let mut low = known;

@@ -71,7 +71,8 @@ impl Both {
         self.list.len() == end && self.list.get(end).is_none() && walk.get(end).is_none()
     }
 
-    // Items go in and out, and others in their places, `rounds` times; now and then the two are compared.
+    // Items go in and out, and others in their places, `rounds` times; now and then the two are
+    // compared.
     fn change(&mut self, seed: u64, rounds: u64) -> Result<bool, Fail> {
         let mut random = Random(seed);
         let mut agree = true;
@@ -110,7 +111,8 @@ impl Both {
         agree & self.agree()
     }
 
-    // Makes room for so many at once, and uses all of it: at an end, in the middle, at one place, or anywhere.
+    // Makes room for so many at once, and uses all of it: at an end, in the middle, at one place,
+    // or anywhere.
     fn fill(&mut self, more: usize, way: usize) -> Result<(), Fail> {
         let mut random = Random(0x0123_4567_89ab_cdef);
         self.list.reserve(more)?;

@@ -5,7 +5,8 @@ ghost use Rattle.std.specs.Option.{option_copied};
 use crate::ChunkList;
 use std::marker::Model;
 
-/// A walk through a list. It keeps the rest of a chunk at hand, so that the chunk of the next item is not looked for.
+/// A walk through a list. It keeps the rest of a chunk at hand, so that the chunk of the next item
+/// is not looked for.
 #[derive(Drop)]
 pub struct Walk<'a, T> {
     list: &'a ChunkList<T>,

@@ -1,6 +1,9 @@
 -- What clap finds in the words by which it is asked: a fault exactly where the option has no value or the number of
 -- operands is not one that the command has.
-use Rattle.std.proofs.Common.{◌≡◌, ℕ, zero, suc, max, ◌≤◌, ◌<◌, ◌&&◌, ◌||◌, ◌⊎◌, inl, inr, not, Result, Ok, Err, IfOk, IfSome, IsSomeAnd, true≢false, nat_lt, Bool, true, false, List, [], ◌∷◌, ◌++◌, length, map, Option, Some, None, refl, sym, ap, ap₂, ◌∙◌, append_assoc, arith, fold, subst, lt-ltb, le-ltb, ltb-false, le-leb, eqb-true}
+use Rattle.std.proofs.Common.{◌≡◌, ℕ, zero, suc, max, ◌≤◌, ◌<◌, ◌&&◌, ◌||◌, ◌⊎◌, inl, inr, not, Result, Ok, Err, IfOk}
+use Rattle.std.proofs.Common.{IfSome, IsSomeAnd, true≢false, nat_lt, Bool, true, false, List, [], ◌∷◌, ◌++◌, length}
+use Rattle.std.proofs.Common.{map, Option, Some, None, refl, sym, ap, ap₂, ◌∙◌, append_assoc, arith, fold, subst}
+use Rattle.std.proofs.Common.{lt-ltb, le-ltb, ltb-false, le-leb, eqb-true}
 use Rattle.std.proofs.lemmas.List.{append-nil, length-map}
 use Rattle.std.proofs.lemmas.Bool.{ne_eqb, eq-eqb, cases_lt, lt-leb, not-false}
 use Rattle.std.specs.Prelude.{codes, nat_le, nat_eq, unwrap_or}
@@ -9,20 +12,23 @@ use Rattle.clap.specs.Kinds.{Kinds, or_else, range_kinds, values_kinds, FailsBy,
 use Rattle.clap.specs.Values.{kind_of}
 use Rattle.clap.specs.declared.error.Error.{Error}
 use Rattle.clap.specs.declared.error.kind.ErrorKind.TheVariants as kind
-use Rattle.clap.specs.Walk.{Text, Rule, rule_of, Walk, walked, walk_from, nothing_held, positional, takes_several, settled, finished}
+use Rattle.clap.specs.Walk.{Text, Rule, rule_of, Walk, walked, walk_from, nothing_held, positional, takes_several}
+use Rattle.clap.specs.Walk.{settled, finished}
 use Rattle.clap.specs.Simple.{App, Shape, built, with_rule, new_rule}
 use Rattle.clap.specs.declared.builder.arg.Arg.{Arg}
 use Rattle.clap.specs.declared.builder.range.ValueRange.{ValueRange}
 use Rattle.clap.specs.declared.builder.action.ArgAction.TheVariants as action
 use Rattle.clap.specs.declared.parser.matches.ArgMatches.{ArgMatches}
-use Rattle.clap.specs.Faults.{fault_of, is_simple_and_free, walk_fault, turn_fault, settle_fault, defaults_fault, check_fault}
+use Rattle.clap.specs.Faults.{fault_of, is_simple_and_free, walk_fault, turn_fault, settle_fault, defaults_fault}
+use Rattle.clap.specs.Faults.{check_fault}
 use Rattle.clap.specs.declared.builder.value_parser.ValueParser.TheVariants as vp
 use Rattle.clap.proofs.OnLiterals.{clap_on_literals}
 use Rattle.clap.proofs.FaultLemmas.{leaf_fault}
 use Rattle.cli_words.specs.Word.{Word}
 use Rattle.cli_words.specs.Words.{fits, is_within, is_whole}
 use Rattle.cli_words.specs.Given.{allows}
-use Rattle.cli_words.specs.Form.{bare, operands_rule, with_option, form, most_of, option_text, asked, listed, has_no_kind}
+use Rattle.cli_words.specs.Form.{bare, operands_rule, with_option, form, most_of, option_text, asked, listed}
+use Rattle.cli_words.specs.Form.{has_no_kind}
 use Rattle.cli_words.specs.declared.given.Given.{Given}
 use Rattle.cli_words.specs.declared.given.Given.TheVariants as given
 use Rattle.cli_words.specs.declared.synopsis.Synopsis.{Synopsis}
@@ -152,8 +158,10 @@ no_walk_fault : (c : Option') (l e : ℕ) (xs ys : List Text) → several l e �
 unfolding walk_fault
 no_walk_fault c l e xs [] h = refl
 no_walk_fault c l e xs (y ∷ ys) h =
-    let rest : walk_fault (shape (allowed_of c) l e) [] (walked (rules (allowed_of c) l e) [] (among c l e xs) y) ys ≡ [] =
-    ap (λ w. walk_fault (shape (allowed_of c) l e) [] w ys) (next_step c l e xs y h) ∙ no_walk_fault c l e (xs ++ y ∷ []) ys h in
+    let rest : walk_fault (shape (allowed_of c) l e) []
+    (walked (rules (allowed_of c) l e) [] (among c l e xs) y) ys ≡ [] =
+    ap (λ w. walk_fault (shape (allowed_of c) l e) [] w ys) (next_step c l e xs y h)
+    ∙ no_walk_fault c l e (xs ++ y ∷ []) ys h in
     ap₂ or_else (no_turn_fault c l e xs y h) rest
 
 or_else_nil : (k : Kinds) → or_else k [] ≡ k
@@ -168,7 +176,8 @@ strings_pass (x ∷ xs) = strings_pass xs
 to_first : (c : Option') (l e : ℕ) (x : Text) (xs : List Text)
     → level (shape (allowed_of c) l e) (listed (text_of c) ++ dashes ∷ x ∷ xs)
     ≡ or_else (walk_fault (shape (allowed_of c) l e) [] (walked (rules (allowed_of c) l e) [] (front c l e) x) xs)
-    (rest_of (shape (allowed_of c) l e) (fold (walked (rules (allowed_of c) l e) []) (walked (rules (allowed_of c) l e) [] (front c l e) x) xs))
+    (rest_of (shape (allowed_of c) l e)
+    (fold (walked (rules (allowed_of c) l e) []) (walked (rules (allowed_of c) l e) [] (front c l e) x) xs))
 unfolding clap_on_literals
 to_first none l e x xs = refl
 to_first no_deleted l e x xs = refl
@@ -221,7 +230,14 @@ range_fits l e n within = go (nat_eq l e) refl (cases_lt (suc n) l) (cases_lt e 
         rw (some, and_false (nat_lt 0 l), q, ne_eqb l (suc n) (λ same. omega arith), lt-leb l (suc n) low) refl
     go true q (inr enough) (inl high) =
         let same : l ≡ e = eqb-true l e q in
-        rw (some, and_false (nat_lt 0 l), q, ne_eqb l (suc n) (λ other. omega arith), le-leb l (suc n) enough, lt-leb (suc n) e high) refl
+        rw (
+          some,
+          and_false (nat_lt 0 l),
+          q,
+          ne_eqb l (suc n) (λ other. omega arith),
+          le-leb l (suc n) enough,
+          lt-leb (suc n) e high,
+        ) refl
     go true q (inr enough) (inr few) =
         let same : l ≡ e = eqb-true l e q in
         let here : l ≡ suc n = omega arith in
@@ -229,9 +245,25 @@ range_fits l e n within = go (nat_eq l e) refl (cases_lt (suc n) l) (cases_lt e 
     go false q (inl low) high =
         rw (some, and_false (nat_lt 0 l), q, lt-ltb (suc n) l low, lt-leb l (suc n) low) refl
     go false q (inr enough) (inl high) =
-        rw (some, and_false (nat_lt 0 l), q, le-ltb (suc n) l enough, lt-ltb e (suc n) high, le-leb l (suc n) enough, lt-leb (suc n) e high) refl
+        rw (
+          some,
+          and_false (nat_lt 0 l),
+          q,
+          le-ltb (suc n) l enough,
+          lt-ltb e (suc n) high,
+          le-leb l (suc n) enough,
+          lt-leb (suc n) e high,
+        ) refl
     go false q (inr enough) (inr few) =
-        rw (some, and_false (nat_lt 0 l), q, le-ltb (suc n) l enough, le-ltb e (suc n) few, le-leb l (suc n) enough, le-leb (suc n) e few) refl
+        rw (
+          some,
+          and_false (nat_lt 0 l),
+          q,
+          le-ltb (suc n) l enough,
+          le-ltb e (suc n) few,
+          le-leb l (suc n) enough,
+          le-leb (suc n) e few,
+        ) refl
 
 -- ---- no operand
 
@@ -300,7 +332,8 @@ counted l e n = nat_le l n && nat_le n e
 too_many : (l n : ℕ) → l < n → false ≡ counted l l n
 too_many l n more = sym (ap (λ b. nat_le l n && b) (lt-leb n l more) ∙ and_false (nat_le l n))
 
-single_at : (c : Option') (l : ℕ) (x : Text) (xs : List Text) → l ≤ 1 → clean c l l (x ∷ xs) ≡ counted l l (length (x ∷ xs))
+single_at : (c : Option') (l : ℕ) (x : Text) (xs : List Text) → l ≤ 1
+    → clean c l l (x ∷ xs) ≡ counted l l (length (x ∷ xs))
 single_at c zero x [] few = one_of_none c x ∙ too_many 0 1 (omega arith)
 single_at c zero x (y ∷ ys) few = two_of_none c x y ys ∙ too_many 0 (length (x ∷ y ∷ ys)) (omega arith)
 single_at c (suc zero) x [] few = one_of_one c x
@@ -337,12 +370,14 @@ form_is c l e (x ∷ xs) within =
 
 -- ---- `--limit` without a value
 
-limitless : (l e : ℕ) (xs : List Text) → has_no_kind (level (shape allowed.Limit l e) (codes "--limit" ∷ dashes ∷ xs)) ≡ false
+limitless : (l e : ℕ) (xs : List Text)
+    → has_no_kind (level (shape allowed.Limit l e) (codes "--limit" ∷ dashes ∷ xs)) ≡ false
 unfolding clap_on_literals
 limitless l e [] = refl
 limitless l e (x ∷ xs) = refl
 
-pub no_value : (l e : ℕ) (xs : List Text) → has_no_kind (fault_of (app allowed.Limit l e) (codes "--limit" ∷ dashes ∷ xs)) ≡ false
+pub no_value : (l e : ℕ) (xs : List Text)
+    → has_no_kind (fault_of (app allowed.Limit l e) (codes "--limit" ∷ dashes ∷ xs)) ≡ false
 no_value l e xs = ap has_no_kind (level_is allowed.Limit l e (codes "--limit" ∷ dashes ∷ xs)) ∙ limitless l e xs
 
 -- ---- the whole test
@@ -365,11 +400,14 @@ pub fits_is : (s : Synopsis) (g : Given) (ws : List Word) → allows s.option g 
     → length ws ≤ usize_max → has_no_kind (fault_of (form s) (asked (option_text g) ws)) ≡ fits s g (length ws)
 fits_is s g ws allowed' ordered few = go s.option g allowed'
   where
-    good : (c : Option') → has_no_kind (fault_of (app (allowed_of c) s.least (max (most_of s) s.least)) (listed (text_of c) ++ dashes ∷ map (λ w. w.1) ws))
+    good : (c : Option') → has_no_kind
+        (fault_of (app (allowed_of c) s.least (max (most_of s) s.least))
+        (listed (text_of c) ++ dashes ∷ map (λ w. w.1) ws))
         ≡ (nat_le s.least (length ws) && is_within (length ws) s.most)
     good c =
         form_is c s.least (max (most_of s) s.least) (map (λ w. w.1) ws) (omega arith)
-        ∙ ap (counted s.least (max (most_of s) s.least)) (length-map ws (λ (w : Word). w.1)) ∙ most_fits s (length ws) ordered few
+        ∙ ap (counted s.least (max (most_of s) s.least)) (length-map ws (λ (w : Word). w.1))
+        ∙ most_fits s (length ws) ordered few
 
     go : (o : Allowed) (g' : Given) → allows o g' ≡ true
         → has_no_kind (fault_of (app o s.least (max (most_of s) s.least)) (asked (option_text g') ws))
@@ -390,17 +428,20 @@ fits_is s g ws allowed' ordered few = go s.option g allowed'
 pub no_fault_found : (kinds : Kinds) → kinds ≡ [] → true ≡ has_no_kind kinds
 no_fault_found kinds none' = sym (ap has_no_kind none')
 
-pub fault_found : (kinds : Kinds) (e : Error) → HasKind kinds e → (kind_of e ≡ kind.OutOfMemory → ⊥) → false ≡ has_no_kind kinds
+pub fault_found : (kinds : Kinds) (e : Error) → HasKind kinds e → (kind_of e ≡ kind.OutOfMemory → ⊥)
+    → false ≡ has_no_kind kinds
 fault_found [] e (inl memory) other = absurd (other memory)
 fault_found [] e (inr among') other = absurd among'
 fault_found (k ∷ ks) e h other = refl
 
-pub passes_answered : {E : Type 0} (a : App) (s : Synopsis) (ws : List Text) (answer : Result ArgMatches Error) (r : Result Bool E) → a ≡ form s
+pub passes_answered : {E : Type 0} (a : App) (s : Synopsis) (ws : List Text) (answer : Result ArgMatches Error)
+    (r : Result Bool E) → a ≡ form s
     → (is_simple_and_free a ≡ true → FailsBy (fault_of a ws) answer)
     → IfOk r (λ b. (kinds : Kinds) → FailsBy kinds answer → b ≡ has_no_kind kinds)
     → IfOk r (λ b. b ≡ has_no_kind (fault_of (form s) ws))
 passes_answered a s ws answer (Ok b) same fails told =
-    let simple : is_simple_and_free a ≡ true = ap is_simple_and_free same ∙ is_simple_form s.option s.least (max (most_of s) s.least) in
+    let simple : is_simple_and_free a ≡ true = ap is_simple_and_free same
+    ∙ is_simple_form s.option s.least (max (most_of s) s.least) in
     told (fault_of a ws) (fails simple) ∙ ap (λ f. has_no_kind (fault_of f ws)) same
 passes_answered a s ws answer (Err e) same fails told = tt
 
@@ -410,11 +451,14 @@ some_and : {V : Type 0} (o : Option V) (v : V) → IsSomeAnd o (λ x. x ≡ v) �
 some_and None v h = absurd h
 some_and (Some x) v h = ap (λ y. Some y) h
 
-pub operands_rule_is : (new required ranged acted : Arg) (range : ValueRange) (b : Bool) (least most : ℕ) → rule_of new ≡ new_rule (codes "operands")
-    → required ≡ record new { required = b } → b ≡ nat_lt 0 least → ranged ≡ record required { num_vals = ranged.num_vals }
+pub operands_rule_is : (new required ranged acted : Arg) (range : ValueRange) (b : Bool) (least most : ℕ)
+    → rule_of new ≡ new_rule (codes "operands")
+    → required ≡ record new { required = b } → b ≡ nat_lt 0 least
+    → ranged ≡ record required { num_vals = ranged.num_vals }
     → IsSomeAnd ranged.num_vals (λ r. r ≡ range) → range ≡ record { start_inclusive = least; end_inclusive = most }
     → acted ≡ record ranged { action = Some action.Set } → rule_of acted ≡ operands_rule least most
-operands_rule_is new required ranged acted range b least most new_is required_is b_is ranged_is has_range range_is acted_is =
+operands_rule_is new required ranged acted range b least most new_is required_is b_is ranged_is has_range
+    range_is acted_is =
     let held : ranged.num_vals ≡ Some (record { start_inclusive = least; end_inclusive = most }) =
     some_and ranged.num_vals range has_range ∙ ap (λ r. Some r) range_is in
     ap rule_of acted_is
@@ -422,9 +466,12 @@ operands_rule_is new required ranged acted range b least most new_is required_is
     ∙ ap₂ (λ (r : Rule) (n : Option ValueRange). record r { range = n })
     (ap rule_of required_is ∙ ap₂ (λ (r : Rule) (t : Bool). record r { required = t }) new_is b_is) held)
 
-pub fits_answered : {E : Type 0} (s : Synopsis) (g : Given) (ws : List Word) (option : Option Text) (words : List Text) (r : Result Bool E)
+pub fits_answered : {E : Type 0} (s : Synopsis) (g : Given) (ws : List Word) (option : Option Text) (words : List Text)
+    (r : Result Bool E)
     → words ≡ asked option ws → option ≡ option_text g → allows s.option g ≡ true → IfSome s.most (λ m. s.least ≤ m)
-    → length ws ≤ usize_max → IfOk r (λ b. b ≡ has_no_kind (fault_of (form s) words)) → IfOk r (λ b. b ≡ fits s g (length ws))
+    → length ws ≤ usize_max → IfOk r (λ b. b ≡ has_no_kind (fault_of (form s) words))
+    → IfOk r (λ b. b ≡ fits s g (length ws))
 fits_answered s g ws option words (Ok b) are is allowed' ordered few h =
-    h ∙ ap (λ ts. has_no_kind (fault_of (form s) ts)) (are ∙ ap (λ o. asked o ws) is) ∙ fits_is s g ws allowed' ordered few
+    h ∙ ap (λ ts. has_no_kind (fault_of (form s) ts)) (are ∙ ap (λ o. asked o ws) is)
+    ∙ fits_is s g ws allowed' ordered few
 fits_answered s g ws option words (Err e) are is allowed' ordered few h = tt

@@ -1,5 +1,6 @@
 -- Private to the test of a command's form: what clap is asked, and what it answers.
-use Rattle.std.specs.Prelude.{◌≡◌, ℕ, max, Bool, true, false, nat_lt, List, [], ◌∷◌, ◌++◌, codes, map, Option, Some, None, unwrap_or}
+use Rattle.std.specs.Prelude.{◌≡◌, ℕ, max, Bool, true, false, nat_lt, List, [], ◌∷◌, ◌++◌, codes, map, Option, Some}
+use Rattle.std.specs.Prelude.{None, unwrap_or}
 use Rattle.clap.specs.Lexer.{usize_max}
 use Rattle.clap.specs.Walk.{Rule, Text}
 use Rattle.clap.specs.Simple.{App, new_app, new_rule, with_rule, on_top, app_of}

@@ -1,8 +1,10 @@
 -- The table of the commands: for each its word, how many operands it has and which option, and how they are read.
-use Rattle.std.specs.Prelude.{ℕ, ◌^◌, ◌-◌, min, List, codes, drop, find, Option, Some, None, option_map, Result, Ok, Err, slice_get}
+use Rattle.std.specs.Prelude.{ℕ, ◌^◌, ◌-◌, min, List, codes, drop, find, Option, Some, None, option_map, Result, Ok}
+use Rattle.std.specs.Prelude.{Err, slice_get}
 use Rattle.std.specs.Str.{bytes_eq}
 use Rattle.u1_base.specs.declared.limits.TheConstants.{LEAST_IMAGE_LIMIT, GREATEST_IMAGE_LIMIT, GREATEST_COUNT}
-use Rattle.cli_words.specs.declared.limits.TheConstants.{GREATEST_PORT, MOST_CONNECTIONS, MOST_ROUNDS, MOST_BETWEEN, MOST_WORKLOAD}
+use Rattle.cli_words.specs.declared.limits.TheConstants.{GREATEST_PORT, MOST_CONNECTIONS, MOST_ROUNDS, MOST_BETWEEN}
+use Rattle.cli_words.specs.declared.limits.TheConstants.{MOST_WORKLOAD}
 use Rattle.cli_words.specs.declared.command.Command.{Command}
 use Rattle.cli_words.specs.declared.command.Command.TheVariants as to
 use Rattle.cli_words.specs.declared.fault.Refused.{Refused}
@@ -15,7 +17,8 @@ use Rattle.cli_words.specs.declared.verb.Verb.TheVariants as verb
 use Rattle.cli_words.specs.declared.verb.TheConstants.{VERBS}
 use Rattle.cli_words.specs.Given.{is_deleted, limit_word}
 use Rattle.cli_words.specs.Word.{Word, word_at}
-use Rattle.cli_words.specs.Operands.{document, uid, name, revision, address, end, number, texts, with_one, with_two, with_three, with_four, maybe, each}
+use Rattle.cli_words.specs.Operands.{document, uid, name, revision, address, end, number, texts, with_one, with_two}
+use Rattle.cli_words.specs.Operands.{with_three, with_four, maybe, each}
 
 -- ---- `init`, whose option may stand before its operands
 

@@ -1,5 +1,6 @@
 -- Which command words are, and why others are none.
-use Rattle.std.specs.Prelude.{ℕ, Bool, true, false, ◌&&◌, nat_le, List, [], ◌∷◌, length, Option, Some, None, Result, Ok, Err, if◌then◌else◌}
+use Rattle.std.specs.Prelude.{ℕ, Bool, true, false, ◌&&◌, nat_le, List, [], ◌∷◌, length, Option, Some, None, Result, Ok}
+use Rattle.std.specs.Prelude.{Err, if◌then◌else◌}
 use Rattle.cli_words.specs.Faults.{Answers}
 use Rattle.cli_words.specs.Word.{Word}
 use Rattle.cli_words.specs.Parted.{Any, parted}

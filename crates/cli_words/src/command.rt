@@ -3,7 +3,8 @@ use sync_http::Address;
 use u1_base::{DbName, DocId, IndexName, Key, ReplicaUid, Texts};
 use vector_rev::{Clock, Clocks};
 
-/// One command. Expressions and query values stand as they were given; whoever runs the command reads them.
+/// One command. Expressions and query values stand as they were given; whoever runs the command
+/// reads them.
 #[derive(Debug, Drop)]
 pub enum Command {
     /// Makes a store. The limit is the greatest length of its image, in bytes.
@@ -97,7 +98,8 @@ pub enum Command {
         port: u16,
         count: u64,
     },
-    /// Serves and synchronises in turn: the rounds, and how many connections are served between two of them.
+    /// Serves and synchronises in turn: the rounds, and how many connections are served between two
+    /// of them.
     Node {
         port: u16,
         with: Address,

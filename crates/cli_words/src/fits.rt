@@ -1,9 +1,11 @@
 //! Whether a command has the right number of operands, and its option a value: clap decides it.
-ghost use Rattle.std.specs.Prelude.{◌≡◌, ◌≤◌, ◌++◌, IfOk, IfSome, true, codes, length, map, option_map, string_bytes};
+ghost use Rattle.std.specs.Prelude.{◌≡◌, ◌≤◌, ◌++◌, IfOk, IfSome, true, codes, length, map};
+ghost use Rattle.std.specs.Prelude.{option_map, string_bytes};
 ghost use Rattle.clap.specs.Faults.{fault_of};
 ghost use Rattle.clap.specs.Kinds.{FailsBy, Kinds};
 ghost use Rattle.clap.specs.Words.{app_of};
-ghost use Rattle.cli_words.specs.Form.{HasNoGlobals, IsForm, asked, bare, form, has_no_kind, option_text, with_option};
+ghost use Rattle.cli_words.specs.Form.{HasNoGlobals, IsForm, asked, bare, form, has_no_kind};
+ghost use Rattle.cli_words.specs.Form.{option_text, with_option};
 ghost use Rattle.cli_words.specs.Given.{allows};
 ghost use Rattle.cli_words.specs.Words.{fits};
 
@@ -104,7 +106,8 @@ fn verdict(answer: &Result<ArgMatches, Error>) -> Result<bool, Memory>
     }
 }
 
-// The command as clap parses it: all operands are the values of one argument, and the option is another one.
+// The command as clap parses it: all operands are the values of one argument, and the option is
+// another one.
 fn command<'w>(alloc: Global, synopsis: Synopsis) -> Result<Command<'w>, AllocError>
     ensures { IfOk result (λ c. IsForm c (form synopsis)) }
 {

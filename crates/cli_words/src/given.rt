@@ -1,7 +1,8 @@
 //! The option that stands among the words.
 ghost use Rattle.std.specs.Prelude.{◌≡◌, IfSome, option_map, slice_get, true};
 ghost use Rattle.cli_words.specs.declared.synopsis.Allowed.TheVariants as limit_allowed;
-ghost use Rattle.cli_words.specs.Given.{allows, flag_in, given_in, is_deleted, limit_given, limit_word};
+ghost use Rattle.cli_words.specs.Given.{allows, flag_in, given_in, is_deleted, limit_given};
+ghost use Rattle.cli_words.specs.Given.{limit_word};
 
 use crate::parted::Parted;
 use crate::synopsis::Allowed;
@@ -35,7 +36,8 @@ impl<'a> Given<'a> {
     }
 }
 
-/// The option among the words. None where there is one that the command does not have, or more than one.
+/// The option among the words. None where there is one that the command does not have, or more than
+/// one.
 pub fn given_in<'a>(allowed: Allowed, parted: &Parted<'a>) -> Option<Given<'a>>
     ensures value { result ≡ given_in allowed parted.now }
     ensures allowed { IfSome result (λ given. allows allowed given ≡ true) }

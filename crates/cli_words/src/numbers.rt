@@ -4,8 +4,8 @@ ghost use Rattle.std.specs.Char.{is_ascii_digit};
 ghost use Rattle.std.specs.List.{list_all};
 ghost use Rattle.cli_words.specs.Numbers.{is_number, number_in};
 
-/// The number that the text is in decimal, without a sign and without leading zeros, if it lies from `least` to
-/// `greatest`.
+/// The number that the text is in decimal, without a sign and without leading zeros, if it lies
+/// from `least` to `greatest`.
 pub fn number_in(text: &str, least: u64, greatest: u64) -> Option<u64>
     ensures value { result ≡ number_in least greatest text.now }
     ensures small { IfSome result (λ n. n ≤ greatest) }

@@ -1,6 +1,7 @@
 //! The words behind the command, parted into operands and options.
 ghost use Rattle.std.specs.Prelude.{◌≡◌, IfOk, OnOk, drop};
-ghost use Rattle.cli_words.specs.Parted.{Any, after, after_word, is_option, joined, one, parted, role_of, unless_option};
+ghost use Rattle.cli_words.specs.Parted.{Any, after, after_word, is_option, joined, one, parted};
+ghost use Rattle.cli_words.specs.Parted.{role_of, unless_option};
 
 use crate::word::Word;
 use std::alloc::Global;

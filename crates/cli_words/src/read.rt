@@ -13,8 +13,8 @@ use crate::{Command, WordsFault, documents, indexes, stores, syncs};
 use std::alloc::Global;
 use u1_base::Text;
 
-/// Reads the words of a command line: the directory, the command, and its operands and options by the table in
-/// `specs/Table.antt`. The directory may be any word; it is not read here.
+/// Reads the words of a command line: the directory, the command, and its operands and options by
+/// the table in `specs/Table.antt`. The directory may be any word; it is not read here.
 pub fn read_words(alloc: Global, words: &[Text]) -> Result<Command, WordsFault>
     ensures { Answers (command_in words.now) result }
 {
@@ -28,7 +28,8 @@ pub fn read_words(alloc: Global, words: &[Text]) -> Result<Command, WordsFault>
     read_named(alloc, verb, &parted)
 }
 
-/// The operands and the option of the command that the word names, as they are shown to people: `ID [REV]` for `put`.
+/// The operands and the option of the command that the word names, as they are shown to people: `ID
+/// [REV]` for `put`.
 pub fn operands_shown(word: &str) -> Option<&'static str>
     ensures { option_map (λ s. s.now) result ≡ operands_shown word.now }
 {

@@ -4,8 +4,8 @@ ghost use Rattle.std.specs.Prelude.{◌≡◌};
 use crate::fault::Refused;
 use std::marker::Model;
 
-/// A word, or the part of one that holds a value, with the word's place; the directory is word 0. It is seen as the
-/// pair of place and text.
+/// A word, or the part of one that holds a value, with the word's place; the directory is word 0.
+/// It is seen as the pair of place and text.
 #[derive(Drop)]
 pub struct Word<'a> {
     place: usize,

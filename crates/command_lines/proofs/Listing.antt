@@ -1,5 +1,6 @@
 -- The texts of a list's items, printed one after the other.
-use Rattle.std.proofs.Common.{◌≡◌, ℕ, ◌+◌, ◌<◌, ◌≤◌, List, [], ◌∷◌, ◌++◌, length, take, drop, get_or, Ok, Err, sym, ap, ◌∙◌, append-nil}
+use Rattle.std.proofs.Common.{◌≡◌, ℕ, ◌+◌, ◌<◌, ◌≤◌, List, [], ◌∷◌, ◌++◌, length, take, drop, get_or, Ok, Err, sym, ap}
+use Rattle.std.proofs.Common.{◌∙◌, append-nil}
 use Rattle.std.proofs.lemmas.Grind.{flat_map-append}
 use Rattle.std.proofs.lemmas.List.{take-append-drop, take_all, take_more}
 use Rattle.std.specs.List.{flat_map}
@@ -23,16 +24,20 @@ module _ {X : Type 0} (f : X → List ℕ) (xs : List X) where
   pub one_more_of : (i : ℕ) (d : X) (a b c : Output) → i < length xs → Puts (flat_map f (take i xs)) a b (Ok tt)
       → Puts (f (get_or xs i d)) b c (Ok tt) → Puts (flat_map f (take (i + 1) xs)) a c (Ok tt)
   one_more_of i d a b c low first next =
-      puts_as _ _ a c (Ok tt) (joined i d low) (puts_then (flat_map f (take i xs)) (f (get_or xs i d)) a b c (Ok tt) first next)
+      puts_as _ _ a c (Ok tt) (joined i d low)
+      (puts_then (flat_map f (take i xs)) (f (get_or xs i d)) a b c (Ok tt) first next)
 
-  pub broken_at : (i : ℕ) (d : X) (a b c : Output) (fault : PrintFault) → i < length xs → Puts (flat_map f (take i xs)) a b (Ok tt)
+  pub broken_at : (i : ℕ) (d : X) (a b c : Output) (fault : PrintFault) → i < length xs
+      → Puts (flat_map f (take i xs)) a b (Ok tt)
       → Puts (f (get_or xs i d)) b c (Err fault) → Puts (flat_map f xs) a c (Err fault)
   broken_at i d a b c fault low first next =
       let part : Puts (flat_map f (take (i + 1) xs)) a c (Err fault) =
-      puts_as _ _ a c (Err fault) (joined i d low) (puts_then (flat_map f (take i xs)) (f (get_or xs i d)) a b c (Err fault) first next) in
+      puts_as _ _ a c (Err fault) (joined i d low)
+      (puts_then (flat_map f (take i xs)) (f (get_or xs i d)) a b c (Err fault) first next) in
       puts_as _ _ a c (Err fault)
       (sym (flat_map-append f (take (i + 1) xs) (drop (i + 1) xs)) ∙ ap (flat_map f) (take-append-drop (i + 1) xs))
       (puts_front (flat_map f (take (i + 1) xs)) (flat_map f (drop (i + 1) xs)) a c fault part)
 
-  pub all_of : (i : ℕ) (a b : Output) → length xs ≤ i → Puts (flat_map f (take i xs)) a b (Ok tt) → Puts (flat_map f xs) a b (Ok tt)
+  pub all_of : (i : ℕ) (a b : Output) → length xs ≤ i → Puts (flat_map f (take i xs)) a b (Ok tt)
+      → Puts (flat_map f xs) a b (Ok tt)
   all_of i a b high puts = puts_as _ _ a b (Ok tt) (ap (flat_map f) (take_all i xs high)) puts

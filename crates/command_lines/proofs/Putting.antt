@@ -1,5 +1,6 @@
 -- Texts that are printed one after the other.
-use Rattle.std.proofs.Common.{◌≡◌, ℕ, ◌+◌, ◌<◌, ◌≤◌, List, [], ◌++◌, length, take, Option, Result, Ok, Err, sym, ◌∙◌, subst, arith, ⊎_elim}
+use Rattle.std.proofs.Common.{◌≡◌, ℕ, ◌+◌, ◌<◌, ◌≤◌, List, [], ◌++◌, length, take, Option, Result, Ok, Err, sym, ◌∙◌}
+use Rattle.std.proofs.Common.{subst, arith, ⊎_elim}
 use Rattle.std.proofs.KnownBytes.{Appends-nil, Appends-trans}
 use Rattle.std.proofs.lemmas.Bool.{cases_lt}
 use Rattle.std.proofs.lemmas.List.{take-append-le, take_all}
@@ -15,7 +16,8 @@ pub Rose-since : (before later now : ℕ) → before ≤ later → Rose later no
 Rose-since before later now first rose = omega (arith, first, rose)
 
 -- a front of what stands behind a text, with the text, is a front of both
-pub front_behind : (xs ys : List ℕ) (a b c : Option (List ℕ)) → Appends a b xs → AppendsFront b c ys → AppendsFront a c (xs ++ ys)
+pub front_behind : (xs ys : List ℕ) (a b c : Option (List ℕ)) → Appends a b xs → AppendsFront b c ys
+    → AppendsFront a c (xs ++ ys)
 front_behind xs ys a b c whole front =
     (length xs + front.0, rw (take-append-add xs ys front.0) (Appends-trans a b c xs (take front.0 ys) whole front.1))
 
@@ -34,18 +36,25 @@ front_before xs ys a b front =
 pub puts_nothing : (out : Output) → Puts [] out out (Ok tt)
 puts_nothing out = (Appends-nil out.taken, omega arith)
 
-pub puts_then : (xs ys : List ℕ) (a b c : Output) (result : Result (Unit {0}) PrintFault) → Puts xs a b (Ok tt) → Puts ys b c result → Puts (xs ++ ys) a c result
-puts_then xs ys a b c (Ok done) first second = (Appends-trans a.taken b.taken c.taken xs ys first.0 second.0, omega (arith, first.1, second.1))
-puts_then xs ys a b c (Err Sink) first second =
-    (front_behind xs ys a.taken b.taken c.taken first.0 second.0, omega (arith, first.1, second.1), Rose-since a.faults b.faults c.faults first.1 second.2)
+pub puts_then : (xs ys : List ℕ) (a b c : Output) (result : Result (Unit {0}) PrintFault) → Puts xs a b (Ok tt)
+    → Puts ys b c result → Puts (xs ++ ys) a c result
+puts_then xs ys a b c (Ok done) first second =
+    (Appends-trans a.taken b.taken c.taken xs ys first.0 second.0, omega (arith, first.1, second.1))
+puts_then xs ys a b c (Err Sink) first second = (
+  front_behind xs ys a.taken b.taken c.taken first.0 second.0,
+  omega (arith, first.1, second.1),
+  Rose-since a.faults b.faults c.faults first.1 second.2,
+)
 puts_then xs ys a b c (Err Memory) first second =
     (front_behind xs ys a.taken b.taken c.taken first.0 second.0, omega (arith, first.1, second.1))
 
-pub puts_front : (xs ys : List ℕ) (a b : Output) (fault : PrintFault) → Puts xs a b (Err fault) → Puts (xs ++ ys) a b (Err fault)
+pub puts_front : (xs ys : List ℕ) (a b : Output) (fault : PrintFault) → Puts xs a b (Err fault)
+    → Puts (xs ++ ys) a b (Err fault)
 puts_front xs ys a b Sink front = (front_before xs ys a.taken b.taken front.0, front.1, front.2)
 puts_front xs ys a b Memory front = (front_before xs ys a.taken b.taken front.0, front.1)
 
-pub puts_as : (xs ys : List ℕ) (a b : Output) (result : Result (Unit {0}) PrintFault) → xs ≡ ys → Puts xs a b result → Puts ys a b result
+pub puts_as : (xs ys : List ℕ) (a b : Output) (result : Result (Unit {0}) PrintFault) → xs ≡ ys → Puts xs a b result
+    → Puts ys a b result
 puts_as xs ys a b result same puts = subst (λ (text : List ℕ). Puts text a b result) same puts
 
 -- memory ran out before anything was printed

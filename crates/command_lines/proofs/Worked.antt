@@ -11,7 +11,8 @@ use Rattle.u1_base.specs.Places.{Place, nowhere}
 use Rattle.vector_rev.specs.Clock.{Clock}
 use Rattle.command_lines.specs.Lines.{init_line, line_text, lines_text}
 use Rattle.command_lines.specs.LastLines.{last_line}
-use Rattle.command_lines.specs.declared.outcome.Outcome.TheVariants.{Done, Usage, BadContent, Refused, Damaged, StoreFull, LogCheck}
+use Rattle.command_lines.specs.declared.outcome.Outcome.TheVariants.{Done, Usage, BadContent, Refused, Damaged}
+use Rattle.command_lines.specs.declared.outcome.Outcome.TheVariants.{StoreFull, LogCheck}
 use Rattle.command_lines.specs.declared.outcome.Refusal.TheVariants as refusal
 use Rattle.command_lines.specs.declared.outcome.UsageKind.TheVariants as usage
 

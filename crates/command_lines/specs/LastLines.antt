@@ -7,9 +7,17 @@ use Rattle.disks.specs.declared.name.DiskName.TheVariants as disk
 use Rattle.vector_rev.specs.ClockText.{clock_text}
 use Rattle.command_lines.specs.Lines.{position_text}
 use Rattle.command_lines.specs.declared.outcome.Outcome.{Outcome}
-use Rattle.command_lines.specs.declared.outcome.Outcome.TheVariants.{Done, Usage, BadContent, Refused, Damaged, StoreFull, DiskFault, SourceFault, SinkFault, LinkFault, AcceptFault, Peer, BrokenReply, LogCheck, Memory}
+use Rattle.command_lines.specs.declared.outcome.Outcome.TheVariants.{Done, Usage, BadContent, Refused, Damaged}
+use Rattle.command_lines.specs.declared.outcome.Outcome.TheVariants.{StoreFull, DiskFault, SourceFault, SinkFault}
+use Rattle.command_lines.specs.declared.outcome.Outcome.TheVariants.{LinkFault, AcceptFault, Peer, BrokenReply}
+use Rattle.command_lines.specs.declared.outcome.Outcome.TheVariants.{LogCheck, Memory}
 use Rattle.command_lines.specs.declared.outcome.Refusal.{Refusal}
-use Rattle.command_lines.specs.declared.outcome.Refusal.TheVariants.{NoDatabase, DatabaseExists, NotEmpty, NotBuilt, NoDocument, Conflicted, RevisionConflict, AlreadyDeleted, NotConflicted, NothingNamed, Unnamed, ClockFull, IndexTooLong, IndexParse, IndexUnknown, IndexTaken, WrongWidth, BadGlob, ViewUnknown, ViewTaken}
+use Rattle.command_lines.specs.declared.outcome.Refusal.TheVariants.{NoDatabase, DatabaseExists, NotEmpty, NotBuilt}
+use Rattle.command_lines.specs.declared.outcome.Refusal.TheVariants.{NoDocument, Conflicted, RevisionConflict}
+use Rattle.command_lines.specs.declared.outcome.Refusal.TheVariants.{AlreadyDeleted, NotConflicted, NothingNamed}
+use Rattle.command_lines.specs.declared.outcome.Refusal.TheVariants.{Unnamed, ClockFull, IndexTooLong, IndexParse}
+use Rattle.command_lines.specs.declared.outcome.Refusal.TheVariants.{IndexUnknown, IndexTaken, WrongWidth, BadGlob}
+use Rattle.command_lines.specs.declared.outcome.Refusal.TheVariants.{ViewUnknown, ViewTaken}
 use Rattle.command_lines.specs.declared.outcome.UsageKind.{UsageKind}
 use Rattle.command_lines.specs.declared.outcome.UsageKind.TheVariants.{Words, Value}
 

@@ -8,7 +8,9 @@ use Rattle.conflicts.specs.State.{Text}
 use Rattle.u1_base.specs.Places.{Place}
 use Rattle.vector_rev.specs.ClockText.{clock_text}
 use Rattle.vector_rev.specs.Counts.{Uid}
-use Rattle.replica_core.specs.Commands.Effects.{Line, Made, Document, NoDocument, Conflict, IndexMade, IndexDeleted, Index, Keyed, Generation, Now, Changed, OfReplica, OfDatabase, Known, Told}
+use Rattle.replica_core.specs.Commands.Effects.{Line, Made, Document, NoDocument, Conflict, IndexMade, IndexDeleted}
+use Rattle.replica_core.specs.Commands.Effects.{Index, Keyed, Generation, Now, Changed, OfReplica, OfDatabase, Known}
+use Rattle.replica_core.specs.Commands.Effects.{Told}
 
 -- ---- parts of a line
 
@@ -43,7 +45,8 @@ init_line name uid = codes "database " ++ (name ++ (codes " replica " ++ (uid ++
 abbrev pub line_text : Line → List ℕ
 line_text (Made id rev) = id ++ (codes " " ++ (clock_text rev ++ codes "\n"))
 line_text (Document id m conflicted) =
-    id ++ (codes " " ++ (clock_text m.rev ++ (codes " " ++ (mark_text conflicted ++ (codes " " ++ (content_text m.content ++ codes "\n"))))))
+    id ++ (codes " " ++ (clock_text m.rev
+    ++ (codes " " ++ (mark_text conflicted ++ (codes " " ++ (content_text m.content ++ codes "\n"))))))
 line_text NoDocument = codes "none\n"
 line_text (Conflict m) = clock_text m.rev ++ (codes " " ++ (content_text m.content ++ codes "\n"))
 line_text (IndexMade name) = codes "index " ++ (name ++ codes "\n")

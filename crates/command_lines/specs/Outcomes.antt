@@ -16,7 +16,10 @@ use Rattle.replica_core.specs.declared.calls.indexes.IndexFault.TheVariants as i
 use Rattle.replica_reads.specs.declared.fault.QueryFault.{QueryFault}
 use Rattle.replica_reads.specs.declared.fault.QueryFault.TheVariants as query
 use Rattle.command_lines.specs.declared.outcome.Outcome.{Outcome}
-use Rattle.command_lines.specs.declared.outcome.Outcome.TheVariants.{Done, Usage, BadContent, Refused, Damaged, StoreFull, DiskFault, SourceFault, SinkFault, LinkFault, AcceptFault, Peer, BrokenReply, LogCheck, Memory}
+use Rattle.command_lines.specs.declared.outcome.Outcome.TheVariants.{Done, Usage, BadContent, Refused, Damaged}
+use Rattle.command_lines.specs.declared.outcome.Outcome.TheVariants.{StoreFull, DiskFault, SourceFault, SinkFault}
+use Rattle.command_lines.specs.declared.outcome.Outcome.TheVariants.{LinkFault, AcceptFault, Peer, BrokenReply}
+use Rattle.command_lines.specs.declared.outcome.Outcome.TheVariants.{LogCheck, Memory}
 use Rattle.command_lines.specs.declared.outcome.Refusal.TheVariants as refusal
 use Rattle.command_lines.specs.declared.put.PrintFault.{PrintFault}
 use Rattle.command_lines.specs.declared.put.PrintFault.TheVariants as print

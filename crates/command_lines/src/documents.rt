@@ -47,7 +47,9 @@ fn put_document<K: Sink>(
     mark: &str,
     content: &[u8],
 ) -> Result<(), PrintFault>
-    ensures { Puts (id.now ++ (codes " " ++ (rev.now ++ (codes " " ++ (mark.now ++ (codes " " ++ (content.now ++ codes "\n")))))))
+    ensures { Puts (id.now ++
+        (codes " " ++ (rev.now ++
+        (codes " " ++ (mark.now ++ (codes " " ++ (content.now ++ codes "\n")))))))
         (K.known out.old) (K.known out.new) result }
 {
     put_all(

@@ -45,7 +45,8 @@ fn print_usage<K: Sink>(out: &mut K, kind: UsageKind) -> Result<(), PrintFault>
 }
 
 fn print_bad_content<K: Sink>(out: &mut K, fault: ContentFault) -> Result<(), PrintFault>
-    ensures { Puts (last_line (Outcome.BadContent fault)) (K.known out.old) (K.known out.new) result }
+    ensures { Puts (last_line (Outcome.BadContent fault)) (K.known out.old)
+        (K.known out.new) result }
 {
     match fault {
         ContentFault::TooBig(length) => print_number(out, b"bad-content too-big", length),
@@ -59,7 +60,8 @@ fn print_bad_content<K: Sink>(out: &mut K, fault: ContentFault) -> Result<(), Pr
 }
 
 fn print_refusal<K: Sink>(out: &mut K, refusal: &Refusal) -> Result<(), PrintFault>
-    ensures { Puts (last_line (Outcome.Refused refusal.now)) (K.known out.old) (K.known out.new) result }
+    ensures { Puts (last_line (Outcome.Refused refusal.now)) (K.known out.old)
+        (K.known out.new) result }
 {
     match refusal {
         Refusal::RevisionConflict(current) => print_clock(
@@ -92,7 +94,8 @@ fn print_refusal<K: Sink>(out: &mut K, refusal: &Refusal) -> Result<(), PrintFau
 }
 
 fn print_damaged<K: Sink>(out: &mut K, disk: DiskName, place: u64) -> Result<(), PrintFault>
-    ensures { Puts (last_line (Outcome.Damaged disk place)) (K.known out.old) (K.known out.new) result }
+    ensures { Puts (last_line (Outcome.Damaged disk place)) (K.known out.old)
+        (K.known out.new) result }
 {
     match disk {
         DiskName::Root => print_number(out, b"damaged root", place),

@@ -1,8 +1,9 @@
-//! How the lines of the program are spelled: the lines of each command, the last line of each outcome, and its status.
+//! How the lines of the program are spelled: the lines of each command, the last line of each
+//! outcome, and its status.
 //!
-//! Each function prints one line to a sink. Its contract is one clause, `Puts`: the sink took just the line's text, or
-//! a front of it where the sink failed or memory ran out. The texts are defined in `specs/Lines.antt` and
-//! `specs/LastLines.antt`.
+//! Each function prints one line to a sink. Its contract is one clause, `Puts`: the sink took just
+//! the line's text, or a front of it where the sink failed or memory ran out. The texts are defined
+//! in `specs/Lines.antt` and `specs/LastLines.antt`.
 #![tactic(auto)]
 
 mod documents;

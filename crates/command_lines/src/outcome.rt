@@ -60,7 +60,8 @@ pub enum Refusal {
     NoDocument,
     /// The document has more than one member.
     Conflicted,
-    /// The given revision is the current one, and another one was named, or none although the document is live.
+    /// The given revision is the current one, and another one was named, or none although the
+    /// document is live.
     RevisionConflict(Clock),
     /// The current member has no content already.
     AlreadyDeleted,
@@ -68,7 +69,8 @@ pub enum Refusal {
     NotConflicted,
     /// No named revision is a member.
     NothingNamed,
-    /// No named member has the greatest own counter among all members. The given revision is the first that has it.
+    /// No named member has the greatest own counter among all members. The given revision is the
+    /// first that has it.
     Unnamed(Clock),
     /// The own counter is 2^63-1, or the clock would have more than 64 entries.
     ClockFull,

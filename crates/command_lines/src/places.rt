@@ -2,7 +2,8 @@
 ghost use Rattle.std.specs.Prelude.{◌≡◌, codes, unwrap_or};
 ghost use Rattle.command_lines.specs.Lines.{init_line, line_text};
 ghost use Rattle.command_lines.specs.Puts.{Puts};
-ghost use Rattle.replica_core.specs.Commands.Effects.{Changed, Generation, Known, Now, OfDatabase, OfReplica, Told};
+ghost use Rattle.replica_core.specs.Commands.Effects.{Changed, Generation, Known, Now, OfDatabase};
+ghost use Rattle.replica_core.specs.Commands.Effects.{OfReplica, Told};
 
 use crate::put::{PrintFault, put_all};
 use itoa::Buffer;

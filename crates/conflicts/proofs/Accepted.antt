@@ -22,7 +22,8 @@ grown d a = filter (λ m. not (covers a.rev m.rev)) d.members ++ member_of a ∷
 -- what it leaves has another clock, since it covers its own
 not_among_left : (ms : List Member) (r : Clock) → has_rev (filter (λ m. not (covers r m.rev)) ms) r ≡ false
 not_among_left ms r =
-    passes_none (λ m. same m.rev r) (filter (λ m. not (covers r m.rev)) ms) (λ m left. none_true (same m.rev r) (other m left))
+    passes_none (λ m. same m.rev r) (filter (λ m. not (covers r m.rev)) ms)
+    (λ m left. none_true (same m.rev r) (other m left))
   where
     other : (m : Member) → In m (filter (λ m. not (covers r m.rev)) ms) → same m.rev r ≡ true → ⊥
     other m left is =
@@ -30,7 +31,8 @@ not_among_left ms r =
         (not_true (covers r m.rev) (from_filter (λ n. not (covers r n.rev)) m ms left).1)
 
 -- a member with another clock is passed over
-passed_over : (b : Bool) (rest : Bool) (one other wanted : Option Tree) → (b || rest) ≡ false → (rest ≡ false → other ≡ wanted) → cond b one other ≡ wanted
+passed_over : (b : Bool) (rest : Bool) (one other wanted : Option Tree) → (b || rest) ≡ false
+    → (rest ≡ false → other ≡ wanted) → cond b one other ≡ wanted
 passed_over true rest one other wanted none later = absurd (not_both true refl none)
 passed_over false rest one other wanted none later = later none
 
@@ -38,7 +40,8 @@ passed_over false rest one other wanted none later = later none
 content_last : (ms : List Member) (n : Member) → has_rev ms n.rev ≡ false → content_at n.rev (ms ++ n ∷ []) ≡ n.content
 content_last [] n none = ap (λ b. cond b n.content (content_at n.rev [])) (same_itself n.rev)
 content_last (m ∷ ms) n none =
-    passed_over (same m.rev n.rev) (has_rev ms n.rev) m.content (content_at n.rev (ms ++ n ∷ [])) n.content none (content_last ms n)
+    passed_over (same m.rev n.rev) (has_rev ms n.rev) m.content (content_at n.rev (ms ++ n ∷ [])) n.content none
+    (content_last ms n)
 
 module _ (d : Document) (a : Accept) (none : list_any (λ m. dominates m.rev a.rev) d.members ≡ false) where
   pub members_after : (document_after d a).members ≡ grown d a
@@ -51,7 +54,8 @@ module _ (d : Document) (a : Accept) (none : list_any (λ m. dominates m.rev a.r
   -- a member that it does not cover stays one
   pub stays_member : (m : Member) → In m d.members → covers a.rev m.rev ≡ false → In m (document_after d a).members
   stays_member m i uncovered =
-      subst (In m) (sym members_after) (In-left m _ _ (In-filter (λ n. not (covers a.rev n.rev)) m d.members i (ap not uncovered)))
+      subst (In m) (sym members_after)
+      (In-left m _ _ (In-filter (λ n. not (covers a.rev n.rev)) m d.members i (ap not uncovered)))
 
   module _ (marked : a.current ≡ true) where
     -- marked, it is the current one

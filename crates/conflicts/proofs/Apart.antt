@@ -1,5 +1,6 @@
 -- Lists of members of which no two are ordered by their clocks.
-use Rattle.std.specs.Prelude.{◌≡◌, ℕ, zero, suc, Bool, true, false, cond, not, ◌&&◌, List, [], ◌∷◌, ◌++◌, filter, slice_get, Some, refl}
+use Rattle.std.specs.Prelude.{◌≡◌, ℕ, zero, suc, Bool, true, false, cond, not, ◌&&◌, List, [], ◌∷◌, ◌++◌, filter}
+use Rattle.std.specs.Prelude.{slice_get, Some, refl}
 use Rattle.std.specs.List.{list_any, list_all}
 use Rattle.std.proofs.Common.{sym, ◌∙◌, ap, subst, inl, inr}
 use Rattle.std.proofs.lemmas.Bool.{and_parts, and_from}
@@ -45,7 +46,8 @@ module _ {A : Type 0} where
         | false ↦ list_all-filter p q xs both.1
       ]
 
-  list_all-push : (p : A → Bool) (xs : List A) (a : A) → list_all p xs ≡ true → p a ≡ true → list_all p (xs ++ a ∷ []) ≡ true
+  list_all-push : (p : A → Bool) (xs : List A) (a : A) → list_all p xs ≡ true → p a ≡ true
+      → list_all p (xs ++ a ∷ []) ≡ true
   list_all-push p [] a h new = and_from (p a) true new refl
   list_all-push p (x ∷ xs) a h new =
       let both = and_parts (p x) (list_all p xs) h in
@@ -64,7 +66,8 @@ apart_other m n h =
 
 apart_not_newer : (m n : Member) → are_apart m n ≡ true → dominates m.rev n.rev ≡ false
 apart_not_newer m n h =
-    ap (λ b. b && not (covers n.rev m.rev)) (not_true _ (and_parts (not (covers m.rev n.rev)) (not (covers n.rev m.rev)) h).0)
+    ap (λ b. b && not (covers n.rev m.rev))
+    (not_true _ (and_parts (not (covers m.rev n.rev)) (not (covers n.rev m.rev)) h).0)
 
 not_newer_itself : (c : Clock) → dominates c c ≡ false
 not_newer_itself c = ap (λ b. b && not b) (covers-itself c)
@@ -78,21 +81,25 @@ tail_apart : (x : Member) (ms : List Member) → all_apart (x ∷ ms) ≡ true �
 tail_apart x ms h = (and_parts (list_all (are_apart x) ms) (all_apart ms) h).1
 
 -- members at two places
-places_apart : (ms : List Member) → all_apart ms ≡ true → (i j : ℕ) (m n : Member) → slice_get ms i ≡ Some m → slice_get ms j ≡ Some n → (i ≡ j → ⊥) → are_apart m n ≡ true
+places_apart : (ms : List Member) → all_apart ms ≡ true → (i j : ℕ) (m n : Member) → slice_get ms i ≡ Some m
+    → slice_get ms j ≡ Some n → (i ≡ j → ⊥) → are_apart m n ≡ true
 places_apart [] h i j m n p q other = absurd (none-some m p)
 places_apart (x ∷ ms) h zero zero m n p q other = absurd (other refl)
 places_apart (x ∷ ms) h zero (suc j) m n p q other =
     subst (λ (y : Member). are_apart y n ≡ true) (same_Some x m p) (head_apart x ms h n (In-get ms j n q))
 places_apart (x ∷ ms) h (suc i) zero m n p q other =
-    apart_swap n m (subst (λ (y : Member). are_apart y m ≡ true) (same_Some x n q) (head_apart x ms h m (In-get ms i m p)))
+    apart_swap n m (subst (λ (y : Member). are_apart y m ≡ true) (same_Some x n q)
+    (head_apart x ms h m (In-get ms i m p)))
 places_apart (x ∷ ms) h (suc i) (suc j) m n p q other =
     places_apart ms (tail_apart x ms h) i j m n p q (λ e. other (ap suc e))
 
-pub other_clock : (ms : List Member) → all_apart ms ≡ true → (i j : ℕ) (m n : Member) → slice_get ms i ≡ Some m → slice_get ms j ≡ Some n → (i ≡ j → ⊥) → same m.rev n.rev ≡ false
+pub other_clock : (ms : List Member) → all_apart ms ≡ true → (i j : ℕ) (m n : Member) → slice_get ms i ≡ Some m
+    → slice_get ms j ≡ Some n → (i ≡ j → ⊥) → same m.rev n.rev ≡ false
 other_clock ms h i j m n p q other = apart_other m n (places_apart ms h i j m n p q other)
 
 -- none is newer than another one
-pub ordered_not : (ms : List Member) (n m : Member) → all_apart ms ≡ true → In n ms → In m ms → dominates n.rev m.rev ≡ false
+pub ordered_not : (ms : List Member) (n m : Member) → all_apart ms ≡ true → In n ms → In m ms
+    → dominates n.rev m.rev ≡ false
 ordered_not [] n m h i j = absurd i
 ordered_not (x ∷ ms) n m h (inl p) (inl q) =
     ap (λ (k : Member). dominates k.rev m.rev) p ∙ ap (λ (k : Member). dominates x.rev k.rev) q ∙ not_newer_itself x.rev
@@ -102,7 +109,8 @@ ordered_not (x ∷ ms) n m h (inr i) (inl q) =
     ap (λ (k : Member). dominates n.rev k.rev) q ∙ apart_not_newer n x (apart_swap x n (head_apart x ms h n i))
 ordered_not (x ∷ ms) n m h (inr i) (inr j) = ordered_not ms n m (tail_apart x ms h) i j
 
-pub none_newer_than : (ms : List Member) → all_apart ms ≡ true → (m : Member) → In m ms → list_any (λ n. dominates n.rev m.rev) ms ≡ false
+pub none_newer_than : (ms : List Member) → all_apart ms ≡ true → (m : Member) → In m ms
+    → list_any (λ n. dominates n.rev m.rev) ms ≡ false
 none_newer_than ms h m i = passes_none (λ n. dominates n.rev m.rev) ms (λ n j. ordered_not ms n m h j i)
 
 -- no two have one clock
@@ -114,14 +122,17 @@ apart_once (m ∷ ms) h =
     (apart_once ms (tail_apart m ms h))
 
 -- one of them alone has its clock
-pub one_at : (ms : List Member) (place : ℕ) (c : Member) → all_apart ms ≡ true → slice_get ms place ≡ Some c → filter (λ m. same m.rev c.rev) ms ≡ c ∷ []
+pub one_at : (ms : List Member) (place : ℕ) (c : Member) → all_apart ms ≡ true → slice_get ms place ≡ Some c
+    → filter (λ m. same m.rev c.rev) ms ≡ c ∷ []
 one_at [] place c h e = absurd (none-some c e)
 one_at (x ∷ ms) zero c h e =
     subst (λ (y : Member). filter (λ m. same m.rev y.rev) (x ∷ ms) ≡ y ∷ []) (same_Some x c e)
     (ap (λ b. cond b (x ∷ filter (λ m. same m.rev x.rev) ms) (filter (λ m. same m.rev x.rev) ms)) (same_itself x.rev)
-    ∙ ap (λ r. x ∷ r) (filter_nothing (λ m. same m.rev x.rev) ms (λ m i. apart_other m x (apart_swap x m (head_apart x ms h m i)))))
+    ∙ ap (λ r. x ∷ r) (filter_nothing (λ m. same m.rev x.rev) ms
+    (λ m i. apart_other m x (apart_swap x m (head_apart x ms h m i)))))
 one_at (x ∷ ms) (suc place) c h e =
-    ap (λ b. cond b (x ∷ filter (λ m. same m.rev c.rev) ms) (filter (λ m. same m.rev c.rev) ms)) (apart_other x c (head_apart x ms h c (In-get ms place c e)))
+    ap (λ b. cond b (x ∷ filter (λ m. same m.rev c.rev) ms) (filter (λ m. same m.rev c.rev) ms))
+    (apart_other x c (head_apart x ms h c (In-get ms place c e)))
     ∙ one_at ms place c (tail_apart x ms h) e
 
 -- the list without the value at a place
@@ -130,14 +141,17 @@ without place [] = []
 without zero (x ∷ xs) = xs
 without (suc place) (x ∷ xs) = x ∷ without place xs
 
-pub others_at : (ms : List Member) (place : ℕ) (c : Member) → all_apart ms ≡ true → slice_get ms place ≡ Some c → others c.rev ms ≡ without place ms
+pub others_at : (ms : List Member) (place : ℕ) (c : Member) → all_apart ms ≡ true → slice_get ms place ≡ Some c
+    → others c.rev ms ≡ without place ms
 others_at [] place c h e = refl
 others_at (x ∷ ms) zero c h e =
     subst (λ (y : Member). others y.rev (x ∷ ms) ≡ ms) (same_Some x c e)
     (ap (λ b. cond (not b) (x ∷ others x.rev ms) (others x.rev ms)) (same_itself x.rev)
-    ∙ filter_whole (λ m. not (same m.rev x.rev)) ms (λ m i. ap not (apart_other m x (apart_swap x m (head_apart x ms h m i)))))
+    ∙ filter_whole (λ m. not (same m.rev x.rev)) ms
+    (λ m i. ap not (apart_other m x (apart_swap x m (head_apart x ms h m i)))))
 others_at (x ∷ ms) (suc place) c h e =
-    ap (λ b. cond (not b) (x ∷ others c.rev ms) (others c.rev ms)) (apart_other x c (head_apart x ms h c (In-get ms place c e)))
+    ap (λ b. cond (not b) (x ∷ others c.rev ms) (others c.rev ms))
+    (apart_other x c (head_apart x ms h c (In-get ms place c e)))
     ∙ ap (λ r. x ∷ r) (others_at ms place c (tail_apart x ms h) e)
 
 -- ---- one more member
@@ -147,15 +161,18 @@ all_apart-filter q [] h = refl
 all_apart-filter q (m ∷ ms) h =
     let both = and_parts (list_all (are_apart m) ms) (all_apart ms) h in
     elim (q m) as (λ b. all_apart (cond b (m ∷ filter q ms) (filter q ms)) ≡ true) [
-      | true ↦ and_from _ (all_apart (filter q ms)) (list_all-filter (are_apart m) q ms both.0) (all_apart-filter q ms both.1)
+      | true ↦ and_from _ (all_apart (filter q ms)) (list_all-filter (are_apart m) q ms both.0)
+          (all_apart-filter q ms both.1)
       | false ↦ all_apart-filter q ms both.1
     ]
 
-all_apart-push : (ms : List Member) (a : Member) → all_apart ms ≡ true → ((m : Member) → In m ms → are_apart m a ≡ true) → all_apart (ms ++ a ∷ []) ≡ true
+all_apart-push : (ms : List Member) (a : Member) → all_apart ms ≡ true
+    → ((m : Member) → In m ms → are_apart m a ≡ true) → all_apart (ms ++ a ∷ []) ≡ true
 all_apart-push [] a h new = refl
 all_apart-push (m ∷ ms) a h new =
     let both = and_parts (list_all (are_apart m) ms) (all_apart ms) h in
-    and_from _ (all_apart (ms ++ a ∷ [])) (list_all-push (are_apart m) ms a both.0 (new m (inl refl))) (all_apart-push ms a both.1 (λ n i. new n (inr i)))
+    and_from _ (all_apart (ms ++ a ∷ [])) (list_all-push (are_apart m) ms a both.0 (new m (inl refl)))
+    (all_apart-push ms a both.1 (λ n i. new n (inr i)))
 
 -- neither covers the other where the one is not newer than the other, which does not cover it
 apart_from : (x y : Bool) → (x && not y) ≡ false → not y ≡ true → (not x && not y) ≡ true
@@ -165,7 +182,9 @@ apart_from false true p q = q
 apart_from false false p q = refl
 
 -- what is left beside one that is not older stays so
-pub apart_with : (ms : List Member) (a : Member) → all_apart ms ≡ true → list_any (λ m. dominates m.rev a.rev) ms ≡ false → all_apart (filter (λ m. not (covers a.rev m.rev)) ms ++ a ∷ []) ≡ true
+pub apart_with : (ms : List Member) (a : Member) → all_apart ms ≡ true
+    → list_any (λ m. dominates m.rev a.rev) ms ≡ false
+    → all_apart (filter (λ m. not (covers a.rev m.rev)) ms ++ a ∷ []) ≡ true
 apart_with ms a h none =
     all_apart-push (filter (λ m. not (covers a.rev m.rev)) ms) a (all_apart-filter (λ m. not (covers a.rev m.rev)) ms h)
     (λ m i.

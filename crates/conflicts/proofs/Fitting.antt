@@ -23,12 +23,15 @@ from_either b k (inl h) = ap (λ x. x || not k) h
 from_either true k (inr h) = refl
 from_either false k (inr h) = ap not h
 
-pub fits_is : (k : Kept) (a : Accept) (h c : Bool) (m : Member) → h ≡ list_any (λ n. dominates n.rev a.rev) k.members → m ≡ current k → c ≡ covers a.rev m.rev → IsTrue (not h && (a.current || not c)) ↔ FitsDocument (document (Some k)) a
+pub fits_is : (k : Kept) (a : Accept) (h c : Bool) (m : Member) → h ≡ list_any (λ n. dominates n.rev a.rev) k.members
+    → m ≡ current k → c ≡ covers a.rev m.rev → IsTrue (not h && (a.current || not c))
+    ↔ FitsDocument (document (Some k)) a
 fits_is k a h c m older is covered = (
   λ t.
       let p = and_parts (not h) (a.current || not c) t in
       record { not_older = sym older ∙ not_true h p.0; settled = to_settled (either_of a.current c p.1) },
-  λ f. and_from (not h) (a.current || not c) (ap not (older ∙ f.not_older)) (from_either a.current c (from_settled f.settled)),
+  λ f. and_from (not h) (a.current || not c) (ap not (older ∙ f.not_older))
+      (from_either a.current c (from_settled f.settled)),
 )
   where
     at : c ≡ covers a.rev (current k).rev

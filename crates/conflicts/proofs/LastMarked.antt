@@ -2,7 +2,8 @@
 use Rattle.std.specs.Prelude.{◌≡◌, Bool, true, false, cond, List, [], ◌∷◌, Option, Some, None, refl}
 use Rattle.std.proofs.Common.{sym, ◌∙◌, ap, inl, inr}
 use Rattle.vector_rev.specs.Clock.{Clock, covers}
-use Rattle.conflicts.specs.Document.{Document, current_after, no_document, document_after, document_after_all, IsKept, FitsDocument}
+use Rattle.conflicts.specs.Document.{Document, current_after, no_document, document_after, document_after_all, IsKept}
+use Rattle.conflicts.specs.Document.{FitsDocument}
 use Rattle.conflicts.specs.Laws.{CurrentIs}
 use Rattle.conflicts.specs.Acceptances.{AllFit, LastMarkedIsCurrent, last_marked}
 use Rattle.conflicts.specs.declared.accept.Accept.{Accept}
@@ -14,12 +15,14 @@ use Rattle.conflicts.proofs.Accepted.{stays_member, takes_over}
 
 module _ (d : Document) (a : Accept) (fits : FitsDocument d a) where
   -- a current revision that the accepted one does not cover stays the current one, unless that one is marked
-  kept_current : (c : Option Clock) → d.current ≡ c → CurrentIs d.members c → IsKept c a.rev → a.current ≡ false → (document_after d a).current ≡ c
+  kept_current : (c : Option Clock) → d.current ≡ c → CurrentIs d.members c → IsKept c a.rev → a.current ≡ false
+      → (document_after d a).current ≡ c
   kept_current None is member kept unmarked = absurd kept
   kept_current (Some c) is member kept unmarked =
       ap (λ (o : Option Clock). current_after (document_after d a).members o a) is
       ∙ stays_unmarked (document_after d a).members c a
-      (member_has c (document_after d a).members (member.0, stays_member d a fits.not_older member.0 member.1 (ap (covers a.rev) member.2 ∙ kept), member.2))
+      (member_has c (document_after d a).members
+      (member.0, stays_member d a fits.not_older member.0 member.1 (ap (covers a.rev) member.2 ∙ kept), member.2))
       unmarked
 
   -- an acceptance that is not marked and fits does not cover the current one
@@ -28,12 +31,14 @@ module _ (d : Document) (a : Accept) (fits : FitsDocument d a) where
       elim fits.settled [ inl marked ↦ absurd (not_both a.current marked unmarked) | inr kept ↦ kept ]
 
   -- the current revision after it, by its mark
-  by_mark : CurrentIs d.members d.current → (b : Bool) → a.current ≡ b → (document_after d a).current ≡ cond b (Some a.rev) d.current
+  by_mark : CurrentIs d.members d.current → (b : Bool) → a.current ≡ b
+      → (document_after d a).current ≡ cond b (Some a.rev) d.current
   by_mark member true marked = takes_over d a fits.not_older marked
   by_mark member false unmarked = kept_current d.current refl member (is_kept unmarked) unmarked
 
 -- over a list of acceptances, from any document on
-after_list : (h : List Accept) (d : Document) → CurrentIs d.members d.current → AllFit d h → (document_after_all d h).current ≡ last_marked d.current h
+after_list : (h : List Accept) (d : Document) → CurrentIs d.members d.current → AllFit d h
+    → (document_after_all d h).current ≡ last_marked d.current h
 after_list [] d member fit = refl
 after_list (a ∷ later) d member fit =
     after_list later (document_after d a) (current_stays d a d.current member) fit.1

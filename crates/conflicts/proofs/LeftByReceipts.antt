@@ -1,5 +1,6 @@
 -- What a receipt leaves of the document: by what is accepted, and then line by line of the table.
-use Rattle.std.specs.Prelude.{◌≡◌, ◌⊎◌, Bool, true, false, cond, not, ◌&&◌, ◌||◌, is_some, List, Option, Some, None, refl}
+use Rattle.std.specs.Prelude.{◌≡◌, ◌⊎◌, Bool, true, false, cond, not, ◌&&◌, ◌||◌, is_some, List, Option, Some, None}
+use Rattle.std.specs.Prelude.{refl}
 use Rattle.std.specs.List.{list_any}
 use Rattle.std.specs.Option.{option_map}
 use Rattle.std.proofs.Common.{sym, ◌∙◌, ap, inl, inr}
@@ -10,7 +11,8 @@ use Rattle.vector_rev.proofs.ClockLaws.{same_decides, covers-itself}
 use Rattle.conflicts.specs.Lists.{In}
 use Rattle.conflicts.specs.Document.{Document, member_of, has_rev, others, in_order, document_after}
 use Rattle.conflicts.specs.Making.{made_clock}
-use Rattle.conflicts.specs.Decision.{alike, merge_parents, may_merge, merge_of, received, accepts, nothing, decides_over, decides_at}
+use Rattle.conflicts.specs.Decision.{alike, merge_parents, may_merge, merge_of, received, accepts, nothing}
+use Rattle.conflicts.specs.Decision.{decides_over, decides_at}
 use Rattle.conflicts.specs.Laws.{CurrentIs, IsDocument, IsMade}
 use Rattle.conflicts.specs.Receipts.{ReceivesOf, Receipts}
 use Rattle.conflicts.specs.declared.member.Member.{Member}
@@ -44,14 +46,22 @@ module _ (x : Member) where
 
   -- one that covers it is not older
   covered_met : (e : Document) → IsCovered e → IsMet e
-  covered_met e m = (m.0, m.1, none_true (dominates x.rev m.0.rev) (λ newer. not_both (covers m.0.rev x.rev) m.2 (uncovered newer)))
+  covered_met e m = (
+    m.0,
+    m.1,
+    none_true (dominates x.rev m.0.rev)
+        (λ newer. not_both (covers m.0.rev x.rev) m.2 (uncovered newer)),
+  )
     where
       uncovered : dominates x.rev m.0.rev ≡ true → covers m.0.rev x.rev ≡ false
-      uncovered newer = not_true (covers m.0.rev x.rev) (second (covers x.rev m.0.rev) (not (covers m.0.rev x.rev)) newer)
+      uncovered newer = not_true (covers m.0.rev x.rev)
+          (second (covers x.rev m.0.rev) (not (covers m.0.rev x.rev)) newer)
 
   module _ (d : Document) (save : Bool) where
     -- nothing is accepted
-    left_alone : (o : Outcome4) → (save ≡ true → IsCovered d) → IsMet d → ((o ≡ Inserted) ⊎ (o ≡ Converged) → d.current ≡ Some x.rev) → (o ≡ Inserted → ⊥) → ReceivesOf d x save (nothing o)
+    left_alone : (o : Outcome4) → (save ≡ true → IsCovered d) → IsMet d
+        → ((o ≡ Inserted) ⊎ (o ≡ Converged) → d.current ≡ Some x.rev) → (o ≡ Inserted → ⊥)
+        → ReceivesOf d x save (nothing o)
     left_alone o over met now not_inserted = record {
       covered = over;
       not_older = met;
@@ -64,19 +74,22 @@ module _ (x : Member) where
     -- a member covers it already
     is_superseded : IsCovered d → ReceivesOf d x save (nothing Superseded)
     is_superseded over =
-        left_alone Superseded (λ _. over) (covered_met d over) (λ h. absurd (superseded_else h)) (λ e. superseded_else (inl e))
+        left_alone Superseded (λ _. over) (covered_met d over) (λ h. absurd (superseded_else h))
+        (λ e. superseded_else (inl e))
 
     -- nobody asked for it
     is_left : save ≡ false → IsMet d → ReceivesOf d x save (nothing Conflicted)
     is_left sent met =
-        left_alone Conflicted (λ saved. absurd (not_both save saved sent)) met (λ h. absurd (conflicted_else h)) (λ e. conflicted_else (inl e))
+        left_alone Conflicted (λ saved. absurd (not_both save saved sent)) met (λ h. absurd (conflicted_else h))
+        (λ e. conflicted_else (inl e))
 
     -- it is the current one
     is_converged : IsCovered d → d.current ≡ Some x.rev → ReceivesOf d x save (nothing Converged)
     is_converged over now = left_alone Converged (λ _. over) (covered_met d over) (λ _. now) (λ e. cc)
 
     -- it is accepted as it came, whatever the answer
-    as_it_came : (o : Outcome4) → list_any (λ m. dominates m.rev x.rev) d.members ≡ false → ReceivesOf d x save (accepts o x)
+    as_it_came : (o : Outcome4) → list_any (λ m. dominates m.rev x.rev) d.members ≡ false
+        → ReceivesOf d x save (accepts o x)
     as_it_came o none = record {
       covered = λ _. itself;
       not_older = covered_met (document_after d (received x)) itself;
@@ -90,7 +103,8 @@ module _ (x : Member) where
         itself = (member_of (received x), is_member d (received x) none, covers-itself x.rev)
 
     -- a revision is accepted that was made of it, and of others
-    is_merged : (own : Uid) (a : Accept) → IsMade own d.members a → In x.rev a.parents → a.content ≡ x.content → (save ≡ true → a.current ≡ true) → ReceivesOf d x save (record { outcome = Superseded; accepted = Some a })
+    is_merged : (own : Uid) (a : Accept) → IsMade own d.members a → In x.rev a.parents → a.content ≡ x.content
+        → (save ≡ true → a.current ≡ true) → ReceivesOf d x save (record { outcome = Superseded; accepted = Some a })
     is_merged own a made parent alike_it leads = record {
       covered = λ _. by_it;
       not_older = covered_met (document_after d a) by_it;
@@ -108,7 +122,8 @@ module _ (x : Member) where
 
 -- ---- line by line
 
-module _ (own : Uid) (d : Document) (w : IsDocument d) (c : Clock) (now : d.current ≡ Some c) (m : CurrentIs d.members (Some c)) (x : Member) (save : Bool) where
+module _ (own : Uid) (d : Document) (w : IsDocument d) (c : Clock) (now : d.current ≡ Some c)
+    (m : CurrentIs d.members (Some c)) (x : Member) (save : Bool) where
   abbrev ms : List Member
   ms = in_order c d.members
 
@@ -137,29 +152,42 @@ module _ (own : Uid) (d : Document) (w : IsDocument d) (c : Clock) (now : d.curr
 
   ending_leaves : dominates x.rev c ≡ false → list_any (λ n. dominates n.rev x.rev) d.members ≡ false → Leaves ending
   ending_leaves not_newer none =
-      either save (accepts Conflicted x) (nothing Conflicted) (λ _. as_it_came x d save Conflicted none) (λ sent. is_left x d save sent (met_by_current not_newer))
+      either save (accepts Conflicted x) (nothing Conflicted) (λ _. as_it_came x d save Conflicted none)
+      (λ sent. is_left x d save sent (met_by_current not_newer))
 
   -- a merge
   abbrev merge_with : Clock → Accept
-  merge_with r = record { rev = r; content = x.content; making = Merge; parents = merge_parents x ms; current = save || has_rev (alike x ms) c || dominates r c }
+  merge_with r = record {
+    rev = r;
+    content = x.content;
+    making = Merge;
+    parents = merge_parents x ms;
+    current = save
+        || has_rev (alike x ms) c || dominates r c;
+  }
 
   abbrev merge_taken : Option Clock → Taken
   merge_taken o = record { outcome = Superseded; accepted = option_map merge_with o }
 
-  merge_leaves : may_merge ms x own ≡ true → (o : Option Clock) → made_clock own (merge_parents x ms) ≡ o → is_some (option_map merge_with o) ≡ true → Leaves (merge_taken o)
+  merge_leaves : may_merge ms x own ≡ true → (o : Option Clock) → made_clock own (merge_parents x ms) ≡ o
+      → is_some (option_map merge_with o) ≡ true → Leaves (merge_taken o)
   merge_leaves may None e some = absurd (not_both false some refl)
   merge_leaves may (Some r) e some =
-      is_merged x d save own (merge_with r) (is_made own d.members (merge_with r) e (merge_least own d w c now m x may)) (inl refl) refl
+      is_merged x d save own (merge_with r)
+      (is_made own d.members (merge_with r) e (merge_least own d w c now m x may)) (inl refl) refl
       (λ saved. ap (λ b. b || has_rev (alike x ms) c || dominates r c) saved)
 
   abbrev merging : Taken
   merging =
-      cond (may_merge ms x own && is_some (merge_of c ms x save own)) (merge_taken (made_clock own (merge_parents x ms))) ending
+      cond (may_merge ms x own && is_some (merge_of c ms x save own))
+      (merge_taken (made_clock own (merge_parents x ms))) ending
 
   merging_leaves : dominates x.rev c ≡ false → list_any (λ n. dominates n.rev x.rev) d.members ≡ false → Leaves merging
   merging_leaves not_newer none =
-      either (may_merge ms x own && is_some (merge_of c ms x save own)) (merge_taken (made_clock own (merge_parents x ms))) ending
-      (λ may. merge_leaves (first (may_merge ms x own) _ may) (made_clock own (merge_parents x ms)) refl (second (may_merge ms x own) _ may))
+      either (may_merge ms x own && is_some (merge_of c ms x save own))
+      (merge_taken (made_clock own (merge_parents x ms))) ending
+      (λ may. merge_leaves (first (may_merge ms x own) _ may) (made_clock own (merge_parents x ms)) refl
+      (second (may_merge ms x own) _ may))
       (λ _. ending_leaves not_newer none)
 
   -- another member has the revision
@@ -167,9 +195,11 @@ module _ (own : Uid) (d : Document) (w : IsDocument d) (c : Clock) (now : d.curr
   standing =
       cond (has_rev rest x.rev && save) (accepts Conflicted x) (cond (has_rev rest x.rev) (nothing Conflicted) merging)
 
-  standing_leaves : dominates x.rev c ≡ false → list_any (λ n. dominates n.rev x.rev) d.members ≡ false → Leaves standing
+  standing_leaves : dominates x.rev c ≡ false → list_any (λ n. dominates n.rev x.rev) d.members ≡ false
+      → Leaves standing
   standing_leaves not_newer none =
-      either (has_rev rest x.rev && save) (accepts Conflicted x) (cond (has_rev rest x.rev) (nothing Conflicted) merging)
+      either (has_rev rest x.rev && save) (accepts Conflicted x)
+      (cond (has_rev rest x.rev) (nothing Conflicted) merging)
       (λ _. as_it_came x d save Conflicted none)
       (λ not_saved. either (has_rev rest x.rev) (nothing Conflicted) merging
       (λ there. is_left x d save (ap (λ b. b && save) (sym there) ∙ not_saved) (met_by_current not_newer))
@@ -210,14 +240,17 @@ module _ (own : Uid) (d : Document) (w : IsDocument d) (c : Clock) (now : d.curr
       not_older_leaves
 
   over_leaves : Leaves (decides_over c ms rest x save own)
-  over_leaves = either (same x.rev c) (nothing Converged) not_equal (λ e. equal ((same_decides x.rev c).0 e)) (λ _. not_equal_leaves)
+  over_leaves = either (same x.rev c) (nothing Converged) not_equal (λ e. equal ((same_decides x.rev c).0 e))
+      (λ _. not_equal_leaves)
     where
       equal : x.rev ≡ c → Leaves (nothing Converged)
       equal is =
-          is_converged x d save (covered_by_current (ap (λ (k : Clock). covers k x.rev) (sym is) ∙ covers-itself x.rev)) (now ∙ ap Some (sym is))
+          is_converged x d save (covered_by_current
+          (ap (λ (k : Clock). covers k x.rev) (sym is) ∙ covers-itself x.rev)) (now ∙ ap Some (sym is))
 
 -- with a current revision and without one
-at_leaves : (own : Uid) (d : Document) → IsDocument d → (c : Option Clock) → d.current ≡ c → CurrentIs d.members c → (x : Member) (save : Bool) → ReceivesOf d x save (decides_at c d.members x save own)
+at_leaves : (own : Uid) (d : Document) → IsDocument d → (c : Option Clock) → d.current ≡ c → CurrentIs d.members c
+    → (x : Member) (save : Bool) → ReceivesOf d x save (decides_at c d.members x save own)
 at_leaves own d w None now empty x save =
     as_it_came x d save Inserted (ap (λ (ms : List Member). list_any (λ m. dominates m.rev x.rev) ms) empty)
 at_leaves own d w (Some c) now m x save = over_leaves own d w c now m x save

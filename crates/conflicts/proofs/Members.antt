@@ -64,7 +64,11 @@ module _ {A : Type 0} where
     from_filter x [] h = absurd h
     from_filter x (y ∷ ys) h =
         elim (p y) as (λ b. p y ≡ b → In x (cond b (y ∷ filter p ys) (filter p ys)) → In x (y ∷ ys) × (p x ≡ true)) [
-          | true ↦ λ py k. elim k [ inl q ↦ (inl q, ap p q ∙ py) | inr k ↦ let r = from_filter x ys k in (inr r.0, r.1) ]
+          | true ↦ λ py k. elim k [
+            | inl q ↦ (inl q, ap p q ∙ py)
+            | inr k ↦ let r = from_filter x ys k
+                in (inr r.0, r.1)
+          ]
           | false ↦ λ _ k. let r = from_filter x ys k in (inr r.0, r.1)
         ] refl h
 
@@ -72,7 +76,8 @@ module _ {A : Type 0} where
     pub filter_whole : (xs : List A) → ((x : A) → In x xs → p x ≡ true) → filter p xs ≡ xs
     filter_whole [] h = refl
     filter_whole (x ∷ xs) h =
-        ap (λ b. cond b (x ∷ filter p xs) (filter p xs)) (h x (inl refl)) ∙ ap (λ r. x ∷ r) (filter_whole xs (λ y i. h y (inr i)))
+        ap (λ b. cond b (x ∷ filter p xs) (filter p xs)) (h x (inl refl))
+        ∙ ap (λ r. x ∷ r) (filter_whole xs (λ y i. h y (inr i)))
 
     pub filter_nothing : (xs : List A) → ((x : A) → In x xs → p x ≡ false) → filter p xs ≡ []
     filter_nothing [] h = refl
@@ -82,7 +87,8 @@ module _ {A : Type 0} where
   pub filter-filter : (p q : A → Bool) (xs : List A) → filter p (filter q xs) ≡ filter (λ x. q x && p x) xs
   filter-filter p q [] = refl
   filter-filter p q (x ∷ xs) =
-      elim (q x) as (λ b. filter p (cond b (x ∷ filter q xs) (filter q xs)) ≡ cond (b && p x) (x ∷ filter (λ x. q x && p x) xs) (filter (λ x. q x && p x) xs)) [
+      elim (q x) as (λ b. filter p (cond b (x ∷ filter q xs) (filter q xs))
+      ≡ cond (b && p x) (x ∷ filter (λ x. q x && p x) xs) (filter (λ x. q x && p x) xs)) [
         | true ↦ ap (λ r. cond (p x) (x ∷ r) r) (filter-filter p q xs)
         | false ↦ filter-filter p q xs
       ]

@@ -1,5 +1,6 @@
 -- Acceptances that do not fit: a dominated one changes nothing, and another one takes over as if it were marked.
-use Rattle.std.specs.Prelude.{◌≡◌, Bool, true, false, cond, not, ◌&&◌, ◌||◌, List, [], ◌∷◌, ◌++◌, filter, Option, Some, None, refl}
+use Rattle.std.specs.Prelude.{◌≡◌, Bool, true, false, cond, not, ◌&&◌, ◌||◌, List, [], ◌∷◌, ◌++◌, filter, Option, Some}
+use Rattle.std.specs.Prelude.{None, refl}
 use Rattle.std.specs.List.{list_any}
 use Rattle.std.proofs.Common.{sym, ◌∙◌, ap, inl, inr}
 use Rattle.vector_rev.specs.Clock.{Clock, covers, dominates}
@@ -7,7 +8,8 @@ use Rattle.vector_rev.specs.Compare.{same}
 use Rattle.vector_rev.proofs.ClockLaws.{same_decides}
 use Rattle.conflicts.specs.Lists.{In}
 use Rattle.conflicts.specs.Pruning.{pruned}
-use Rattle.conflicts.specs.Document.{Document, member_of, covers_member, has_rev, current_after, document_after, IsKept, FitsDocument}
+use Rattle.conflicts.specs.Document.{Document, member_of, covers_member, has_rev, current_after, document_after, IsKept}
+use Rattle.conflicts.specs.Document.{FitsDocument}
 use Rattle.conflicts.specs.Laws.{IsDocument}
 use Rattle.conflicts.specs.Acceptances.{Unfitting, marked}
 use Rattle.conflicts.specs.declared.member.Member.{Member}
@@ -56,7 +58,8 @@ module _ (d : Document) (a : Accept) (none : list_any (λ m. dominates m.rev a.r
   covered_is_accepted c over there =
       elim (In-push f.0 (member_of a) (filter (λ m. not (covers a.rev m.rev)) d.members) f.1) [
         | inl left ↦
-            absurd (not_both (covers a.rev f.0.rev) (ap (covers a.rev) is ∙ over) (not_true (covers a.rev f.0.rev) (from_filter (λ m. not (covers a.rev m.rev)) f.0 d.members left).1))
+            absurd (not_both (covers a.rev f.0.rev) (ap (covers a.rev) is ∙ over)
+            (not_true (covers a.rev f.0.rev) (from_filter (λ m. not (covers a.rev m.rev)) f.0 d.members left).1))
         | inr last ↦ ap (λ (m : Member). m.rev) (sym last) ∙ is
       ]
     where
@@ -95,13 +98,17 @@ module _ (d : Document) (a : Accept) (none : list_any (λ m. dominates m.rev a.r
 
   takes_over_unmarked : ¬ (FitsDocument d a) → document_after d a ≡ taken_over d a
   takes_over_unmarked unfit =
-      ap (λ (ms : List Member). record { members = ms; current = current_after ms d.current a }) (pruned-fits d.members a none)
-      ∙ ap (λ (c : Option Clock). record { members = grown d a; current = c }) (over_any d.current (λ kept. unfit (record { not_older = none; settled = inr kept })))
+      ap (λ (ms : List Member). record { members = ms; current = current_after ms d.current a })
+      (pruned-fits d.members a none)
+      ∙ ap (λ (c : Option Clock). record { members = grown d a; current = c })
+      (over_any d.current (λ kept. unfit (record { not_older = none; settled = inr kept })))
 
   takes_over_marked : document_after d (marked a) ≡ taken_over d a
   takes_over_marked =
-      ap (λ (ms : List Member). record { members = ms; current = current_after ms d.current (marked a) }) (pruned-fits d.members a none)
-      ∙ ap (λ (c : Option Clock). record { members = grown d a; current = c }) (leads_marked (grown d a) d.current (marked a) (accepted_is_there _ a) refl)
+      ap (λ (ms : List Member). record { members = ms; current = current_after ms d.current (marked a) })
+      (pruned-fits d.members a none)
+      ∙ ap (λ (c : Option Clock). record { members = grown d a; current = c })
+      (leads_marked (grown d a) d.current (marked a) (accepted_is_there _ a) refl)
 
 pub law : Unfitting
 law = record {

@@ -1,5 +1,6 @@
 -- A kept document: what is asked of it as a document is asked of its members and of the place of the current one.
-use Rattle.std.specs.Prelude.{◌≡◌, ℕ, zero, suc, ◌-◌, ◌<◌, ◌≤◌, Bool, true, false, cond, not, ◌||◌, T, List, [], ◌∷◌, ◌++◌, filter, length, slice_get, Option, None, Some, is_some, is_none, refl}
+use Rattle.std.specs.Prelude.{◌≡◌, ℕ, zero, suc, ◌-◌, ◌<◌, ◌≤◌, Bool, true, false, cond, not, ◌||◌, T, List, [], ◌∷◌}
+use Rattle.std.specs.Prelude.{◌++◌, filter, length, slice_get, Option, None, Some, is_some, is_none, refl}
 use Rattle.std.proofs.Common.{sym, ◌∙◌, ap, arith}
 use Rattle.std.proofs.lemmas.Option.{same_Some, slice_get_within}
 use Rattle.content.specs.Tree.{Tree}
@@ -38,14 +39,16 @@ pub kept_apart : (k : Kept) → all_apart k.members ≡ true
 kept_apart k = T_true _ k.apart
 
 -- a member at another place has another clock
-pub other_at : (k : Kept) (i : ℕ) (m : Member) → slice_get k.members i ≡ Some m → (i ≡ k.place → ⊥) → same m.rev (current k).rev ≡ false
+pub other_at : (k : Kept) (i : ℕ) (m : Member) → slice_get k.members i ≡ Some m → (i ≡ k.place → ⊥)
+    → same m.rev (current k).rev ≡ false
 other_at k i m e other = other_clock k.members (kept_apart k) i k.place m (current k) e (current_at k) other
 
 -- ---- the members, the current one first
 
 pub current_first_is : (k : Kept) → current_first k ≡ current k ∷ others (current k).rev k.members
 current_first_is k =
-    ap (λ (ms : List Member). ms ++ others (current k).rev k.members) (one_at k.members k.place (current k) (kept_apart k) (current_at k))
+    ap (λ (ms : List Member). ms ++ others (current k).rev k.members)
+    (one_at k.members k.place (current k) (kept_apart k) (current_at k))
 
 without_before : {A : Type 0} (xs : List A) (place i : ℕ) → i < place → slice_get (without place xs) i ≡ slice_get xs i
 without_before [] place i less = refl
@@ -53,7 +56,8 @@ without_before (x ∷ xs) zero i less = absurd (omega (arith, less))
 without_before (x ∷ xs) (suc place) zero less = refl
 without_before (x ∷ xs) (suc place) (suc i) less = without_before xs place i (omega (arith, less))
 
-without_behind : {A : Type 0} (xs : List A) (place i : ℕ) → place ≤ i → slice_get (without place xs) i ≡ slice_get xs (suc i)
+without_behind : {A : Type 0} (xs : List A) (place i : ℕ) → place ≤ i
+    → slice_get (without place xs) i ≡ slice_get xs (suc i)
 without_behind [] place i most = refl
 without_behind (x ∷ xs) zero i most = refl
 without_behind (x ∷ xs) (suc place) zero most = absurd (omega (arith, most))
@@ -61,12 +65,14 @@ without_behind (x ∷ xs) (suc place) (suc i) most = without_behind xs place i (
 
 listed : (k : Kept) → current_first k ≡ current k ∷ without k.place k.members
 listed k =
-    current_first_is k ∙ ap (λ ms. current k ∷ ms) (others_at k.members k.place (current k) (kept_apart k) (current_at k))
+    current_first_is k ∙ ap (λ ms. current k ∷ ms)
+    (others_at k.members k.place (current k) (kept_apart k) (current_at k))
 
 pub first_listed : (k : Kept) (m : Member) → m ≡ current k → Some m ≡ slice_get (current_first k) 0
 first_listed k m e = ap Some e ∙ ap (λ (ms : List Member). slice_get ms 0) (sym (listed k))
 
-pub listed_before : (k : Kept) (i : ℕ) → (i ≡ 0 → ⊥) → i ≤ k.place → slice_get k.members (i - 1) ≡ slice_get (current_first k) i
+pub listed_before : (k : Kept) (i : ℕ) → (i ≡ 0 → ⊥) → i ≤ k.place
+    → slice_get k.members (i - 1) ≡ slice_get (current_first k) i
 listed_before k zero some most = absurd (some refl)
 listed_before k (suc i) some most =
     ap (slice_get k.members) (one_less i)
@@ -84,14 +90,17 @@ listed_behind k (suc i) most =
 
 -- ---- the content of the current member
 
-content_there : (ms : List Member) (place : ℕ) (c : Member) → all_apart ms ≡ true → slice_get ms place ≡ Some c → content_at c.rev ms ≡ c.content
+content_there : (ms : List Member) (place : ℕ) (c : Member) → all_apart ms ≡ true → slice_get ms place ≡ Some c
+    → content_at c.rev ms ≡ c.content
 content_there ms place c h e = through (one_at ms place c h e)
   where
     -- the first member with the clock is the first one that a filter by it leaves
-    first_left : (r : Clock) (ns : List Member) (n : Member) (more : List Member) → filter (λ m. same m.rev r) ns ≡ n ∷ more → content_at r ns ≡ n.content
+    first_left : (r : Clock) (ns : List Member) (n : Member) (more : List Member)
+        → filter (λ m. same m.rev r) ns ≡ n ∷ more → content_at r ns ≡ n.content
     first_left r [] n more q = cc
     first_left r (x ∷ ns) n more q =
-        elim (same x.rev r) as (λ b. cond b (x ∷ filter (λ m. same m.rev r) ns) (filter (λ m. same m.rev r) ns) ≡ n ∷ more → cond b x.content (content_at r ns) ≡ n.content) [
+        elim (same x.rev r) as (λ b. cond b (x ∷ filter (λ m. same m.rev r) ns) (filter (λ m. same m.rev r) ns) ≡ n
+        ∷ more → cond b x.content (content_at r ns) ≡ n.content) [
           | true ↦ λ z. ap (λ (ms : List Member). head_content n ms) z
           | false ↦ λ z. first_left r ns n more z
         ] q
@@ -110,18 +119,22 @@ pub member_kept : (k : Kept) → current_member (document (Some k)) ≡ Some (cu
 member_kept k = ap (λ t. Some (record { rev = (current k).rev; content = t })) (content_kept k)
 
 -- the current member is among those that are alike where it is alike
-pub alike_current : (k : Kept) (x : Member) → has_rev (alike x (current_first k)) (current k).rev ≡ is_alike x (current k)
+pub alike_current : (k : Kept) (x : Member)
+    → has_rev (alike x (current_first k)) (current k).rev ≡ is_alike x (current k)
 alike_current k x =
     let rest = others (current k).rev k.members in
     let none : has_rev (alike x rest) (current k).rev ≡ false =
     passes_none (λ m. same m.rev (current k).rev) (alike x rest) (λ m i.
-    not_true _ (from_filter (λ m. not (same m.rev (current k).rev)) m k.members (from_filter (is_alike x) m rest i).0).1) in
+    not_true _ (from_filter (λ m. not (same m.rev (current k).rev)) m k.members
+    (from_filter (is_alike x) m rest i).0).1) in
     ap (λ (ms : List Member). has_rev (alike x ms) (current k).rev) (current_first_is k)
-    ∙ elim (is_alike x (current k)) as (λ b. has_rev (cond b (current k ∷ alike x rest) (alike x rest)) (current k).rev ≡ b) [
+    ∙ elim (is_alike x (current k)) as
+    (λ b. has_rev (cond b (current k ∷ alike x rest) (alike x rest)) (current k).rev ≡ b) [
       | true ↦ ap (λ b. b || has_rev (alike x rest) (current k).rev) (same_itself (current k).rev)
       | false ↦ none
     ]
 
 -- an edit that names no revision
-pub named_none : (k : Kept) (o : Option Tree) (b : Bool) → o ≡ (current k).content → b ≡ is_none o → b ≡ not (is_live (document (Some k)))
+pub named_none : (k : Kept) (o : Option Tree) (b : Bool) → o ≡ (current k).content → b ≡ is_none o
+    → b ≡ not (is_live (document (Some k)))
 named_none k o b e is = is ∙ ap (λ (t : Option Tree). not (is_some t)) (e ∙ sym (content_kept k))

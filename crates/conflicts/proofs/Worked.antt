@@ -61,18 +61,30 @@ current_two : two.current ≡ Some b1
 current_two = refl
 
 -- a dominated revision is no member, and an equal one stands at its last place
-pruned_two : members_of (handed a1 (v 1) ∷ handed b1 (v 2) ∷ handed a2 (v 3) ∷ []) ≡ member b1 (v 2) ∷ member a2 (v 3) ∷ []
+pruned_two : members_of (handed a1 (v 1) ∷ handed b1 (v 2) ∷ handed a2 (v 3) ∷ []) ≡ member b1 (v 2)
+    ∷ member a2 (v 3) ∷ []
 pruned_two = refl
 
-repeated_two : members_of (handed a1 (v 1) ∷ handed b1 (v 2) ∷ handed a1 (v 1) ∷ []) ≡ member b1 (v 2) ∷ member a1 (v 1) ∷ []
+repeated_two : members_of (handed a1 (v 1) ∷ handed b1 (v 2) ∷ handed a1 (v 1) ∷ []) ≡ member b1 (v 2)
+    ∷ member a1 (v 1) ∷ []
 repeated_two = refl
 
 -- equal contents are merged
-merged : decides (document_of (handed b1 (v 1) ∷ [])) (member a1 (v 1)) false b ≡ record { outcome = Superseded; accepted = Some (record { rev = a1b2; content = v 1; making = Merge; parents = a1 ∷ b1 ∷ []; current = true }) }
+merged : decides (document_of (handed b1 (v 1) ∷ [])) (member a1 (v 1)) false b
+    ≡ record {
+      outcome = Superseded;
+      accepted =
+          Some (record { rev = a1b2; content = v 1; making = Merge; parents = a1 ∷ b1 ∷ []; current = true });
+    }
 merged = refl
 
 -- beside a member of another content the merged revision is current where it is saved
-merged_beside : decides (document_of (handed b1 (v 2) ∷ handed c1 (v 3) ∷ [])) (member e1 (v 2)) false a ≡ record { outcome = Superseded; accepted = Some (record { rev = a1b1e1; content = v 2; making = Merge; parents = e1 ∷ b1 ∷ []; current = false }) }
+merged_beside : decides (document_of (handed b1 (v 2) ∷ handed c1 (v 3) ∷ [])) (member e1 (v 2)) false a
+    ≡ record {
+      outcome = Superseded;
+      accepted =
+          Some (record { rev = a1b1e1; content = v 2; making = Merge; parents = e1 ∷ b1 ∷ []; current = false });
+    }
 merged_beside = refl
 
 -- a member of another content with a greater own counter forbids it
@@ -87,17 +99,20 @@ stored_again : decides two (member a1 (v 1)) true a ≡ accepts Conflicted (memb
 stored_again = refl
 
 -- an edit names the current revision, and a deleted document needs no name
-edit_again : edited (document_of (handed a1 None ∷ [])) None (object no_fields) a ≡ Ok (record { rev = a2; content = Some (object no_fields); making = Edit; parents = a1 ∷ []; current = true })
+edit_again : edited (document_of (handed a1 None ∷ [])) None (object no_fields) a
+    ≡ Ok (record { rev = a2; content = Some (object no_fields); making = Edit; parents = a1 ∷ []; current = true })
 edit_again = refl
 
-edit_refused : edited (document_of (handed a2 (v 1) ∷ [])) (Some a1) (object no_fields) a ≡ Err (edit_fault.RevisionConflict a2)
+edit_refused : edited (document_of (handed a2 (v 1) ∷ [])) (Some a1) (object no_fields) a
+    ≡ Err (edit_fault.RevisionConflict a2)
 edit_refused = refl
 
 delete_refused : deleted (document_of (handed a2 None ∷ [])) a2 a ≡ Err edit_fault.AlreadyDeleted
 delete_refused = refl
 
 -- a part of a conflict is resolved beside the current revision
-resolved_part : resolved two (a1 ∷ []) None a ≡ Ok (record { rev = a2; content = None; making = Resolve; parents = a1 ∷ []; current = false })
+resolved_part : resolved two (a1 ∷ []) None a
+    ≡ Ok (record { rev = a2; content = None; making = Resolve; parents = a1 ∷ []; current = false })
 resolved_part = refl
 
 unnamed : resolved two (b1 ∷ []) None a ≡ Err (resolve_fault.Unnamed a1)

@@ -1,5 +1,6 @@
 -- What becomes of a revision that another replica hands over: the first row of a table that applies.
-use Rattle.std.specs.Prelude.{Bool, true, false, cond, not, ◌&&◌, ◌||◌, nat_le, is_some, List, [], ◌∷◌, filter, Option, Some, None}
+use Rattle.std.specs.Prelude.{Bool, true, false, cond, not, ◌&&◌, ◌||◌, nat_le, is_some, List, [], ◌∷◌, filter, Option}
+use Rattle.std.specs.Prelude.{Some, None}
 use Rattle.std.specs.List.{list_any, list_all}
 use Rattle.std.specs.Option.{option_map}
 use Rattle.content.specs.Tree.{Tree}
@@ -58,12 +59,20 @@ merge_parents x ms = x.rev ∷ revs (alike x ms)
 -- where the current member is merged, or where it is newer than the current one
 abbrev pub merge_of : Clock → List Member → Member → Bool → Uid → Option Accept
 merge_of c ms x save own =
-    option_map (λ r. record { rev = r; content = x.content; making = Merge; parents = merge_parents x ms; current = save || has_rev (alike x ms) c || dominates r c }) (made_clock own (merge_parents x ms))
+    option_map (λ r. record {
+      rev = r;
+      content = x.content;
+      making = Merge;
+      parents = merge_parents x ms;
+      current =
+          save || has_rev (alike x ms) c || dominates r c;
+    }) (made_clock own (merge_parents x ms))
 
 -- no member of another content has an own counter above the greatest one among the revisions that are merged
 abbrev pub may_merge : List Member → Member → Uid → Bool
 may_merge ms x own =
-    not (is_empty (alike x ms)) && list_all (λ m. nat_le (count_of m.rev own) (greatest own (merge_parents x ms))) (unlike x ms)
+    not (is_empty (alike x ms)) && list_all (λ m. nat_le (count_of m.rev own) (greatest own (merge_parents x ms)))
+    (unlike x ms)
 
 -- ---- the table, for a document with the current revision c, all members ms with the current one first, and the others
 
@@ -82,7 +91,10 @@ table c ms rest x save own =
     ∷ (list_any (λ m. dominates m.rev x.rev) rest, nothing Superseded)
     ∷ (has_rev rest x.rev && save, accepts Conflicted x)
     ∷ (has_rev rest x.rev, nothing Conflicted)
-    ∷ (may_merge ms x own && is_some (merge_of c ms x save own), record { outcome = Superseded; accepted = merge_of c ms x save own })
+    ∷ (
+      may_merge ms x own && is_some (merge_of c ms x save own),
+      record { outcome = Superseded; accepted = merge_of c ms x save own },
+    )
     ∷ (save, accepts Conflicted x)
     ∷ []
 

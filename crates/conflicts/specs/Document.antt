@@ -1,5 +1,6 @@
 -- A document: which of its accepted revisions are its members, and which of them is the current one.
-use Rattle.std.specs.Prelude.{◌≡◌, ◌⊎◌, Bool, true, false, cond, not, ◌&&◌, ◌||◌, List, [], ◌∷◌, ◌++◌, length, filter, map, nat_lt, is_some, Option, Some, None}
+use Rattle.std.specs.Prelude.{◌≡◌, ◌⊎◌, Bool, true, false, cond, not, ◌&&◌, ◌||◌, List, [], ◌∷◌, ◌++◌, length, filter}
+use Rattle.std.specs.Prelude.{map, nat_lt, is_some, Option, Some, None}
 use Rattle.std.specs.List.{list_any}
 use Rattle.std.specs.Option.{option_map}
 use Rattle.content.specs.Tree.{Tree}
@@ -28,8 +29,8 @@ has_rev ms c = list_any (λ m. same m.rev c) ms
 -- ---- the current one
 
 -- the current revision after an acceptance, by the members that there are then and the former current one: the accepted
--- revision, if it is a member, where it is marked current, or where the former one is no member any more, or where there
--- was none; else the former one
+-- revision, if it is a member, where it is marked current, or where the former one is no member any more, or where
+-- there was none; else the former one
 abbrev pub current_after : List Member → Option Clock → Accept → Option Clock
 current_after ms None a = cond (has_rev ms a.rev) (Some a.rev) None
 current_after ms (Some c) a = cond (has_rev ms a.rev && (a.current || not (has_rev ms c))) (Some a.rev) (Some c)
@@ -59,7 +60,8 @@ document_of h = record { members = members_of h; current = current_of h }
 -- one more acceptance on what is there
 abbrev pub document_after : Document → Accept → Document
 document_after d a =
-    let ms = pruned covers_member d.members (member_of a) in record { members = ms; current = current_after ms d.current a }
+    let ms = pruned covers_member d.members (member_of a)
+    in record { members = ms; current = current_after ms d.current a }
 
 abbrev pub document_after_all : Document → List Accept → Document
 document_after_all d [] = d

@@ -1,5 +1,6 @@
 -- A document that is there, as it is kept: its members, and the place of the current one among them.
-use Rattle.std.specs.Prelude.{◌≡◌, ℕ, zero, suc, ◌<◌, Bool, true, not, ◌&&◌, T, is_some, List, [], ◌∷◌, length, slice_get, Option, Some, None, refl}
+use Rattle.std.specs.Prelude.{◌≡◌, ℕ, zero, suc, ◌<◌, Bool, true, not, ◌&&◌, T, is_some, List, [], ◌∷◌, length}
+use Rattle.std.specs.Prelude.{slice_get, Option, Some, None, refl}
 use Rattle.std.specs.List.{list_all}
 use Rattle.std.specs.Coded.{Coded, code_by, coded×, coded_ℕ, coded_list, coded_option}
 use base.Stored.{coded_via}
@@ -57,13 +58,16 @@ at_place (x ∷ xs) (suc place) low = at_place xs place (omega (arith, low))
 pub same_kept : (j k : Kept) → j.members ≡ k.members → j.place ≡ k.place → j ≡ k
 same_kept j k members place =
     let pairs : ◌≡◌ {A = List Member × ℕ} (j.members, j.place) (k.members, k.place) = λ i. (members i, place i) in
-    let there : ◌≡◌ {A = (p : List Member × ℕ) × T (is_some (slice_get p.0 p.1))} ((j.members, j.place), j.there) ((k.members, k.place), k.there) = Σ_prop_path (λ p. T_prop _) pairs in
-    let apart : ◌≡◌ {A = (ms : List Member) × T (all_apart ms)} (j.members, j.apart) (k.members, k.apart) = Σ_prop_path (λ ms. T_prop _) members in
+    let there : ◌≡◌ {A = (p : List Member × ℕ) × T (is_some (slice_get p.0 p.1))} ((j.members, j.place), j.there)
+    ((k.members, k.place), k.there) = Σ_prop_path (λ p. T_prop _) pairs in
+    let apart : ◌≡◌ {A = (ms : List Member) × T (all_apart ms)} (j.members, j.apart) (k.members, k.apart) =
+    Σ_prop_path (λ ms. T_prop _) members in
     λ i. record { members = members i; place = place i; there = (there i).1; apart = (apart i).1 }
 
 abbrev pub member_code : Coded Member
 member_code =
-    code_by (Clock × Option Tree) (coded× clock_code (coded_option tree_code)) (λ m. (m.rev, m.content)) (λ p. record { rev = p.0; content = p.1 }) (λ _. refl)
+    code_by (Clock × Option Tree) (coded× clock_code (coded_option tree_code)) (λ m. (m.rev, m.content))
+    (λ p. record { rev = p.0; content = p.1 }) (λ _. refl)
 
 abbrev pub kept_code : Coded Kept
 kept_code =

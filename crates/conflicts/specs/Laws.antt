@@ -1,11 +1,13 @@
 -- What holds of all documents and of all histories.
-use Rattle.std.specs.Prelude.{◌≡◌, ◌≢◌, ◌+◌, ◌<◌, ◌⊎◌, Bool, true, false, not, ◌&&◌, List, [], ◌∷◌, ◌++◌, Option, Some, None, IfOk, IfSome}
+use Rattle.std.specs.Prelude.{◌≡◌, ◌≢◌, ◌+◌, ◌<◌, ◌⊎◌, Bool, true, false, not, ◌&&◌, List, [], ◌∷◌, ◌++◌, Option, Some}
+use Rattle.std.specs.Prelude.{None, IfOk, IfSome}
 use Rattle.std.specs.List.{list_any}
 use Rattle.content.specs.Tree.{Tree}
 use Rattle.vector_rev.specs.Counts.{Uid}
 use Rattle.vector_rev.specs.Clock.{Clock, count_of, covers, dominates}
 use Rattle.conflicts.specs.Lists.{In}
-use Rattle.conflicts.specs.Document.{Document, members_of, document_of, document_after, has_rev, current_member, content_of, FitsDocument}
+use Rattle.conflicts.specs.Document.{Document, members_of, document_of, document_after, has_rev, current_member}
+use Rattle.conflicts.specs.Document.{content_of, FitsDocument}
 use Rattle.conflicts.specs.Kept.{Kept, current, document}
 use Rattle.conflicts.specs.Making.{greatest, edited, deleted, resolved}
 use Rattle.conflicts.specs.Decision.{decides}
@@ -37,9 +39,11 @@ pub record MembersAreKept : Type 0 where
   -- one more acceptance changes a document by the acceptance alone
   pub step : (h : List Accept) (a : Accept) → document_of (h ++ a ∷ []) ≡ document_after (document_of h) a
   -- each accepted revision is covered by a member
-  pub covered : (h : List Accept) (a : Accept) → In a h → (m : Member) × In m (members_of h) × (covers m.rev a.rev ≡ true)
+  pub covered : (h : List Accept) (a : Accept) → In a h → (m : Member) × In m (members_of h)
+      × (covers m.rev a.rev ≡ true)
   -- what is covered by a member stays covered
-  pub stays : (d : Document) (a : Accept) (c : Clock) (m : Member) → In m d.members → covers m.rev c ≡ true → (n : Member) × In n (document_after d a).members × (covers n.rev c ≡ true)
+  pub stays : (d : Document) (a : Accept) (c : Clock) (m : Member) → In m d.members → covers m.rev c ≡ true
+      → (n : Member) × In n (document_after d a).members × (covers n.rev c ≡ true)
   -- the definitions hold together
   pub documents : (h : List Accept) → IsDocument (document_of h)
   pub kept : (k : Option Kept) → IsDocument (document k)
@@ -84,7 +88,10 @@ pub record TakesOf (own : Uid) (d : Document) (x : Member) (a : Accept) : Type 0
   pub parents : (p : Clock) → In p a.parents → (p ≡ x.rev) ⊎ ((m : Member) × In m d.members × (m.rev ≡ p))
 
 pub record Makings : Type 0 where
-  pub edits : (d : Document) → IsDocument d → (rev : Option Clock) (t : Tree) (own : Uid) → IfOk (edited d rev t own) (MakesOf own d)
+  pub edits : (d : Document) → IsDocument d → (rev : Option Clock) (t : Tree) (own : Uid)
+      → IfOk (edited d rev t own) (MakesOf own d)
   pub deletions : (d : Document) → IsDocument d → (rev : Clock) (own : Uid) → IfOk (deleted d rev own) (MakesOf own d)
-  pub resolutions : (d : Document) → IsDocument d → (named : List Clock) (t : Option Tree) (own : Uid) → IfOk (resolved d named t own) (MakesOf own d)
-  pub receipts : (d : Document) → IsDocument d → (x : Member) (save : Bool) (own : Uid) → IfSome (decides d x save own).accepted (TakesOf own d x)
+  pub resolutions : (d : Document) → IsDocument d → (named : List Clock) (t : Option Tree) (own : Uid)
+      → IfOk (resolved d named t own) (MakesOf own d)
+  pub receipts : (d : Document) → IsDocument d → (x : Member) (save : Bool) (own : Uid)
+      → IfSome (decides d x save own).accepted (TakesOf own d x)

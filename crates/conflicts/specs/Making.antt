@@ -1,5 +1,6 @@
 -- What an edit, a deletion, a resolution and a merge make, and why an edit, a deletion or a resolution is refused.
-use Rattle.std.specs.Prelude.{ℕ, max, Bool, true, not, ◌||◌, ◌==◌, nat_lt, List, [], ◌∷◌, filter, find, map, unwrap_or, if◌then◌else◌, Option, Some, None, Result, Err}
+use Rattle.std.specs.Prelude.{ℕ, max, Bool, true, not, ◌||◌, ◌==◌, nat_lt, List, [], ◌∷◌, filter, find, map, unwrap_or}
+use Rattle.std.specs.Prelude.{if◌then◌else◌, Option, Some, None, Result, Err}
 use Rattle.std.specs.List.{list_any}
 use Rattle.std.specs.Option.{option_map, ok_or}
 use Rattle.content.specs.Tree.{Tree}
@@ -40,7 +41,8 @@ revs ms = map (λ m. m.rev) ms
 -- the revision made of the parents is the current one
 abbrev pub edit_of : Uid → List Clock → Option Tree → Option Accept
 edit_of own parents content =
-    option_map (λ r. record { rev = r; content = content; making = Edit; parents = parents; current = true }) (made_clock own parents)
+    option_map (λ r. record { rev = r; content = content; making = Edit; parents = parents; current = true })
+    (made_clock own parents)
 
 -- an edit names the current revision; it may name none where the document is deleted
 abbrev pub names : Option Clock → Clock → Bool → Bool
@@ -84,7 +86,14 @@ leader own c ms = unwrap_or (option_map (λ m. m.rev) (find (λ m. count_of m.re
 -- the revision made of the named members is current where the current one is named, or where it is newer
 abbrev pub resolution_of : Uid → Clock → List Clock → Option Tree → Option Accept
 resolution_of own c parents content =
-    option_map (λ r. record { rev = r; content = content; making = Resolve; parents = parents; current = list_any (λ p. same p c) parents || dominates r c }) (made_clock own parents)
+    option_map (λ r. record {
+      rev = r;
+      content = content;
+      making = Resolve;
+      parents = parents;
+      current =
+          list_any (λ p. same p c) parents || dominates r c;
+    }) (made_clock own parents)
 
 -- over the current revision and all members, the current one first
 abbrev pub resolved_over : Clock → List Member → List Clock → Option Tree → Uid → Result Accept ResolveFault

@@ -1,5 +1,6 @@
 -- The history of a replica, and the state that it leaves: each part of the state is a filter of the whole history.
-use Rattle.std.specs.Prelude.{◌≡◌, ◌&&◌, ℕ, Bool, true, false, cond, List, [], ◌∷◌, ◌++◌, Option, Some, None, IsSome, unwrap_or}
+use Rattle.std.specs.Prelude.{◌≡◌, ◌&&◌, ℕ, Bool, true, false, cond, List, [], ◌∷◌, ◌++◌, Option, Some, None, IsSome}
+use Rattle.std.specs.Prelude.{unwrap_or}
 use Rattle.std.specs.List.{flat_map}
 use Rattle.u1_base.specs.Ids.{same_id}
 use Rattle.u1_base.specs.Places.{Place, nowhere}
@@ -124,8 +125,8 @@ abbrev pub MoveFits : State → Option Move → Type 0
 MoveFits s None = Unit {0}
 MoveFits s (Some m) = GoesOn (unwrap_or (s.position m.table m.uid) nowhere) m.at
 
--- a step fits a state: an acceptance by its document and its move, a move by the source check, an index is created where
--- there is none of its name and deleted where there is one
+-- a step fits a state: an acceptance by its document and its move, a move by the source check, an index is created
+-- where there is none of its name and deleted where there is one
 abbrev pub Fits : State → Step → Type 0
 Fits s (Accepted d a trans moved) = FitsDocument (s.document d) a × MoveFits s moved
 Fits s (Gone d trans moved) = ⊥

@@ -14,7 +14,8 @@ pub enum Making {
     Edit,
     /// A resolution of a conflict at this replica.
     Resolve,
-    /// A merge, at this replica, of a revision that was handed over with members of the same content.
+    /// A merge, at this replica, of a revision that was handed over with members of the same
+    /// content.
     Merge,
     /// Another replica made it.
     Received,

@@ -1,5 +1,7 @@
 //! What one more acceptance leaves of a document.
-ghost use Rattle.std.specs.Prelude.{◌≡◌, ◌≤◌, ◌<◌, ◌↔◌, ◌++◌, [], ◌∷◌, cond, false, true, not, IsTrue, T, filter, length, take, IfOk, OnOk, Some, option_copied};
+ghost use Rattle.std.specs.Prelude.{◌≡◌, ◌≤◌, ◌<◌, ◌↔◌, ◌++◌, [], ◌∷◌, cond, false, true, not};
+ghost use Rattle.std.specs.Prelude.{IsTrue, T, filter, length, take, IfOk, OnOk, Some};
+ghost use Rattle.std.specs.Prelude.{option_copied};
 ghost use Rattle.std.specs.List.{list_any};
 ghost use Rattle.vector_rev.specs.Clock.{covers, dominates};
 ghost use Rattle.conflicts.specs.Document.{FitsDocument, document_after, member_of, no_document};
@@ -11,8 +13,8 @@ use u1_base::Memory;
 use vector_rev::{Clock, Order};
 
 impl DocSet {
-    /// Whether an acceptance fits what is there: no member is newer, and the acceptance is marked current unless a current
-    /// member is there that it does not cover.
+    /// Whether an acceptance fits what is there: no member is newer, and the acceptance is marked
+    /// current unless a current member is there that it does not cover.
     pub fn fits(set: Option<&DocSet>, accept: &Accept) -> bool
         ensures { IsTrue result ↔ FitsDocument (document (option_copied set.entry)) accept.now }
     {
@@ -29,9 +31,9 @@ impl DocSet {
         any_newer(self.members(), rev)
     }
 
-    /// Drops the members that the accepted revision covers, adds it last, and makes it the current one where it is
-    /// marked so. The condition is that the acceptance fits: no member is newer, and an acceptance that is not marked
-    /// leaves the current member. Nothing is copied.
+    /// Drops the members that the accepted revision covers, adds it last, and makes it the current
+    /// one where it is marked so. The condition is that the acceptance fits: no member is newer,
+    /// and an acceptance that is not marked leaves the current member. Nothing is copied.
     pub fn apply(alloc: Global, set: Option<DocSet>, accept: Accept) -> Result<DocSet, Memory>
         requires { FitsDocument (document set) accept }
         ensures { IfOk result (λ s. document (Some s) ≡ document_after (document set) accept) }
@@ -42,11 +44,12 @@ impl DocSet {
         }
     }
 
-    /// The same for a set that stays as it is. Of its members only those are copied that the accepted revision does not
-    /// cover, so nothing is copied where there is no conflict.
+    /// The same for a set that stays as it is. Of its members only those are copied that the
+    /// accepted revision does not cover, so nothing is copied where there is no conflict.
     pub fn after(alloc: Global, set: Option<&DocSet>, accept: Accept) -> Result<DocSet, Memory>
         requires { FitsDocument (document (option_copied set)) accept }
-        ensures { IfOk result (λ s. document (Some s) ≡ document_after (document (option_copied set.entry)) accept) }
+        ensures { IfOk result (λ s. document (Some s)
+            ≡ document_after (document (option_copied set.entry)) accept) }
     {
         match set {
             Some(set) => after_over(alloc, set, accept),
@@ -92,16 +95,20 @@ fn apply_to(set: DocSet, accept: Accept) -> Result<DocSet, Memory>
 
 fn after_over(alloc: Global, set: &DocSet, accept: Accept) -> Result<DocSet, Memory>
     requires { FitsDocument (document (Some set.now)) accept }
-    ensures { IfOk result (λ s. document (Some s) ≡ document_after (document (Some set.now)) accept) }
+    ensures { IfOk result (λ s. document (Some s)
+        ≡ document_after (document (Some set.now)) accept) }
 {
     let before = kept_before(set, &accept);
     let kept = uncovered_copies(alloc, set.members(), &accept.rev)?;
     accepted(kept, before, accept)
 }
 
-// How many members stay before the current one; 0 where the acceptance is marked current, since then nobody asks.
+// How many members stay before the current one; 0 where the acceptance is marked current, since
+// then nobody asks.
 fn kept_before(set: &DocSet, accept: &Accept) -> usize
-    ensures { result ≡ cond accept.now.current 0 (length (filter (λ m. not (covers accept.now.rev m.rev)) (take set.now.place set.now.members))) }
+    ensures { result ≡ cond accept.now.current 0
+        (length (filter (λ m. not (covers accept.now.rev m.rev))
+        (take set.now.place set.now.members))) }
 {
     if accept.current {
         0
@@ -143,8 +150,8 @@ fn uncovered_copies(alloc: Global, members: &[Member], rev: &Clock) -> Result<Ve
     Ok(kept)
 }
 
-// The accepted revision stands behind the members that stay. It is the current one where it is marked so; else the
-// current one is the member with so many before it.
+// The accepted revision stands behind the members that stay. It is the current one where it is
+// marked so; else the current one is the member with so many before it.
 fn accepted(kept: Vec<Member>, before: usize, accept: Accept) -> Result<DocSet, Memory>
     requires there { accept.current ≡ false → before < length kept.items }
     requires apart { all_apart (kept.items ++ member_of accept ∷ []) ≡ true }

@@ -21,7 +21,8 @@ pub enum EditFault {
     NoDocument,
     /// The document has more than one member.
     Conflicted,
-    /// The given revision is the current one, and another one was named, or none although the document is live.
+    /// The given revision is the current one, and another one was named, or none although the
+    /// document is live.
     RevisionConflict(Clock),
     /// The current member has no content already.
     AlreadyDeleted,
@@ -61,8 +62,8 @@ impl From<Memory> for EditFault {
     }
 }
 
-/// Makes an edit of the document, which names the revision that it changes. An edit that makes a document, or that gives
-/// a deleted one a content again, may name none.
+/// Makes an edit of the document, which names the revision that it changes. An edit that makes a
+/// document, or that gives a deleted one a content again, may name none.
 pub fn edit(
     alloc: Global,
     set: Option<&DocSet>,
@@ -70,7 +71,9 @@ pub fn edit(
     content: &Content,
     own: &ReplicaUid,
 ) -> Result<Accept, EditFault>
-    ensures { (result ≡ Err EditFault.Memory) ⊎ (result ≡ edited (document (option_copied set.entry)) (option_copied rev.entry) content.now own.now) }
+    ensures { (result ≡ Err EditFault.Memory)
+        ⊎ (result ≡ edited (document (option_copied set.entry))
+        (option_copied rev.entry) content.now own.now) }
 {
     let Some(set) = set else {
         if rev.is_some() {
@@ -94,7 +97,8 @@ pub fn delete(
     rev: &Clock,
     own: &ReplicaUid,
 ) -> Result<Accept, EditFault>
-    ensures { (result ≡ Err EditFault.Memory) ⊎ (result ≡ deleted (document (option_copied set.entry)) rev.now own.now) }
+    ensures { (result ≡ Err EditFault.Memory)
+        ⊎ (result ≡ deleted (document (option_copied set.entry)) rev.now own.now) }
 {
     let Some(set) = set else {
         return Err(EditFault::NoDocument);
@@ -113,7 +117,8 @@ pub fn delete(
 
 // Whether the edit names the revision that it has to name.
 fn is_named(set: &DocSet, rev: Option<&Clock>) -> bool
-    ensures { result ≡ names (option_copied rev.entry) (current set.now).rev (is_live (document (Some set.now))) }
+    ensures { result ≡ names (option_copied rev.entry) (current set.now).rev
+        (is_live (document (Some set.now))) }
 {
     match rev {
         Some(rev) => *rev == set.current().rev,
@@ -128,7 +133,8 @@ fn is_live(set: &DocSet) -> bool
 }
 
 fn revision_conflict(set: &DocSet) -> EditFault
-    ensures { (result ≡ EditFault.Memory) ⊎ (result ≡ EditFault.RevisionConflict (current set.now).rev) }
+    ensures { (result ≡ EditFault.Memory)
+        ⊎ (result ≡ EditFault.RevisionConflict (current set.now).rev) }
 {
     match set.current().rev.copy() {
         Ok(rev) => EditFault::RevisionConflict(rev),
@@ -137,7 +143,8 @@ fn revision_conflict(set: &DocSet) -> EditFault
 }
 
 fn first_edit(alloc: Global, content: &Content, own: &ReplicaUid) -> Result<Accept, EditFault>
-    ensures { (result ≡ Err EditFault.Memory) ⊎ (result ≡ ok_or (edit_of own.now [] (Some content.now)) EditFault.ClockFull) }
+    ensures { (result ≡ Err EditFault.Memory)
+        ⊎ (result ≡ ok_or (edit_of own.now [] (Some content.now)) EditFault.ClockFull) }
 {
     let rev = first_clock(alloc, own)?;
     edit_with(rev, Some(content), Clocks::new(alloc))
@@ -149,7 +156,9 @@ fn edit_over(
     content: Option<&Content>,
     own: &ReplicaUid,
 ) -> Result<Accept, EditFault>
-    ensures { (result ≡ Err EditFault.Memory) ⊎ (result ≡ ok_or (edit_of own.now ((current set.now).rev ∷ []) (option_copied content.entry)) EditFault.ClockFull) }
+    ensures { (result ≡ Err EditFault.Memory)
+        ⊎ (result ≡ ok_or (edit_of own.now ((current set.now).rev ∷ [])
+        (option_copied content.entry)) EditFault.ClockFull) }
 {
     let mut parents = Clocks::new(alloc);
     parents.push(set.current().rev.copy()?)?;
@@ -160,7 +169,15 @@ fn edit_over(
 }
 
 fn edit_with(rev: Clock, content: Option<&Content>, parents: Clocks) -> Result<Accept, EditFault>
-    ensures { (result ≡ Err EditFault.Memory) ⊎ (result ≡ Ok (record { rev = rev; content = option_copied content.entry; making = Making.Edit; parents = parents; current = true })) }
+    ensures { (result ≡ Err EditFault.Memory)
+        ⊎ (result ≡ Ok (record {
+          rev = rev;
+          content = option_copied content.entry;
+          making =
+              Making.Edit;
+          parents = parents;
+          current = true;
+        })) }
 {
     let content = match content {
         Some(content) => Some(content.copy()?),

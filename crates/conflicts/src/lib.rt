@@ -1,9 +1,10 @@
-//! What happens to a document: its members, the current one, and what is made of an edit, a deletion, a resolution or a
-//! revision that another replica hands over. No accepted revision is lost.
+//! What happens to a document: its members, the current one, and what is made of an edit, a
+//! deletion, a resolution or a revision that another replica hands over. No accepted revision is
+//! lost.
 //!
-//! A contract sees a set of members as one value: the members in the order of their last acceptances, no two of them
-//! ordered by their clocks, and the place of the current one. What a set stands for is a document: its members and its
-//! current revision.
+//! A contract sees a set of members as one value: the members in the order of their last
+//! acceptances, no two of them ordered by their clocks, and the place of the current one. What a
+//! set stands for is a document: its members and its current revision.
 #![tactic(auto)]
 
 mod accept;

@@ -40,7 +40,8 @@ fn raised_of(clock: Clock, own: &ReplicaUid) -> Result<Option<Clock>, Memory>
 // The join of the clocks, from the last one on; None where it has more than 64 entries.
 fn joined_of(clocks: &[Clock]) -> Result<Option<Clock>, Memory>
     requires { 1 ≤ length clocks.now }
-    ensures { IfOk result (λ o. MatchOption o (MOST_CLOCK_ENTRIES < length (joined clocks.now)) (λ z. z.entries ≡ joined clocks.now)) }
+    ensures { IfOk result (λ o. MatchOption o (MOST_CLOCK_ENTRIES < length (joined clocks.now))
+        (λ z. z.entries ≡ joined clocks.now)) }
 {
     let mut place = clocks.len() - 1;
     let mut all = clocks[place].copy()?;

@@ -1,6 +1,7 @@
-//! One walk over the members for a revision that is apart from the current one: whether a member has it or is newer, and
-//! the merge with those that have its content.
-ghost use Rattle.std.specs.Prelude.{◌≡◌, ◌<◌, ◌++◌, ◌∷◌, ◌&&◌, ◌||◌, [], max, cond, false, length, nat_le, nat_lt, IfOk, None, OnOk};
+//! One walk over the members for a revision that is apart from the current one: whether a member
+//! has it or is newer, and the merge with those that have its content.
+ghost use Rattle.std.specs.Prelude.{◌≡◌, ◌<◌, ◌++◌, ◌∷◌, ◌&&◌, ◌||◌, [], max, cond, false, length};
+ghost use Rattle.std.specs.Prelude.{nat_le, nat_lt, IfOk, None, OnOk};
 ghost use Rattle.vector_rev.specs.Clock.{count_of, covers, dominates};
 ghost use Rattle.conflicts.specs.Decision.{may_merge, merge_of, same_content};
 ghost use Rattle.conflicts.specs.Kept.{current, current_first};
@@ -133,9 +134,11 @@ fn look_beside(
 
 // Notes a member that has the content of the incoming revision, or that has another one.
 fn note(merging: &mut Merging, member: &Member, alike: bool, own: &ReplicaUid) -> Result<(), Memory>
-    ensures parents { OnOk result (merging.new.parents ≡ merging.old.parents ++ cond alike (member.now.rev ∷ []) []) }
+    ensures parents { OnOk result
+        (merging.new.parents ≡ merging.old.parents ++ cond alike (member.now.rev ∷ []) []) }
     ensures leads { OnOk result (merging.new.leads ≡ merging.old.leads) }
-    ensures most { OnOk result (merging.new.most ≡ max (cond alike 0 (count_of member.now.rev own.now)) merging.old.most) }
+    ensures most { OnOk result
+        (merging.new.most ≡ max (cond alike 0 (count_of member.now.rev own.now)) merging.old.most) }
 {
     if alike {
         merging.parents.push(member.rev.copy()?)?;
@@ -185,9 +188,11 @@ fn becomes_current(save: bool, leads: bool, rev: &Clock, current: &Clock) -> boo
     save || leads || is_newer(rev, current)
 }
 
-// Whether there is a member to merge with, and no member of another content has an own counter above all of these.
+// Whether there is a member to merge with, and no member of another content has an own counter
+// above all of these.
 fn may_be_made(merging: &Merging, own: &ReplicaUid) -> bool
-    ensures { result ≡ nat_lt 1 (length merging.now.parents) && nat_le merging.now.most (greatest own.now merging.now.parents) }
+    ensures { result ≡ nat_lt 1 (length merging.now.parents)
+        && nat_le merging.now.most (greatest own.now merging.now.parents) }
 {
     merging.parents.len() > 1 && merging.most <= greatest_in(merging.parents.as_slice(), own)
 }

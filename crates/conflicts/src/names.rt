@@ -13,7 +13,8 @@ use vector_rev::{Clock, ClockEntry};
 // So many names are looked through one after the other. Beyond that they are sorted.
 const FEW_NAMES: usize = 8;
 
-// The named revisions. Many stand in the order of their clocks besides; of a few that list is empty.
+// The named revisions. Many stand in the order of their clocks besides; of a few that list is
+// empty.
 #[derive(Drop)]
 pub(crate) struct Names<'a> {
     all: &'a [Clock],

@@ -32,8 +32,8 @@ pub struct Taken {
     pub accepted: Option<Accept>,
 }
 
-/// Decides on a revision that another replica hands over. `save` is set where this replica asked for it: then a revision
-/// that is in conflict is kept.
+/// Decides on a revision that another replica hands over. `save` is set where this replica asked
+/// for it: then a revision that is in conflict is kept.
 pub fn receive(
     alloc: Global,
     set: Option<&DocSet>,
@@ -41,7 +41,8 @@ pub fn receive(
     save: bool,
     own: &ReplicaUid,
 ) -> Result<Taken, Memory>
-    ensures { IfOk result (λ t. t ≡ decides (document (option_copied set.entry)) incoming.now save own.now) }
+    ensures { IfOk result (λ t. t ≡ decides
+        (document (option_copied set.entry)) incoming.now save own.now) }
 {
     match set {
         Some(set) => receive_over(alloc, set, incoming, save, own),
@@ -133,7 +134,8 @@ fn accepted_as(alloc: Global, outcome: Outcome4, incoming: &Member) -> Result<Ta
 }
 
 fn conflicted(alloc: Global, incoming: &Member, save: bool) -> Result<Taken, Memory>
-    ensures { IfOk result (λ t. t ≡ cond save (accepts_it Outcome4.Conflicted incoming.now) (nothing Outcome4.Conflicted)) }
+    ensures { IfOk result (λ t. t ≡ cond save (accepts_it Outcome4.Conflicted incoming.now)
+        (nothing Outcome4.Conflicted)) }
 {
     if save {
         accepted_as(alloc, Outcome4::Conflicted, incoming)

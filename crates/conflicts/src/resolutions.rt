@@ -1,10 +1,12 @@
 //! What a resolution of a conflict makes.
-ghost use Rattle.std.specs.Prelude.{◌≡◌, ◌⊎◌, ◌+◌, ◌<◌, ◌≤◌, ◌++◌, ◌==◌, [], ◌∷◌, cond, Ok, Err, IfOk, OnOk, Some, find, length, option_copied};
+ghost use Rattle.std.specs.Prelude.{◌≡◌, ◌⊎◌, ◌+◌, ◌<◌, ◌≤◌, ◌++◌, ◌==◌, [], ◌∷◌, cond, Ok, Err};
+ghost use Rattle.std.specs.Prelude.{IfOk, OnOk, Some, find, length, option_copied};
 ghost use Rattle.std.specs.Option.{ok_or};
 ghost use Rattle.vector_rev.specs.Clock.{count_of, dominates};
 ghost use Rattle.conflicts.specs.Kept.{current, current_first, document};
 ghost use Rattle.conflicts.specs.Walk.{seen};
-ghost use Rattle.conflicts.specs.Making.{greatest, leader, named_in, resolution_of, resolved, resolved_over, revs};
+ghost use Rattle.conflicts.specs.Making.{greatest, leader, named_in, resolution_of, resolved};
+ghost use Rattle.conflicts.specs.Making.{resolved_over, revs};
 
 use crate::apply::is_newer;
 use crate::made::{greatest_in, made_of};
@@ -25,8 +27,8 @@ pub enum ResolveFault {
     NotConflicted,
     /// No named revision is a member.
     NothingNamed,
-    /// No named member has the greatest own counter among all members. The given revision is the first member that has it,
-    /// the current one standing first.
+    /// No named member has the greatest own counter among all members. The given revision is the
+    /// first member that has it, the current one standing first.
     Unnamed(Clock),
     /// The own counter is 2^63-1, or the clock would have more than 64 entries.
     ClockFull,
@@ -66,8 +68,8 @@ impl From<Memory> for ResolveFault {
     }
 }
 
-/// Makes a resolution: one revision of the named members, with the content or, where it is none, a deletion. Named
-/// revisions that are no members are ignored.
+/// Makes a resolution: one revision of the named members, with the content or, where it is none, a
+/// deletion. Named revisions that are no members are ignored.
 pub fn resolve(
     alloc: Global,
     set: Option<&DocSet>,
@@ -75,7 +77,9 @@ pub fn resolve(
     content: Option<&Content>,
     own: &ReplicaUid,
 ) -> Result<Accept, ResolveFault>
-    ensures { (result ≡ Err ResolveFault.Memory) ⊎ (result ≡ resolved (document (option_copied set.entry)) named.now (option_copied content.entry) own.now) }
+    ensures { (result ≡ Err ResolveFault.Memory)
+        ⊎ (result ≡ resolved (document (option_copied set.entry)) named.now
+        (option_copied content.entry) own.now) }
 {
     match set {
         Some(set) => resolve_there(alloc, set, named, content, own),
@@ -90,7 +94,9 @@ fn resolve_there(
     content: Option<&Content>,
     own: &ReplicaUid,
 ) -> Result<Accept, ResolveFault>
-    ensures { (result ≡ Err ResolveFault.Memory) ⊎ (result ≡ resolved (document (Some set.now)) named.now (option_copied content.entry) own.now) }
+    ensures { (result ≡ Err ResolveFault.Memory)
+        ⊎ (result ≡ resolved (document (Some set.now)) named.now
+        (option_copied content.entry) own.now) }
 {
     if set.length() <= 1 {
         return Err(ResolveFault::NotConflicted);
@@ -105,7 +111,9 @@ fn resolve_over(
     content: Option<&Content>,
     own: &ReplicaUid,
 ) -> Result<Accept, ResolveFault>
-    ensures { (result ≡ Err ResolveFault.Memory) ⊎ (result ≡ resolved_over (current set.now).rev (current_first set.now) named.now (option_copied content.entry) own.now) }
+    ensures { (result ≡ Err ResolveFault.Memory)
+        ⊎ (result ≡ resolved_over (current set.now).rev (current_first set.now) named.now
+        (option_copied content.entry) own.now) }
 {
     let parents = named_of(alloc, set, named)?;
     if parents.as_slice().len() == 0 {
@@ -127,7 +135,8 @@ fn named_of(alloc: Global, set: &DocSet, named: &[Clock]) -> Result<Vec<Clock>, 
 }
 
 fn named_members(alloc: Global, set: &DocSet, names: &Names) -> Result<Vec<Clock>, Memory>
-    ensures { IfOk result (λ v. v.items ≡ revs (named_in names.now.all.now (current_first set.now))) }
+    ensures { IfOk result (λ v. v.items ≡ revs
+        (named_in names.now.all.now (current_first set.now))) }
 {
     let mut parents = Vec::new(alloc);
     push_named(&mut parents, set.current(), names)?;
@@ -145,7 +154,8 @@ fn push_other(
     names: &Names,
 ) -> Result<(), Memory>
     requires { place < length set.now.members }
-    ensures { OnOk result (into.old.items ≡ revs (named_in names.now.all.now (seen set.now place)) → into.new.items ≡ revs (named_in names.now.all.now (seen set.now (place + 1)))) }
+    ensures { OnOk result (into.old.items ≡ revs (named_in names.now.all.now (seen set.now place))
+        → into.new.items ≡ revs (named_in names.now.all.now (seen set.now (place + 1)))) }
 {
     if place == set.place() {
         return Ok(());
@@ -156,7 +166,8 @@ fn push_other(
 
 // Adds the member's clock at the end, if it is named.
 fn push_named(into: &mut Vec<Clock>, member: &Member, names: &Names) -> Result<(), Memory>
-    ensures { OnOk result (into.new.items ≡ into.old.items ++ revs (named_in names.now.all.now (member.now ∷ []))) }
+    ensures { OnOk result (into.new.items ≡ into.old.items
+        ++ revs (named_in names.now.all.now (member.now ∷ []))) }
 {
     push_if(into, &member.rev, names.has(&member.rev))?;
     Ok(())
@@ -191,7 +202,9 @@ fn greatest_among(members: &[Member], own: &ReplicaUid) -> u64
 
 fn unnamed(set: &DocSet, own: &ReplicaUid, most: u64) -> ResolveFault
     requires { most ≡ greatest own.now (revs (current_first set.now)) }
-    ensures { (result ≡ ResolveFault.Memory) ⊎ (result ≡ ResolveFault.Unnamed (leader own.now (current set.now).rev (current_first set.now))) }
+    ensures { (result ≡ ResolveFault.Memory)
+        ⊎ (result ≡ ResolveFault.Unnamed
+        (leader own.now (current set.now).rev (current_first set.now))) }
 {
     match leader(set, own, most).copy() {
         Ok(rev) => ResolveFault::Unnamed(rev),
@@ -227,7 +240,9 @@ fn resolution(
     own: &ReplicaUid,
 ) -> Result<Accept, ResolveFault>
     requires { 1 ≤ length parents.items }
-    ensures { (result ≡ Err ResolveFault.Memory) ⊎ (result ≡ ok_or (resolution_of own.now (current set.now).rev parents.items (option_copied content.entry)) ResolveFault.ClockFull) }
+    ensures { (result ≡ Err ResolveFault.Memory)
+        ⊎ (result ≡ ok_or (resolution_of own.now (current set.now).rev parents.items
+        (option_copied content.entry)) ResolveFault.ClockFull) }
 {
     let Some(rev) = made_of(parents.as_slice(), own)? else {
         return Err(ResolveFault::ClockFull);
@@ -243,7 +258,15 @@ fn resolution_with(
     parents: Vec<Clock>,
     current: bool,
 ) -> Result<Accept, ResolveFault>
-    ensures { (result ≡ Err ResolveFault.Memory) ⊎ (result ≡ Ok (record { rev = rev; content = option_copied content.entry; making = Making.Resolve; parents = parents.items; current = current })) }
+    ensures { (result ≡ Err ResolveFault.Memory)
+        ⊎ (result ≡ Ok (record {
+          rev = rev;
+          content = option_copied content.entry;
+          making =
+              Making.Resolve;
+          parents = parents.items;
+          current = current;
+        })) }
 {
     let content = match content {
         Some(content) => Some(content.copy()?),

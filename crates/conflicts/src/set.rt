@@ -1,5 +1,6 @@
 //! The members of a document.
-ghost use Rattle.std.specs.Prelude.{◌≡◌, ◌<◌, ◌≤◌, ◌++◌, ◌↔◌, IfOk, IsNone, OnOk, T, length, option_copied};
+ghost use Rattle.std.specs.Prelude.{◌≡◌, ◌<◌, ◌≤◌, ◌++◌, ◌↔◌, IfOk, IsNone, OnOk, T, length};
+ghost use Rattle.std.specs.Prelude.{option_copied};
 ghost use Rattle.std.specs.List.{slice_get};
 ghost use Rattle.conflicts.specs.Kept.{all_apart, current, current_first};
 
@@ -7,8 +8,8 @@ use crate::Member;
 use std::marker::Model;
 use u1_base::Memory;
 
-/// A document that is there: its members in the order of their last acceptances, and which of them is the current one.
-/// No two members are ordered by their clocks.
+/// A document that is there: its members in the order of their last acceptances, and which of them
+/// is the current one. No two members are ordered by their clocks.
 #[derive(Drop)]
 pub struct DocSet {
     pub(crate) members: Vec<Member>,
@@ -24,7 +25,13 @@ impl Model for DocSet {
 
     ghost coded = { kept_code };
 
-    ghost view = { λ s. record { members = s.members.items; place = s.place; there = at_place s.members.items s.place s.there; apart = s.apart } };
+    ghost view = { λ s. record {
+      members = s.members.items;
+      place = s.place;
+      there =
+          at_place s.members.items s.place s.there;
+      apart = s.apart;
+    } };
 }
 
 impl DocSet {
@@ -41,8 +48,8 @@ impl DocSet {
         self.members.len() as u64
     }
 
-    /// The member at a place: the current one at place 0, then the others in the order of their last acceptances. None
-    /// exactly past the end.
+    /// The member at a place: the current one at place 0, then the others in the order of their
+    /// last acceptances. None exactly past the end.
     pub fn member(&self, place: u64) -> Option<&Member>
         ensures value { option_copied result ≡ slice_get (current_first self.now) place }
         ensures none { IsNone result ↔ (length self.now.members ≤ place) }

@@ -1,8 +1,8 @@
-//! The worked documents, told as stories; the limit of a resolution; made-up acceptances against the plain definition; and
-//! what is told and copied of a set.
+//! The worked documents, told as stories; the limit of a resolution; made-up acceptances against
+//! the plain definition; and what is told and copied of a set.
 //!
-//! A line of a story is a call at a replica, its answer, and the members afterwards, the current one first. An empty line
-//! begins with another document.
+//! A line of a story is a call at a replica, its answer, and the members afterwards, the current
+//! one first. An empty line begins with another document.
 use crate::{
     Accept, DocSet, EditFault, Making, Member, ResolveFault, Taken, delete, edit, receive, resolve,
 };
@@ -47,8 +47,8 @@ a commit current b:1 {} => fits => b:1 {};a:9223372036854775807 {};
 a resolve a:9223372036854775807,b:1 {} => refused ClockFull => b:1 {};a:9223372036854775807 {};
 "#;
 
-// Two replicas create the document with contents that differ; one of them asked for the other's. Then the conflict is
-// resolved.
+// Two replicas create the document with contents that differ; one of them asked for the other's.
+// Then the conflict is resolved.
 const CONFLICT: &str = r#"
 b edit - {"v":"b"} => b:1 {"v":"b"} Edit of current => b:1 {"v":"b"};
 b receive sent a:1 {"v":"a"} => Conflicted => b:1 {"v":"b"};
@@ -65,8 +65,8 @@ a resolve a:2|b:1 {} => refused NotConflicted => a:2|b:1 {"v":"ab"};
 a resolve a:1 {} => refused NoDocument => none
 "#;
 
-// Part of a conflict is resolved; strangers are ignored; of several members with the greatest own counter the first is
-// told; and clocks of a dishonest peer, of which two joined cover a third.
+// Part of a conflict is resolved; strangers are ignored; of several members with the greatest own
+// counter the first is told; and clocks of a dishonest peer, of which two joined cover a third.
 const RESOLUTIONS: &str = r#"
 a commit current a:1 {"v":"a"} => fits => a:1 {"v":"a"};
 a commit current b:1 {"v":"b"} => fits => b:1 {"v":"b"};a:1 {"v":"a"};
@@ -135,8 +135,8 @@ b commit current b:9223372036854775806 {} => fits => b:9223372036854775806 {};
 b receive sent a:1 {} => Superseded a:1|b:9223372036854775807 {} Merge of a:1 b:9223372036854775806 current => a:1|b:9223372036854775807 {};
 "#;
 
-// A merge beside a member of another content: current where it was asked for; none where that member's own counter is
-// greater.
+// A merge beside a member of another content: current where it was asked for; none where that
+// member's own counter is greater.
 const PARTIAL_MERGES: &str = r#"
 a commit current b:1 {"v":"b"} => fits => b:1 {"v":"b"};
 a commit current c:1 {"v":"c"} => fits => c:1 {"v":"c"};b:1 {"v":"b"};
@@ -496,7 +496,8 @@ fn push_content(into: &mut String, content: &Content) -> Result<(), Fail> {
     Ok(())
 }
 
-// An acceptance as `REV CONTENT MAKING of PARENTS`, with `current` at its end where it is marked so.
+// An acceptance as `REV CONTENT MAKING of PARENTS`, with `current` at its end where it is marked
+// so.
 fn accept_told(alloc: Global, accept: &Accept) -> Result<String, Fail> {
     let mut told = String::new(alloc);
     push_revision(&mut told, &accept.rev, &accept.content)?;
@@ -676,7 +677,8 @@ const MADE_UP: [&str; 26] = [
     "a:2|b:2|c:2",
 ];
 
-// An acceptance made up from a number: one of these clocks, one of four contents, marked current three times in four.
+// An acceptance made up from a number: one of these clocks, one of four contents, marked current
+// three times in four.
 fn made_up(alloc: Global, number: u64) -> Result<Accept, Fail> {
     let rev = MADE_UP[((number >> 33) % 26) as usize];
     let words = format!(in alloc; "{rev} {{\"v\":{}}}", (number >> 44) % 4)?;

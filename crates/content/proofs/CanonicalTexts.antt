@@ -1,5 +1,7 @@
 -- The canonical text of a content: it is UTF-8, has no fault, reads as the content, and no other content has it.
-use Rattle.std.proofs.Common.{◌≡◌, ℕ, ◌^◌, ◌<◌, ◌≤◌, ℤ, pos, negsuc, Bool, true, false, cond, not, nat_lt, is_some, IsTrue, List, [], ◌∷◌, ◌++◌, length, Option, Some, None, FitsSigned, IsUtf8, refl, sym, ap, ap₂, ◌∙◌, arith}
+use Rattle.std.proofs.Common.{◌≡◌, ℕ, ◌^◌, ◌<◌, ◌≤◌, ℤ, pos, negsuc, Bool, true, false, cond, not, nat_lt, is_some}
+use Rattle.std.proofs.Common.{IsTrue, List, [], ◌∷◌, ◌++◌, length, Option, Some, None, FitsSigned, IsUtf8, refl, sym}
+use Rattle.std.proofs.Common.{ap, ap₂, ◌∙◌, arith}
 use Rattle.std.proofs.lemmas.Bool.{or_parts, or_from, le-ltb, ltb-false, leb-false, lt-leb}
 use Rattle.std.proofs.lemmas.Int.{ints}
 use Rattle.std.proofs.lemmas.Fmt.{IsAscii-decimal, IsAscii-signed}
@@ -12,10 +14,12 @@ use Rattle.serde_json.specs.Data as json
 use Rattle.serde_json.specs.Find.{of_integer, is_float, as_object}
 use Rattle.serde_json.specs.Read.{read}
 use Rattle.serde_json.specs.Written.{number_text, items_text, members_text, comma_if}
-use Rattle.content.specs.Tree.{Tree, null, boolean, whole, text, list, object, Items, no_items, item, Fields, no_fields, field, is_object}
+use Rattle.content.specs.Tree.{Tree, null, boolean, whole, text, list, object, Items, no_items, item, Fields, no_fields}
+use Rattle.content.specs.Tree.{field, is_object}
 use Rattle.content.specs.Canonical.{data_of, items_data, fields_data, canonical}
 use Rattle.content.specs.Contents.{IsContent, IsFormed, AreFormed, HasFormedFields, Precedes, most_bytes, most_depth}
-use Rattle.content.specs.Faults.{any_number, any_in_items, any_in_members, is_large, fault_of_value, fault_of_reading, fault_of, value_of, Reads}
+use Rattle.content.specs.Faults.{any_number, any_in_items, any_in_members, is_large, fault_of_value, fault_of_reading}
+use Rattle.content.specs.Faults.{fault_of, value_of, Reads}
 use Rattle.content.specs.declared.fault.ContentFault.{ContentFault}
 use Rattle.content.specs.declared.fault.ContentFault.TheVariants.{NotObject, TooDeep, NotWhole, OutOfRange}
 use Rattle.content.proofs.Ordered.{IsBelow, IsOrdered, AreOrdered, HasOrderedMembers, IsOrdered-read}
@@ -39,8 +43,10 @@ mutual
   IsUtf8-canonical (boolean b) h = IsUtf8-boolean b
   IsUtf8-canonical (whole z) h = number_utf8 z h
   IsUtf8-canonical (text s) h = IsUtf8-quoted s h
-  IsUtf8-canonical (list ts) h = IsUtf8-append (91 ∷ []) (items_text false (items_data ts)) (IsUtf8-are_ascii (91 ∷ []) refl) (items_utf8 false ts h)
-  IsUtf8-canonical (object fs) h = IsUtf8-append (123 ∷ []) (members_text false (fields_data fs)) (IsUtf8-are_ascii (123 ∷ []) refl) (fields_utf8 false fs h)
+  IsUtf8-canonical (list ts) h = IsUtf8-append (91 ∷ []) (items_text false (items_data ts))
+      (IsUtf8-are_ascii (91 ∷ []) refl) (items_utf8 false ts h)
+  IsUtf8-canonical (object fs) h = IsUtf8-append (123 ∷ []) (members_text false (fields_data fs))
+      (IsUtf8-are_ascii (123 ∷ []) refl) (fields_utf8 false fs h)
 
   items_utf8 : (later : Bool) (ts : Items) → AreFormed ts → IsUtf8 (items_text later (items_data ts))
   items_utf8 later no_items h = IsUtf8-are_ascii (93 ∷ []) refl
@@ -54,7 +60,8 @@ mutual
       let rest = members_text true (fields_data fs) in
       IsUtf8-append (comma_if later) (quoted name ++ 58 ∷ (canonical t ++ rest)) (comma_utf8 later)
       (IsUtf8-append (quoted name) (58 ∷ (canonical t ++ rest)) (IsUtf8-quoted name h.0)
-      (IsUtf8-append (58 ∷ []) (canonical t ++ rest) (IsUtf8-are_ascii (58 ∷ []) refl) (IsUtf8-append (canonical t) rest (IsUtf8-canonical t h.2) (fields_utf8 true fs h.3))))
+      (IsUtf8-append (58 ∷ []) (canonical t ++ rest) (IsUtf8-are_ascii (58 ∷ []) refl)
+      (IsUtf8-append (canonical t) rest (IsUtf8-canonical t h.2) (fields_utf8 true fs h.3))))
 
 -- ---- it has no fault
 
@@ -103,7 +110,8 @@ mutual
 -- the first of four faults whose test is true
 abbrev first_fault : Bool → Bool → Bool → Bool → Option ContentFault
 first_fault other deep float large =
-    cond other (Some NotObject) (cond deep (Some TooDeep) (cond float (Some NotWhole) (cond large (Some OutOfRange) None)))
+    cond other (Some NotObject)
+    (cond deep (Some TooDeep) (cond float (Some NotWhole) (cond large (Some OutOfRange) None)))
 
 first_fault-None : (a b c d : Bool) → a ≡ false → b ≡ false → c ≡ false → d ≡ false → first_fault a b c d ≡ None
 first_fault-None a b c d p q r s = rw (p, q, r, s) refl
@@ -133,12 +141,16 @@ as_object_object (object fs) h = refl
 
 fault_of_value-data_of : (t : Tree) → IsContent t → fault_of_value (data_of t) ≡ None
 fault_of_value-data_of t h =
-    first_fault-None (not (is_some (as_object (data_of t)))) (nat_lt most_depth (json.depth (data_of t))) (any_number is_float (data_of t)) (any_number is_large (data_of t))
-    (object_as_object t h.root) (le-ltb most_depth (json.depth (data_of t)) (omega (arith, h.shallow, depth-data_of t))) (no_float t) (no_large t h.formed)
+    first_fault-None (not (is_some (as_object (data_of t)))) (nat_lt most_depth (json.depth (data_of t)))
+    (any_number is_float (data_of t)) (any_number is_large (data_of t))
+    (object_as_object t h.root)
+    (le-ltb most_depth (json.depth (data_of t)) (omega (arith, h.shallow, depth-data_of t))) (no_float t)
+    (no_large t h.formed)
 
 pub value_of-canonical : (t : Tree) → IsContent t → value_of (canonical t) ≡ Some (data_of t)
 value_of-canonical t h =
-    rw (is_utf8-from_IsUtf8 (canonical t) (IsUtf8-canonical t h.formed)) (read-canonical t h.formed (omega (arith, h.shallow)))
+    rw (is_utf8-from_IsUtf8 (canonical t) (IsUtf8-canonical t h.formed))
+    (read-canonical t h.formed (omega (arith, h.shallow)))
 
 fault_within : (b : Bool) (f : ContentFault) (o : Option ContentFault) → b ≡ false → cond b (Some f) o ≡ o
 fault_within true f o e = absurd (cc)
@@ -169,7 +181,8 @@ mutual
 
   items_data-injective : (ts us : Items) → items_data ts ≡ items_data us → ts ≡ us
   items_data-injective no_items no_items e = refl
-  items_data-injective (item t ts) (item u us) e = ap₂ item (data_of-injective t u (cc)) (items_data-injective ts us (cc))
+  items_data-injective (item t ts) (item u us) e =
+      ap₂ item (data_of-injective t u (cc)) (items_data-injective ts us (cc))
   items_data-injective _ _ e = absurd (cc)
 
   fields_data-injective : (fs gs : Fields) → fields_data fs ≡ fields_data gs → fs ≡ gs
@@ -184,7 +197,8 @@ some_inj d e h = cc
 
 pub canonical-injective : (t u : Tree) → IsContent t → IsContent u → canonical t ≡ canonical u → t ≡ u
 canonical-injective t u h k e =
-    data_of-injective t u (some_inj (data_of t) (data_of u) (sym (value_of-canonical t h) ∙ ap value_of e ∙ value_of-canonical u k))
+    data_of-injective t u (some_inj (data_of t) (data_of u)
+    (sym (value_of-canonical t h) ∙ ap value_of e ∙ value_of-canonical u k))
 
 pub Reads-canonical : (t : Tree) → IsContent t → Reads (canonical t) t
 Reads-canonical t h = (no_fault-canonical t h, value_of-canonical t h)
@@ -200,7 +214,8 @@ precedes name no_fields h = tt
 precedes name (field other t fs) h = (h.0, precedes name fs h.1)
 
 mutual
-  formed : (t : Tree) → IsOrdered (data_of t) → HasTexts (data_of t) → any_number is_large (data_of t) ≡ false → IsFormed t
+  formed : (t : Tree) → IsOrdered (data_of t) → HasTexts (data_of t) → any_number is_large (data_of t) ≡ false
+      → IsFormed t
   formed null h k e = tt
   formed (boolean b) h k e = tt
   formed (whole z) h k e = in_range z h e
@@ -208,13 +223,15 @@ mutual
   formed (list ts) h k e = formed_items ts h k e
   formed (object fs) h k e = formed_fields fs h k e
 
-  formed_items : (ts : Items) → AreOrdered (items_data ts) → ItemsHaveTexts (items_data ts) → any_in_items is_large (items_data ts) ≡ false → AreFormed ts
+  formed_items : (ts : Items) → AreOrdered (items_data ts) → ItemsHaveTexts (items_data ts)
+      → any_in_items is_large (items_data ts) ≡ false → AreFormed ts
   formed_items no_items h k e = tt
   formed_items (item t ts) h k e =
       let small = or_parts (any_number is_large (data_of t)) (any_in_items is_large (items_data ts)) e in
       (formed t h.0 k.0 small.0, formed_items ts h.1 k.1 small.1)
 
-  formed_fields : (fs : Fields) → HasOrderedMembers (fields_data fs) → MembersHaveTexts (fields_data fs) → any_in_members is_large (fields_data fs) ≡ false → HasFormedFields fs
+  formed_fields : (fs : Fields) → HasOrderedMembers (fields_data fs) → MembersHaveTexts (fields_data fs)
+      → any_in_members is_large (fields_data fs) ≡ false → HasFormedFields fs
   formed_fields no_fields h k e = tt
   formed_fields (field name t fs) h k e =
       let small = or_parts (any_number is_large (data_of t)) (any_in_members is_large (fields_data fs)) e in
@@ -227,13 +244,16 @@ some_of_cond false o d e = absurd (cc)
 pub read-value_of : (bytes : List ℕ) (d : json.Data) → value_of bytes ≡ Some d → read bytes ≡ Some d
 read-value_of bytes d e = some_of_cond (is_utf8 bytes) (read bytes) d e
 
-pub length-canonical-read : (bytes : List ℕ) (t : Tree) → value_of bytes ≡ Some (data_of t) → length (canonical t) ≤ length bytes
+pub length-canonical-read : (bytes : List ℕ) (t : Tree) → value_of bytes ≡ Some (data_of t)
+    → length (canonical t) ≤ length bytes
 length-canonical-read bytes t e = compact-shorter bytes (data_of t) (read-value_of bytes (data_of t) e)
 
-pub IsContent-read : (bytes : List ℕ) (t : Tree) → value_of bytes ≡ Some (data_of t) → HasTexts (data_of t) → fault_of_value (data_of t) ≡ None → length bytes ≤ most_bytes → IsContent t
+pub IsContent-read : (bytes : List ℕ) (t : Tree) → value_of bytes ≡ Some (data_of t) → HasTexts (data_of t)
+    → fault_of_value (data_of t) ≡ None → length bytes ≤ most_bytes → IsContent t
 IsContent-read bytes t e texts sound short =
     let d = data_of t in
-    let tests = none_of (not (is_some (as_object d))) (nat_lt most_depth (json.depth d)) (any_number is_float d) (any_number is_large d) sound in
+    let tests = none_of (not (is_some (as_object d))) (nat_lt most_depth (json.depth d)) (any_number is_float d)
+    (any_number is_large d) sound in
     record {
       root = as_object_object t tests.0;
       shallow = omega (arith, ltb-false most_depth (json.depth d) tests.1, depth-data_of t);

@@ -1,5 +1,6 @@
 -- Lists of converted values, beside the lists of the values that they were made of.
-use Rattle.std.proofs.Common.{◌≡◌, ℕ, max, Bool, false, arith, List, [], ◌∷◌, ◌++◌, map, reverse, string_bytes, refl, sym, ap, ◌∙◌, append_assoc}
+use Rattle.std.proofs.Common.{◌≡◌, ℕ, max, Bool, false, arith, List, [], ◌∷◌, ◌++◌, map, reverse, string_bytes, refl}
+use Rattle.std.proofs.Common.{sym, ap, ◌∙◌, append_assoc}
 use Rattle.std.proofs.lemmas.Bool.{or_parts, or_from}
 use Rattle.std.proofs.lemmas.List.{map-append, reverse-append}
 use Rattle.serde_json.specs.Data.{Num, Data, Members, no_members, member, item, depth, items_depth}

@@ -14,7 +14,8 @@ use Rattle.content.proofs.Reading.{content_in-Reads, refused}
 
 -- {"a":[1,true],"b":null}
 abbrev tree : Tree
-tree = object (field (97 ∷ []) (list (item (whole (pos 1)) (item (boolean true) no_items))) (field (98 ∷ []) null no_fields))
+tree = object (field (97 ∷ []) (list (item (whole (pos 1)) (item (boolean true) no_items)))
+    (field (98 ∷ []) null no_fields))
 
 abbrev sorted : List ℕ
 sorted = codes "{\"a\":[1,true],\"b\":null}"

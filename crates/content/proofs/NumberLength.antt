@@ -1,5 +1,7 @@
 -- A number is written no longer than it was read.
-use Rattle.std.proofs.Common.{◌≡◌, ℕ, zero, suc, ◌+◌, ◌-◌, ◌^◌, ◌<◌, ◌≤◌, Bool, true, false, cond, not, ◌&&◌, ◌==◌, nat_lt, nat_le, pos, neg_ℤ, List, [], ◌∷◌, ◌++◌, length, drop, slice_index, Option, Some, None, decimal, refl, ap, ◌∙◌, subst, arith, length-take, append-nil}
+use Rattle.std.proofs.Common.{◌≡◌, ℕ, zero, suc, ◌+◌, ◌-◌, ◌^◌, ◌<◌, ◌≤◌, Bool, true, false, cond, not, ◌&&◌, ◌==◌}
+use Rattle.std.proofs.Common.{nat_lt, nat_le, pos, neg_ℤ, List, [], ◌∷◌, ◌++◌, length, drop, slice_index, Option, Some}
+use Rattle.std.proofs.Common.{None, decimal, refl, ap, ◌∙◌, subst, arith, length-take, append-nil}
 use Rattle.std.proofs.lemmas.Bool.{and_parts, ltb-true, leb-true, not-true}
 use Rattle.std.proofs.lemmas.Fmt.{length-decimal-le}
 use Rattle.std.proofs.lemmas.Int.Digits.{digits_value-lt}
@@ -22,14 +24,16 @@ Within-cond n true x y p q = p refl
 Within-cond n false x y p q = q
 
 within_float : (n : ℕ) (sign : Bool) (p : Parts) → Within n (float_of sign p)
-within_float n sign p = let x = nearest binary64 sign p in Within-cond n (float_is_finite x) (Some (float x)) None (λ e. omega arith) (tt {0})
+within_float n sign p = let x = nearest binary64 sign p
+    in Within-cond n (float_is_finite x) (Some (float x)) None (λ e. omega arith) (tt {0})
 
 no_fraction : (point : Bool) (xs : List ℕ) → point ≡ false → cond point xs [] ≡ []
 no_fraction true xs e = absurd (cc)
 no_fraction false xs e = refl
 
 -- an integer that begins the bytes is less than ten to their count, and has a digit
-fraction_of_integer : (bs : List ℕ) → is_integer (scan bs) ≡ true → (0 < length (scan bs).whole) × ((scan bs).fraction ≡ [])
+fraction_of_integer : (bs : List ℕ) → is_integer (scan bs) ≡ true → (0 < length (scan bs).whole)
+    × ((scan bs).fraction ≡ [])
 unfolding scan
 fraction_of_integer bs e =
     let p = scan bs in
@@ -41,12 +45,14 @@ whole_within : (bs : List ℕ) → length (scan bs).whole ≤ length bs
 unfolding scan
 whole_within bs = omega (arith, length-take (digits_end bs 0 - 0) bs)
 
-length-decimal-scan : (bs : List ℕ) → is_integer (scan bs) ≡ true → digits_of (scan bs) < 2 ^ 64 → length (decimal (digits_of (scan bs))) ≤ length bs
+length-decimal-scan : (bs : List ℕ) → is_integer (scan bs) ≡ true → digits_of (scan bs) < 2 ^ 64
+    → length (decimal (digits_of (scan bs))) ≤ length bs
 length-decimal-scan bs e fits =
     let p = scan bs in
     let i = fraction_of_integer bs e in
     let same : p.whole ++ p.fraction ≡ p.whole = ap (λ f. p.whole ++ f) i.1 ∙ append-nil p.whole in
-    let small : digits_of p < 10 ^ length p.whole = rw same (digits_value-lt 10 p.whole (scan_numeral-AllDigits bs).0) in
+    let small : digits_of p < 10 ^ length p.whole = rw same (digits_value-lt 10 p.whole (scan_numeral-AllDigits bs).0)
+    in
     omega (arith, length-decimal-le (length p.whole) (digits_of p) i.0 small fits, whole_within bs)
 
 length-negative : (n : ℕ) → 0 < n → length (signed_decimal (neg_ℤ (pos n))) ≡ 1 + length (decimal n)
@@ -57,12 +63,14 @@ within_unsigned : (bs : List ℕ) → Within (length bs) (number_from false (sca
 within_unsigned bs =
     let n = digits_of (scan bs) in
     Within-cond (length bs) (is_integer (scan bs) && nat_lt n (2 ^ 64)) (Some (unsigned n)) (float_of false (scan bs))
-    (λ e. let q = and_parts (is_integer (scan bs)) (nat_lt n (2 ^ 64)) e in length-decimal-scan bs q.0 (ltb-true n (2 ^ 64) q.1)) (within_float (length bs) false (scan bs))
+    (λ e. let q = and_parts (is_integer (scan bs)) (nat_lt n (2 ^ 64)) e
+    in length-decimal-scan bs q.0 (ltb-true n (2 ^ 64) q.1)) (within_float (length bs) false (scan bs))
 
 within_negative : (bs : List ℕ) → Within (1 + length bs) (number_from true (scan bs))
 within_negative bs =
     let n = digits_of (scan bs) in
-    Within-cond (1 + length bs) (is_integer (scan bs) && nat_lt 0 n && nat_le n (2 ^ 63)) (Some (negative (with_sign true n))) (float_of true (scan bs))
+    Within-cond (1 + length bs) (is_integer (scan bs) && nat_lt 0 n && nat_le n (2 ^ 63))
+    (Some (negative (with_sign true n))) (float_of true (scan bs))
     (λ e.
     let q = and_parts (is_integer (scan bs) && nat_lt 0 n) (nat_le n (2 ^ 63)) e in
     let r = and_parts (is_integer (scan bs)) (nat_lt 0 n) q.0 in
@@ -78,7 +86,8 @@ Within-number_of : (s : List ℕ) → Within (length s) (number_of s)
 unfolding number_of
 Within-number_of s =
     Within-cond (length s) (slice_index s 0 == minus) (number_from true (scan (drop 1 s))) (number_from false (scan s))
-    (λ e. subst (λ n. Within n (number_from true (scan (drop 1 s)))) (behind_minus s e) (within_negative (drop 1 s))) (within_unsigned s)
+    (λ e. subst (λ n. Within n (number_from true (scan (drop 1 s)))) (behind_minus s e) (within_negative (drop 1 s)))
+    (within_unsigned s)
 
 pub number_short : (s : List ℕ) (x : Num) → number_of s ≡ Some x → length (number_text x) ≤ length s
 number_short s x e = subst (Within (length s)) e (Within-number_of s)

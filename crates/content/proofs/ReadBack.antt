@@ -1,5 +1,7 @@
 -- The canonical text of a formed tree is UTF-8 and reads as the tree.
-use Rattle.std.proofs.Common.{◌≡◌, ℕ, suc, ◌≤◌, max, ℤ, pos, negsuc, List, [], Option, Some, option_map, option_and_then, Less, Greater, nat_cmp, FitsSigned, refl, sym, ap, ap₂, ◌∙◌, arith, append-nil}
+use Rattle.std.proofs.Common.{◌≡◌, ℕ, suc, ◌≤◌, max, ℤ, pos, negsuc, List, [], Option, Some, option_map}
+use Rattle.std.proofs.Common.{option_and_then, Less, Greater, nat_cmp, FitsSigned, refl, sym, ap, ap₂, ◌∙◌, arith}
+use Rattle.std.proofs.Common.{append-nil}
 use Rattle.std.proofs.lemmas.Cmp.{nat_list_cmp_total}
 use Rattle.std.proofs.lemmas.Int.{ints}
 use Rattle.std.specs.Prelude.{⊤}
@@ -15,13 +17,15 @@ use Rattle.json.specs.Tree.{json_tokens, HasNumbers, ItemsHaveNumbers, MembersHa
 use Rattle.json.proofs.Printed.Decimals.{IsNumber-decimal, IsNumber-signed_decimal}
 use Rattle.json.proofs.Printed.Tokens.{tokens-print}
 use Rattle.json.proofs.Printed.Trees.{value-json_tokens, ArePrintable-json_tokens}
-use Rattle.serde_json.specs.Data.{Num, unsigned, negative, Data, number, Members, no_members, member, put, depth, items_depth, members_depth}
+use Rattle.serde_json.specs.Data.{Num, unsigned, negative, Data, number, Members, no_members, member, put, depth}
+use Rattle.serde_json.specs.Data.{items_depth, members_depth}
 use Rattle.serde_json.specs.Find.{of_integer}
 use Rattle.serde_json.specs.Read.{number_of, of_json, of_items, of_members, max_depth, read}
 use Rattle.serde_json.specs.Written.{number_text, outline, items_outline, members_outline}
 use Rattle.serde_json.proofs.Numbers.{number_of-decimal, number_of-negative}
 use Rattle.serde_json.proofs.Texts.{print-outline}
-use Rattle.content.specs.Tree.{Tree, null, boolean, whole, text, list, object, Items, no_items, item, Fields, no_fields, field, nesting, items_nesting, fields_nesting}
+use Rattle.content.specs.Tree.{Tree, null, boolean, whole, text, list, object, Items, no_items, item, Fields, no_fields}
+use Rattle.content.specs.Tree.{field, nesting, items_nesting, fields_nesting}
 use Rattle.content.specs.Canonical.{data_of, items_data, fields_data, canonical}
 use Rattle.content.specs.Contents.{Precedes, IsFormed, AreFormed, HasFormedFields}
 
@@ -115,17 +119,20 @@ put_last k d (member l e ms) h =
     let above : slice_cmp nat_cmp k l ≡ Greater = nat_list_cmp_total.antisymm k l ∙ ap ordering_reverse h.0 in
     rw above (ap (member l e) (put_last k d ms h.1))
 
-before-last : (ms : Members) (name : List ℕ) (t : Tree) (fs : Fields) → before (last ms name (data_of t)) fs ≡ before ms (field name t fs)
+before-last : (ms : Members) (name : List ℕ) (t : Tree) (fs : Fields)
+    → before (last ms name (data_of t)) fs ≡ before ms (field name t fs)
 unfolding last
 before-last no_members name t fs = refl
 before-last (member k d ms) name t fs = ap (member k d) (before-last ms name t fs)
 
-below-last : (ms : Members) (k : List ℕ) (d : Data) (name : List ℕ) → AreBelow ms name → slice_cmp nat_cmp k name ≡ Less → AreBelow (last ms k d) name
+below-last : (ms : Members) (k : List ℕ) (d : Data) (name : List ℕ) → AreBelow ms name
+    → slice_cmp nat_cmp k name ≡ Less → AreBelow (last ms k d) name
 unfolding last
 below-last no_members k d name h less = (less, tt)
 below-last (member l e ms) k d name h less = (h.0, below-last ms k d name h.1 less)
 
-before_next : (ms : Members) (k : List ℕ) (d : Data) (fs : Fields) → AreBefore ms fs → Precedes k fs → AreBefore (last ms k d) fs
+before_next : (ms : Members) (k : List ℕ) (d : Data) (fs : Fields) → AreBefore ms fs → Precedes k fs
+    → AreBefore (last ms k d) fs
 before_next ms k d no_fields h p = tt
 before_next ms k d (field name t fs) h p = (below-last ms k d name h.0 p.0, before_next ms k d fs h.1 p.1)
 
@@ -144,13 +151,15 @@ mutual
   of_json-outline (whole z) h = ap (option_map number) (number_back z h)
   of_json-outline (text s) h = refl
   of_json-outline (list ts) h = ap (option_map Rattle.serde_json.specs.Data.array) (of_items-outline ts h)
-  of_json-outline (object fs) h = ap (option_map Rattle.serde_json.specs.Data.object) (of_members-outline fs no_members h (none_before fs))
+  of_json-outline (object fs) h = ap (option_map Rattle.serde_json.specs.Data.object)
+      (of_members-outline fs no_members h (none_before fs))
 
   of_items-outline : (ts : Items) → AreFormed ts → of_items (items_outline (items_data ts)) ≡ Some (items_data ts)
   of_items-outline no_items h = refl
   of_items-outline (item t ts) h = rw (of_json-outline t h.0, of_items-outline ts h.1) refl
 
-  of_members-outline : (fs : Fields) (ms : Members) → HasFormedFields fs → AreBefore ms fs → of_members (members_outline (fields_data fs)) ms ≡ Some (before ms fs)
+  of_members-outline : (fs : Fields) (ms : Members) → HasFormedFields fs → AreBefore ms fs
+      → of_members (members_outline (fields_data fs)) ms ≡ Some (before ms fs)
   of_members-outline no_fields ms h low = ap Some (sym (before-no_fields ms))
   of_members-outline (field name t fs) ms h low =
       ap (option_and_then (λ d. of_members (members_outline (fields_data fs)) (put name d ms))) (of_json-outline t h.2)
@@ -166,5 +175,7 @@ whole_read o = option_and_then of_json (option_and_then (λ p. json.if_last p.0 
 pub read-canonical : (t : Tree) → IsFormed t → nesting t ≤ max_depth → read (canonical t) ≡ Some (data_of t)
 read-canonical t h shallow =
     let j = outline (data_of t) in
-    let lexed : tokens (canonical t) ≡ json_tokens j = ap tokens (sym (print-outline (data_of t))) ∙ tokens-print (json_tokens j) (ArePrintable-json_tokens j (has_numbers t h)) in
-    ap whole_read (ap (json.value max_depth) (lexed ∙ sym (append-nil (json_tokens j))) ∙ value-json_tokens j max_depth [] (omega (arith, depth-outline t))) ∙ of_json-outline t h
+    let lexed : tokens (canonical t) ≡ json_tokens j = ap tokens (sym (print-outline (data_of t)))
+    ∙ tokens-print (json_tokens j) (ArePrintable-json_tokens j (has_numbers t h)) in
+    ap whole_read (ap (json.value max_depth) (lexed ∙ sym (append-nil (json_tokens j)))
+    ∙ value-json_tokens j max_depth [] (omega (arith, depth-outline t))) ∙ of_json-outline t h

@@ -1,5 +1,6 @@
 -- What a text reads as: one content, which its canonical text reads as again.
-use Rattle.std.proofs.Common.{◌≡◌, ℕ, ℤ, pos, negsuc, Bool, true, false, cond, not, nat_lt, is_none, is_some, List, length, Option, Some, None, option_map, IsUtf8, refl, ap, ap₂, sym, ◌∙◌}
+use Rattle.std.proofs.Common.{◌≡◌, ℕ, ℤ, pos, negsuc, Bool, true, false, cond, not, nat_lt, is_none, is_some, List}
+use Rattle.std.proofs.Common.{length, Option, Some, None, option_map, IsUtf8, refl, ap, ap₂, sym, ◌∙◌}
 use Rattle.std.specs.Prelude.{◌↔◌}
 use Rattle.std.proofs.lemmas.Bool.{or_parts, cond-true, cond-false, ltb-false}
 use Rattle.std.proofs.lemmas.Str.{IsUtf8-from_is_utf8}
@@ -7,10 +8,12 @@ use Rattle.std.specs.Str.{is_utf8}
 use Rattle.serde_json.specs.Data as json
 use Rattle.serde_json.specs.Find.{of_integer, is_float, as_object}
 use Rattle.serde_json.specs.Read.{read}
-use Rattle.content.specs.Tree.{Tree, null, boolean, whole, text, list, object, Items, no_items, item, Fields, no_fields, field}
+use Rattle.content.specs.Tree.{Tree, null, boolean, whole, text, list, object, Items, no_items, item, Fields, no_fields}
+use Rattle.content.specs.Tree.{field}
 use Rattle.content.specs.Canonical.{data_of, items_data, fields_data, canonical}
 use Rattle.content.specs.Contents.{IsContent, most_bytes, most_depth}
-use Rattle.content.specs.Faults.{any_number, any_in_items, any_in_members, is_large, fault_of, fault_of_reading, fault_of_value, value_of, Reads}
+use Rattle.content.specs.Faults.{any_number, any_in_items, any_in_members, is_large, fault_of, fault_of_reading}
+use Rattle.content.specs.Faults.{fault_of_value, value_of, Reads}
 use Rattle.content.specs.Reading.{whole_in, tree_in, items_in, fields_in, content_in}
 use Rattle.content.specs.declared.fault.ContentFault.{ContentFault}
 use Rattle.content.specs.declared.fault.ContentFault.TheVariants.{TooBig}

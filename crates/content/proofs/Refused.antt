@@ -11,4 +11,5 @@ none_either_way true o refused = refused refl
 none_either_way false o refused = refl
 
 pub value_of-refused : (bytes : List ℕ) → (IsUtf8 bytes → read bytes ≡ None) → value_of bytes ≡ None
-value_of-refused bytes refused = none_either_way (is_utf8 bytes) (read bytes) (λ e. refused (IsUtf8-from_is_utf8 bytes e))
+value_of-refused bytes refused = none_either_way (is_utf8 bytes) (read bytes)
+    (λ e. refused (IsUtf8-from_is_utf8 bytes e))

@@ -1,9 +1,11 @@
 -- The test of two trees is true exactly where they are equal.
-use Rattle.std.proofs.Common.{◌≡◌, ◌≢◌, suc, Bool, true, false, not, cond, ◌&&◌, List, [], ◌∷◌, length, bytes_eq, refl, sym, ap, ap₂, ◌∙◌}
+use Rattle.std.proofs.Common.{◌≡◌, ◌≢◌, suc, Bool, true, false, not, cond, ◌&&◌, List, [], ◌∷◌, length, bytes_eq, refl}
+use Rattle.std.proofs.Common.{sym, ap, ap₂, ◌∙◌}
 use Rattle.std.proofs.lemmas.Bool.{and_from, and_parts}
 use Rattle.std.proofs.lemmas.Bool.Decides.{Decides-int_eq}
 use Rattle.std.proofs.lemmas.Slice.Eq.{bytes_eq-Decides}
-use Rattle.content.specs.Tree.{Tree, null, boolean, whole, text, list, object, Items, no_items, item, Fields, no_fields, field}
+use Rattle.content.specs.Tree.{Tree, null, boolean, whole, text, list, object, Items, no_items, item, Fields, no_fields}
+use Rattle.content.specs.Tree.{field}
 use Rattle.content.specs.TreeOf.{items_view, fields_view}
 use Rattle.content.specs.Values.{is_same, is_same_items, is_same_fields}
 use Rattle.content.specs.declared.value.Json.{Json}
@@ -50,7 +52,8 @@ mutual
   equal-is_same_items : (ts us : Items) → is_same_items ts us ≡ true → ts ≡ us
   equal-is_same_items no_items no_items e = refl
   equal-is_same_items (item t ts) (item u us) e =
-      let p = and_parts (is_same t u) (is_same_items ts us) e in ap₂ item (equal-is_same t u p.0) (equal-is_same_items ts us p.1)
+      let p = and_parts (is_same t u) (is_same_items ts us) e
+      in ap₂ item (equal-is_same t u p.0) (equal-is_same_items ts us p.1)
   equal-is_same_items _ _ e = absurd (cc)
 
   equal-is_same_fields : (fs gs : Fields) → is_same_fields fs gs ≡ true → fs ≡ gs
@@ -70,13 +73,15 @@ and_false true b e = e
 and_false false b e = refl
 
 -- lists of two lengths are not the same
-pub items_of_two_lengths : (xs ys : List Json) → length xs ≢ length ys → false ≡ is_same_items (items_view xs) (items_view ys)
+pub items_of_two_lengths : (xs ys : List Json) → length xs ≢ length ys
+    → false ≡ is_same_items (items_view xs) (items_view ys)
 items_of_two_lengths [] [] other = absurd (other refl)
 items_of_two_lengths [] (y ∷ ys) other = refl
 items_of_two_lengths (x ∷ xs) [] other = refl
 items_of_two_lengths (x ∷ xs) (y ∷ ys) other = and_false _ _ (items_of_two_lengths xs ys (λ e. other (ap suc e)))
 
-pub fields_of_two_lengths : (xs ys : List Field) → length xs ≢ length ys → false ≡ is_same_fields (fields_view xs) (fields_view ys)
+pub fields_of_two_lengths : (xs ys : List Field) → length xs ≢ length ys
+    → false ≡ is_same_fields (fields_view xs) (fields_view ys)
 fields_of_two_lengths [] [] other = absurd (other refl)
 fields_of_two_lengths [] (y ∷ ys) other = refl
 fields_of_two_lengths (x ∷ xs) [] other = refl

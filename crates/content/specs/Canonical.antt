@@ -1,9 +1,11 @@
--- The one text that is written for a tree: compact, names in their order, texts and numbers as `serde_json` spells them.
+-- The one text that is written for a tree: compact, names in their order, texts and numbers as `serde_json` spells
+-- them.
 use Rattle.std.specs.Prelude.{ℕ, List}
 use Rattle.serde_json.specs.Data as json
 use Rattle.serde_json.specs.Find.{of_integer}
 use Rattle.serde_json.specs.Written.{compact_text}
-use Rattle.content.specs.Tree.{Tree, null, boolean, whole, text, list, object, Items, no_items, item, Fields, no_fields, field}
+use Rattle.content.specs.Tree.{Tree, null, boolean, whole, text, list, object, Items, no_items, item, Fields, no_fields}
+use Rattle.content.specs.Tree.{field}
 
 -- the tree as a value of `serde_json`
 abbrev mutual

@@ -4,7 +4,8 @@ use Rattle.std.specs.Int.{w64}
 use Rattle.std.specs.Cmp.Lexicographic.{slice_cmp}
 use Rattle.std.specs.Ordering.{nat_cmp}
 use Rattle.std.specs.declared.cmp.Ordering.TheVariants.{Less}
-use Rattle.content.specs.Tree.{Tree, null, boolean, whole, text, list, object, Items, no_items, item, Fields, no_fields, field, is_object, nesting}
+use Rattle.content.specs.Tree.{Tree, null, boolean, whole, text, list, object, Items, no_items, item, Fields, no_fields}
+use Rattle.content.specs.Tree.{field, is_object, nesting}
 use Rattle.content.specs.Canonical.{canonical}
 
 -- the longest content, in bytes
@@ -20,7 +21,8 @@ abbrev pub Precedes : List ℕ → Fields → Type 0
 Precedes name no_fields = ⊤
 Precedes name (field other t fs) = (slice_cmp nat_cmp name other ≡ Less) × Precedes name fs
 
--- whole numbers are from -2^63 to 2^63-1, texts are UTF-8, and the names of each object ascend, so that none stands twice
+-- whole numbers are from -2^63 to 2^63-1, texts are UTF-8, and the names of each object ascend, so that none stands
+-- twice
 abbrev mutual
   pub IsFormed : Tree → Type 0
   IsFormed null = ⊤
@@ -38,7 +40,8 @@ abbrev mutual
   HasFormedFields no_fields = ⊤
   HasFormedFields (field name t fs) = IsUtf8 name × Precedes name fs × IsFormed t × HasFormedFields fs
 
--- a content: a formed tree whose root is an object, nested at most 64 deep, and whose text is no longer than may be read
+-- a content: a formed tree whose root is an object, nested at most 64 deep, and whose text is no longer than may be
+-- read
 pub record IsContent (t : Tree) : Type 0 where
   pub root : IsTrue (is_object t)
   pub shallow : nesting t ≤ most_depth

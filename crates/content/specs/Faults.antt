@@ -1,15 +1,18 @@
 -- Which byte texts read as a content, and why another one does not.
-use Rattle.std.specs.Prelude.{◌≡◌, ℕ, ◌^◌, ◌||◌, Bool, false, not, nat_lt, nat_le, is_some, if◌then◌else◌, List, ◌++◌, codes, length, Option, Some, None}
+use Rattle.std.specs.Prelude.{◌≡◌, ℕ, ◌^◌, ◌||◌, Bool, false, not, nat_lt, nat_le, is_some, if◌then◌else◌, List, ◌++◌}
+use Rattle.std.specs.Prelude.{codes, length, Option, Some, None}
 use Rattle.std.specs.Fmt.{decimal}
 use Rattle.std.specs.Str.{is_utf8}
-use Rattle.serde_json.specs.Data.{Num, unsigned, negative, float, Data, null, boolean, number, string, array, object, Items, no_items, item, Members, no_members, member, depth}
+use Rattle.serde_json.specs.Data.{Num, unsigned, negative, float, Data, null, boolean, number, string, array, object}
+use Rattle.serde_json.specs.Data.{Items, no_items, item, Members, no_members, member, depth}
 use Rattle.serde_json.specs.Find.{is_float, as_object}
 use Rattle.serde_json.specs.Read.{read}
 use Rattle.content.specs.Canonical.{data_of}
 use Rattle.content.specs.Contents.{most_bytes, most_depth}
 use Rattle.content.specs.Tree.{Tree}
 use Rattle.content.specs.declared.fault.ContentFault.{ContentFault}
-use Rattle.content.specs.declared.fault.ContentFault.TheVariants.{TooBig, NotJson, NotObject, TooDeep, NotWhole, OutOfRange, Memory}
+use Rattle.content.specs.declared.fault.ContentFault.TheVariants.{TooBig, NotJson, NotObject, TooDeep, NotWhole}
+use Rattle.content.specs.declared.fault.ContentFault.TheVariants.{OutOfRange, Memory}
 
 -- the value that `serde_json` reads, where it reads one
 abbrev pub value_of : List ℕ → Option Data

@@ -1,7 +1,8 @@
 -- The content that a byte text reads as.
 use Rattle.std.specs.Prelude.{◌≡◌, ℕ, ℤ, pos, List, Option, Some, None, is_none, option_map, if◌then◌else◌}
 use Rattle.serde_json.specs.Data as json
-use Rattle.content.specs.Tree.{Tree, null, boolean, whole, text, list, object, Items, no_items, item, Fields, no_fields, field}
+use Rattle.content.specs.Tree.{Tree, null, boolean, whole, text, list, object, Items, no_items, item, Fields, no_fields}
+use Rattle.content.specs.Tree.{field}
 use Rattle.content.specs.Canonical.{canonical}
 use Rattle.content.specs.Contents.{IsContent}
 use Rattle.content.specs.Faults.{fault_of, value_of, Reads}

@@ -2,7 +2,8 @@
 use Rattle.std.specs.Prelude.{◌≡◌, ℕ, ◌==◌, pos, negsuc, List, [], ◌∷◌, true, false, cond, refl}
 use Rattle.std.specs.Coded.{Coded, code_by, coded×, coded_ℕ, coded_list}
 use Rattle.std.proofs.Common.{◌∙◌}
-use Rattle.content.specs.Tree.{Tree, null, boolean, whole, text, list, object, Items, no_items, item, Fields, no_fields, field}
+use Rattle.content.specs.Tree.{Tree, null, boolean, whole, text, list, object, Items, no_items, item, Fields, no_fields}
+use Rattle.content.specs.Tree.{field}
 
 -- a step: its kind, and the numbers or bytes that it holds
 abbrev Step : Type 0
@@ -85,12 +86,14 @@ mutual
   run-spell (list ts) rest stack = run-spell_items ts rest stack
   run-spell (object fs) rest stack = run-spell_fields fs rest stack
 
-  run-spell_items : (ts : Items) (rest : List Step) (stack : List Tree) → run (spell_items ts rest) stack ≡ run rest (list ts ∷ stack)
+  run-spell_items : (ts : Items) (rest : List Step) (stack : List Tree)
+      → run (spell_items ts rest) stack ≡ run rest (list ts ∷ stack)
   run-spell_items no_items rest stack = refl
   run-spell_items (item t ts) rest stack =
       run-spell_items ts (spell t ((7, []) ∷ rest)) stack ∙ run-spell t ((7, []) ∷ rest) (list ts ∷ stack)
 
-  run-spell_fields : (fs : Fields) (rest : List Step) (stack : List Tree) → run (spell_fields fs rest) stack ≡ run rest (object fs ∷ stack)
+  run-spell_fields : (fs : Fields) (rest : List Step) (stack : List Tree)
+      → run (spell_fields fs rest) stack ≡ run rest (object fs ∷ stack)
   run-spell_fields no_fields rest stack = refl
   run-spell_fields (field name t fs) rest stack =
       run-spell_fields fs (spell t ((9, name) ∷ rest)) stack ∙ run-spell t ((9, name) ∷ rest) (object fs ∷ stack)
@@ -100,4 +103,5 @@ spelled t = (λ i. top (run-spell t [] [] i))
 
 abbrev pub tree_code : Coded Tree
 tree_code =
-    code_by (List Step) (coded_list (coded× coded_ℕ (coded_list coded_ℕ))) (λ t. spell t []) (λ steps. top (run steps [])) spelled
+    code_by (List Step) (coded_list (coded× coded_ℕ (coded_list coded_ℕ))) (λ t. spell t [])
+    (λ steps. top (run steps [])) spelled

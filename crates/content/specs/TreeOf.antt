@@ -1,6 +1,7 @@
 -- The tree that a `Json` stands for.
 use Rattle.std.specs.Prelude.{ℕ, List, [], ◌∷◌, map}
-use Rattle.content.specs.Tree.{Tree, null, boolean, whole, text, list, object, Items, no_items, item, Fields, no_fields, field}
+use Rattle.content.specs.Tree.{Tree, null, boolean, whole, text, list, object, Items, no_items, item, Fields, no_fields}
+use Rattle.content.specs.Tree.{field}
 use Rattle.content.specs.declared.value.Field.{Field}
 use Rattle.content.specs.declared.value.Json.{Json}
 use Rattle.content.specs.declared.value.Json.TheFolds.{fold-Json, fold-Field}

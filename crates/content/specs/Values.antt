@@ -2,7 +2,8 @@
 use Rattle.std.specs.Prelude.{◌&&◌, Bool, true, false, not, cond}
 use Rattle.std.specs.Ordering.{int_eq}
 use Rattle.std.specs.Str.{bytes_eq}
-use Rattle.content.specs.Tree.{Tree, null, boolean, whole, text, list, object, Items, no_items, item, Fields, no_fields, field}
+use Rattle.content.specs.Tree.{Tree, null, boolean, whole, text, list, object, Items, no_items, item, Fields, no_fields}
+use Rattle.content.specs.Tree.{field}
 
 abbrev mutual
   pub is_same : Tree → Tree → Bool

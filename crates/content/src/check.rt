@@ -9,7 +9,8 @@ use crate::ContentFault;
 use serde_json::{Map, Number, Value};
 use u1_base::limits::MOST_CONTENT_DEPTH;
 
-// The numbers that no content has: those that `serde_json` keeps as a float, and those from 2^63 on.
+// The numbers that no content has: those that `serde_json` keeps as a float, and those from 2^63
+// on.
 #[derive(Clone, Copy)]
 pub(crate) enum Kind {
     Float,

@@ -1,5 +1,6 @@
 //! A content: a checked JSON object.
-ghost use Rattle.std.specs.Prelude.{◌≡◌, ◌≢◌, ◌≤◌, ◌↔◌, IsTrue, IsUtf8, IfOk, IfErr, Some, None, length};
+ghost use Rattle.std.specs.Prelude.{◌≡◌, ◌≢◌, ◌≤◌, ◌↔◌, IsTrue, IsUtf8, IfOk, IfErr, Some, None};
+ghost use Rattle.std.specs.Prelude.{length};
 ghost use Rattle.content.specs.Canonical.{canonical, data_of};
 ghost use Rattle.content.specs.Contents.{IsContent, most_bytes};
 ghost use Rattle.content.specs.Faults.{fault_of, fault_of_value, value_of};
@@ -19,7 +20,8 @@ use std::marker::Model;
 use u1_base::limits::MOST_CONTENT_BYTES;
 use u1_base::{Bytes, Memory};
 
-// Most contents are no longer than this, so that their text is written into memory that is asked for once.
+// Most contents are no longer than this, so that their text is written into memory that is asked
+// for once.
 const SHORT_TEXT_BYTES: usize = 128;
 
 /// The content of a document, seen as the tree of its root: an object, nested at most
@@ -76,8 +78,8 @@ impl Content {
         &self.root
     }
 
-    /// The canonical text: compact, names in their order, texts and numbers as `serde_json` spells them. It reads as this
-    /// content.
+    /// The canonical text: compact, names in their order, texts and numbers as `serde_json` spells
+    /// them. It reads as this content.
     pub fn text(&self) -> Result<Bytes, Memory>
         ensures text { IfOk result (λ bytes. bytes ≡ canonical self.now) }
         ensures utf8 { IfOk result (λ bytes. IsUtf8 bytes) }
@@ -127,7 +129,8 @@ fn whole_value(alloc: Global, bytes: &[u8]) -> Result<Value, ContentFault>
 
 fn value_in(alloc: Global, bytes: &[u8]) -> Result<Value, ContentFault>
     ensures value { IfOk result (λ v. value_of bytes.now ≡ Some (view v)) }
-    ensures fault { IfErr result (λ e. e ≢ ContentFault.Memory → (e ≡ ContentFault.NotJson) × (value_of bytes.now ≡ None)) }
+    ensures fault { IfErr result (λ e. e ≢ ContentFault.Memory → (e ≡ ContentFault.NotJson)
+        × (value_of bytes.now ≡ None)) }
 {
     match Value::from_slice(alloc, bytes) {
         Ok(value) => Ok(value),

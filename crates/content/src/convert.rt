@@ -1,7 +1,8 @@
 //! From a value of `serde_json` to our own. Texts are moved and not copied.
 ghost use Rattle.std.specs.Prelude.{◌≡◌, IfOk, false, string_bytes, vec_len};
 ghost use Rattle.serde_json.specs.Find.{is_float, of_integer};
-ghost use Rattle.serde_json.specs.View.{view, items_view as items_of_values, members_view, number_view};
+ghost use Rattle.serde_json.specs.View.{view, items_view as items_of_values, members_view};
+ghost use Rattle.serde_json.specs.View.{number_view};
 ghost use Rattle.content.specs.Canonical.{data_of, items_data, fields_data};
 ghost use Rattle.content.specs.Faults.{any_number, any_in_items, any_in_members, is_large};
 ghost use Rattle.content.specs.TreeOf.{tree_of, pair_of, items_view, fields_view};

@@ -5,14 +5,14 @@ use u1_base::Memory;
 
 /// Why a byte text is no content, in the order in which the faults are tested.
 ///
-/// The conditions from `NotObject` on speak of the value that was read. Of a name that is repeated in one object the last
-/// value counts, so a member that a later one replaces is not looked at.
+/// The conditions from `NotObject` on speak of the value that was read. Of a name that is repeated
+/// in one object the last value counts, so a member that a later one replaces is not looked at.
 #[derive(Clone, Copy, Debug, PartialEq, Eq)]
 pub enum ContentFault {
     /// The length in bytes, which is above `u1_base::limits::MOST_CONTENT_BYTES`.
     TooBig(u64),
-    /// `serde_json` reads no value: bytes that are no UTF-8 or no JSON, 128 levels or more, or a number that no double
-    /// holds, also in a member that a later one replaces.
+    /// `serde_json` reads no value: bytes that are no UTF-8 or no JSON, 128 levels or more, or a
+    /// number that no double holds, also in a member that a later one replaces.
     NotJson,
     /// The root is no object.
     NotObject,

@@ -1,8 +1,8 @@
-//! Contents of documents: JSON objects with whole numbers only, read with every fault told apart, and written as one
-//! canonical text.
+//! Contents of documents: JSON objects with whole numbers only, read with every fault told apart,
+//! and written as one canonical text.
 //!
-//! A contract sees a content as the tree of its root. A content that was read has a text that is never longer than what
-//! was read, and that text reads as the same content.
+//! A contract sees a content as the tree of its root. A content that was read has a text that is
+//! never longer than what was read, and that text reads as the same content.
 #![tactic(auto)]
 
 mod check;

@@ -67,7 +67,8 @@ fn same_fields(a: &[Field], b: &[Field]) -> bool
 #[cycle(same)]
 fn same_field(a: &Field, b: &Field) -> bool
     ensures { result
-        ≡ (bytes_eq (pair_of a.now).0 (pair_of b.now).0 && is_same (pair_of a.now).1 (pair_of b.now).1) }
+        ≡ (bytes_eq (pair_of a.now).0 (pair_of b.now).0
+        && is_same (pair_of a.now).1 (pair_of b.now).1) }
 {
     a.name.as_str() == b.name.as_str() && same_json(&a.value, &b.value)
 }

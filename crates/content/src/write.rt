@@ -37,7 +37,8 @@ pub(crate) fn write_json(value: &Json, out: &mut Writer) -> Result<(), Memory>
 fn write_items(items: &Vec<Json>, out: &mut Writer) -> Result<(), Memory>
     ensures before { OnOk result (out.new.before ≡ out.old.before) }
     ensures tokens { OnOk result (out.new.tokens
-        ≡ out.old.tokens ++ items_tokens (items_outline (items_data (items_view items.now.items)))) }
+        ≡ out.old.tokens ++ items_tokens
+        (items_outline (items_data (items_view items.now.items)))) }
 {
     for item in items {
         write_json(item, out)?;
@@ -50,7 +51,8 @@ fn write_items(items: &Vec<Json>, out: &mut Writer) -> Result<(), Memory>
 fn write_fields(fields: &Vec<Field>, out: &mut Writer) -> Result<(), Memory>
     ensures before { OnOk result (out.new.before ≡ out.old.before) }
     ensures tokens { OnOk result (out.new.tokens
-        ≡ out.old.tokens ++ members_tokens (members_outline (fields_data (fields_view fields.now.items)))) }
+        ≡ out.old.tokens ++ members_tokens
+        (members_outline (fields_data (fields_view fields.now.items)))) }
 {
     for field in fields {
         write_field(field, out)?;
@@ -63,7 +65,8 @@ fn write_fields(fields: &Vec<Field>, out: &mut Writer) -> Result<(), Memory>
 fn write_field(field: &Field, out: &mut Writer) -> Result<(), Memory>
     ensures before { OnOk result (out.new.before ≡ out.old.before) }
     ensures tokens { OnOk result (out.new.tokens
-        ≡ out.old.tokens ++ key (pair_of field.now).0 ∷ json_tokens (outline (data_of (pair_of field.now).1))) }
+        ≡ out.old.tokens ++ key (pair_of field.now).0
+        ∷ json_tokens (outline (data_of (pair_of field.now).1))) }
 {
     out.key(field.name.as_str())?;
     write_json(&field.value, out)

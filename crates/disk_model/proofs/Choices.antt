@@ -12,7 +12,8 @@ use Rattle.disk_model.specs.declared.losses.Choice.TheVariants.{Nothing}
 nothing_written : (image : List ℕ) (at : ℕ) → overwritten image at [] ≡ image
 nothing_written image at = rw (append-nil, add-zero) (take-append-drop at image)
 
-nothing_done : (c : Call) (file after : List ℕ) (u : Unsynced) → lost Nothing file c after u.synced ≡ (step c after u).synced
+nothing_done : (c : Call) (file after : List ℕ) (u : Unsynced)
+    → lost Nothing file c after u.synced ≡ (step c after u).synced
 nothing_done Look file after u = refl
 nothing_done (Write at size replaced former) file after u = nothing_written u.synced at
 nothing_done (Cut to removed) file after u = take-length u.synced

@@ -5,11 +5,13 @@ use Rattle.disk_model.specs.Disk.{Unsynced, IsCrashImage}
 use Rattle.disk_model.specs.Device.{Beside, Moment, moment, Device}
 use Rattle.disk_model.specs.Moments.{Each, Took, Stays, TookOrNot, Looked, LeavesOnly}
 
-each_append : (P : List ℕ → Type 0) (others : Beside) (ms ns : List Moment) → Each P others ms → Each P others ns → Each P others (ms ++ ns)
+each_append : (P : List ℕ → Type 0) (others : Beside) (ms ns : List Moment) → Each P others ms → Each P others ns
+    → Each P others (ms ++ ns)
 each_append P others [] ns a b = b
 each_append P others (m ∷ ms) ns a b = (a.0, a.1, each_append P others ms ns a.2 b)
 
-each_weaker : (P Q : List ℕ → Type 0) (others : Beside) (ms : List Moment) → ((image : List ℕ) → P image → Q image) → Each P others ms → Each Q others ms
+each_weaker : (P Q : List ℕ → Type 0) (others : Beside) (ms : List Moment) → ((image : List ℕ) → P image → Q image)
+    → Each P others ms → Each Q others ms
 each_weaker P Q others [] f a = tt
 each_weaker P Q others (m ∷ ms) f a = (a.0, (λ image i. f image (a.1 image i)), each_weaker P Q others ms f a.2)
 
@@ -24,7 +26,8 @@ pub took : (old mid new : Device) (u : Unsynced) (P : List ℕ → Type 0)
     → LeavesOnly old new P
 took old mid new u P run t images = record {
   fresh = run.fresh ++ moment mid.now mid.beside ∷ [];
-  added = t.added ∙ ap (λ (ms : List Moment). ms ++ moment mid.now mid.beside ∷ []) run.added ∙ append_assoc old.past run.fresh (moment mid.now mid.beside ∷ []);
+  added = t.added ∙ ap (λ (ms : List Moment). ms ++ moment mid.now mid.beside ∷ []) run.added
+      ∙ append_assoc old.past run.fresh (moment mid.now mid.beside ∷ []);
   each = each_append P old.beside run.fresh (moment mid.now mid.beside ∷ []) run.each
       (ap (λ (others : Beside). (moment mid.now others).1) run.kept, run.here, tt);
   kept = t.kept ∙ run.kept;
@@ -70,8 +73,10 @@ pub goes_on : (old mid new : Device) (P : List ℕ → Type 0)
     → LeavesOnly old mid P → LeavesOnly mid new P → LeavesOnly old new P
 goes_on old mid new P first then = record {
   fresh = first.fresh ++ then.fresh;
-  added = then.added ∙ ap (λ (ms : List Moment). ms ++ then.fresh) first.added ∙ append_assoc old.past first.fresh then.fresh;
-  each = each_append P old.beside first.fresh then.fresh first.each (subst (λ (others : Beside). Each P others then.fresh) first.kept then.each);
+  added = then.added ∙ ap (λ (ms : List Moment). ms ++ then.fresh) first.added
+      ∙ append_assoc old.past first.fresh then.fresh;
+  each = each_append P old.beside first.fresh then.fresh first.each
+      (subst (λ (others : Beside). Each P others then.fresh) first.kept then.each);
   kept = then.kept ∙ first.kept;
   here = then.here;
 }

@@ -31,8 +31,8 @@ losses (f ∷ fs) = f.now ∷ losses fs
 abbrev pub moment : Unsynced → Beside → Moment
 moment u others = (u, (losses others.0, losses others.1))
 
--- What is known of a disk: what a read gives, what a crash now may leave, the files beside it, which no call changes, the
--- earlier moments, how many calls it was given, as far as a u64 counts, and how often it failed.
+-- What is known of a disk: what a read gives, what a crash now may leave, the files beside it, which no call changes,
+-- the earlier moments, how many calls it was given, as far as a u64 counts, and how often it failed.
 pub record Device : Type 0 where
   pub seen : List ℕ
   pub now : Unsynced

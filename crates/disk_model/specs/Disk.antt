@@ -1,7 +1,9 @@
 -- What a crash may leave of a file, and what a write and a cut do to it.
-use Rattle.std.specs.Prelude.{◌≡◌, ℕ, ◌+◌, ◌≤◌, ◌<◌, Bool, false, ◌&&◌, ◌||◌, nat_le, nat_lt, min, max, List, [], ◌∷◌, ◌++◌, length, take, drop, slice_index}
+use Rattle.std.specs.Prelude.{◌≡◌, ℕ, ◌+◌, ◌≤◌, ◌<◌, Bool, false, ◌&&◌, ◌||◌, nat_le, nat_lt, min, max, List, [], ◌∷◌}
+use Rattle.std.specs.Prelude.{◌++◌, length, take, drop, slice_index}
 
--- the bytes of the last sync, and since then: each written range by its place and its length, the least and the greatest length
+-- the bytes of the last sync, and since then: each written range by its place and its length, the least and the
+-- greatest length
 pub record Unsynced : Type 0 where
   pub synced : List ℕ
   pub ranges : List (ℕ × ℕ)
@@ -13,8 +15,8 @@ abbrev pub is_touched : List (ℕ × ℕ) → ℕ → Bool
 is_touched [] k = false
 is_touched (r ∷ rs) k = (nat_le r.0 k && nat_lt k (r.0 + r.1)) || is_touched rs k
 
--- What a crash may leave: a length between the least and the greatest, and the bytes of the last sync at each place that was
--- always inside of the file and that no write touched. All other bytes are open.
+-- What a crash may leave: a length between the least and the greatest, and the bytes of the last sync at each place
+-- that was always inside of the file and that no write touched. All other bytes are open.
 pub record IsCrashImage (u : Unsynced) (image : List ℕ) : Type 0 where
   pub no_shorter : u.least ≤ length image
   pub no_longer : length image ≤ u.greatest
@@ -26,7 +28,13 @@ settled bytes = record { synced = bytes; ranges = []; least = length bytes; grea
 
 -- after a write of n bytes
 abbrev pub wrote : ℕ → ℕ → Unsynced → Unsynced
-wrote at n u = record { synced = u.synced; ranges = u.ranges ++ (at, n) ∷ []; least = u.least; greatest = max u.greatest (at + n) }
+wrote at n u = record {
+  synced = u.synced;
+  ranges = u.ranges
+      ++ (at, n) ∷ [];
+  least = u.least;
+  greatest = max u.greatest (at + n);
+}
 
 -- after a cut to a length
 abbrev pub was_cut : ℕ → Unsynced → Unsynced

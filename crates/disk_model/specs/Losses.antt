@@ -21,10 +21,12 @@ remaining Whole to size = to
 remaining FirstHalf to size = size - (size - to) / 2
 remaining (Fill byte) to size = to
 
--- what is left after one call more: `file` is what a read gives when the crash comes, `after` what it gave after the call
+-- what is left after one call more: `file` is what a read gives when the crash comes, `after` what it gave after the
+-- call
 abbrev pub lost : Choice → List ℕ → Call → List ℕ → List ℕ → List ℕ
 lost choice file Look after image = image
-lost choice file (Write at size replaced former) after image = overwritten image at (arrived choice size (take size (drop at file)))
+lost choice file (Write at size replaced former) after image =
+    overwritten image at (arrived choice size (take size (drop at file)))
 lost choice file (Cut to removed) after image = take (remaining choice to (length image)) image
 lost choice file Sync after image = after
 

@@ -1,5 +1,6 @@
 -- What a disk in memory tells, and where it fails.
-use Rattle.std.specs.Prelude.{◌≡◌, ◌⊎◌, ℕ, ◌+◌, List, Contains, length, take, drop, slice_index_or, Result, IsErr, OnOk, OnErr}
+use Rattle.std.specs.Prelude.{◌≡◌, ◌⊎◌, ℕ, ◌+◌, List, Contains, length, take, drop, slice_index_or, Result, IsErr, OnOk}
+use Rattle.std.specs.Prelude.{OnErr}
 use Rattle.disk_model.specs.Device.{Device, alone}
 use Rattle.disk_model.specs.Counts.{called}
 use Rattle.disk_model.specs.Log.{before, now_of, past_of}
@@ -32,7 +33,8 @@ mem_failing d = d.failing
 abbrev pub IsToFail : MemDisk → Type 0
 IsToFail d = Contains (mem_failing d) (mem_calls d)
 
--- a call fails where it was told to, and else only where it found no memory and was not noted; just then a fault is counted
+-- a call fails where it was told to, and else only where it found no memory and was not noted; just then a fault is
+-- counted
 pub record FailsAsTold {T E : Type 0} (old new : MemDisk) (result : Result T E) : Type 0 where
   pub told : IsToFail old → IsErr result
   pub only : OnErr result (IsToFail old ⊎ (mem_calls new ≡ mem_calls old))

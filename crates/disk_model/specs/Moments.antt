@@ -31,7 +31,8 @@ Each P others [] = Unit {0}
 Each P others (w ∷ ws) =
     (w.1 ≡ (moment w.0 others).1) × ((image : List ℕ) → IsCrashImage w.0 image → P image) × Each P others ws
 
--- a crash at any moment since old, that one and now among them, leaves an image that has P, and the files beside are as they were
+-- a crash at any moment since old, that one and now among them, leaves an image that has P, and the files beside are as
+-- they were
 pub record LeavesOnly (old new : Device) (P : List ℕ → Type 0) : Type 0 where
   pub fresh : List Moment
   pub added : new.past ≡ old.past ++ fresh

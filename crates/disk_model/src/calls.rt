@@ -1,5 +1,6 @@
 //! The calls of a disk in memory, each noted with what is wanted to take it back.
-ghost use Rattle.std.specs.Prelude.{◌≡◌, ℕ, ◌≤◌, true, List, [], ◌∷◌, ◌++◌, IfOk, OnOk, OnErr, length, take, drop};
+ghost use Rattle.std.specs.Prelude.{◌≡◌, ℕ, ◌≤◌, true, List, [], ◌∷◌, ◌++◌, IfOk, OnOk, OnErr};
+ghost use Rattle.std.specs.Prelude.{length, take, drop};
 ghost use Rattle.std.specs.List.{list_all};
 ghost use Rattle.disk_model.specs.Disk.{IsCrashImage, overwritten, settled, was_cut, wrote};
 ghost use Rattle.disk_model.specs.Device.{alone, moment};
@@ -15,7 +16,8 @@ use u1_base::{Bytes, Memory};
 pub enum Call {
     /// A call that changed nothing.
     Look,
-    /// A write: its place, how many bytes it was given, those that it replaced, and the length before.
+    /// A write: its place, how many bytes it was given, those that it replaced, and the length
+    /// before.
     Write(usize, usize, Bytes, usize),
     /// A cut: the length that it was given, and the bytes that it removed.
     Cut(usize, Bytes),
@@ -37,9 +39,11 @@ pub(crate) fn put(file: &mut Vec<u8>, at: usize, piece: &[u8]) -> Result<(), Mem
 
 /// Notes a call that changed nothing.
 pub(crate) fn note_look(file: &[u8], log: &mut Vec<Call>) -> Result<(), Memory>
-    ensures sound { IsCrashImage (now_of log.old.items file.now) file.now → IsCrashImage (now_of log.new.items file.now) file.now }
+    ensures sound { IsCrashImage (now_of log.old.items file.now) file.now
+        → IsCrashImage (now_of log.new.items file.now) file.now }
     ensures now { now_of log.new.items file.now ≡ now_of log.old.items file.now }
-    ensures past { OnOk result (past_of log.new.items file.now ≡ past_of log.old.items file.now ++ moment (now_of log.old.items file.now) alone ∷ []) }
+    ensures past { OnOk result (past_of log.new.items file.now ≡ past_of log.old.items file.now
+        ++ moment (now_of log.old.items file.now) alone ∷ []) }
     ensures err { OnErr result (log.new.items ≡ log.old.items) }
 {
     log.push(Call::Look)?;
@@ -48,9 +52,11 @@ pub(crate) fn note_look(file: &[u8], log: &mut Vec<Call>) -> Result<(), Memory>
 
 /// Notes a sync.
 pub(crate) fn note_sync(file: &[u8], log: &mut Vec<Call>) -> Result<(), Memory>
-    ensures sound { IsCrashImage (now_of log.old.items file.now) file.now → IsCrashImage (now_of log.new.items file.now) file.now }
+    ensures sound { IsCrashImage (now_of log.old.items file.now) file.now
+        → IsCrashImage (now_of log.new.items file.now) file.now }
     ensures now { OnOk result (now_of log.new.items file.now ≡ settled file.now) }
-    ensures past { OnOk result (past_of log.new.items file.now ≡ past_of log.old.items file.now ++ moment (now_of log.old.items file.now) alone ∷ []) }
+    ensures past { OnOk result (past_of log.new.items file.now ≡ past_of log.old.items file.now
+        ++ moment (now_of log.old.items file.now) alone ∷ []) }
     ensures err { OnErr result (log.new.items ≡ log.old.items) }
 {
     log.push(Call::Sync)?;
@@ -67,10 +73,15 @@ pub(crate) fn note_write(
 ) -> Result<(), Memory>
     requires place { at ≤ length file.old.items }
     requires part { length piece.now ≤ size }
-    ensures sound { IsCrashImage (now_of log.old.items file.old.items) file.old.items → IsCrashImage (now_of log.new.items file.new.items) file.new.items }
+    ensures sound { IsCrashImage (now_of log.old.items file.old.items) file.old.items
+        → IsCrashImage (now_of log.new.items file.new.items) file.new.items }
     ensures file { OnOk result (file.new.items ≡ overwritten file.old.items at piece.now) }
-    ensures now { OnOk result (now_of log.new.items file.new.items ≡ wrote at size (now_of log.old.items file.old.items)) }
-    ensures past { OnOk result (past_of log.new.items file.new.items ≡ past_of log.old.items file.old.items ++ moment (now_of log.old.items file.old.items) alone ∷ []) }
+    ensures now { OnOk result
+        (now_of log.new.items file.new.items
+        ≡ wrote at size (now_of log.old.items file.old.items)) }
+    ensures past { OnOk result
+        (past_of log.new.items file.new.items ≡ past_of log.old.items file.old.items
+        ++ moment (now_of log.old.items file.old.items) alone ∷ []) }
     ensures same_file { OnErr result (file.new.items ≡ file.old.items) }
     ensures same_log { OnErr result (log.new.items ≡ log.old.items) }
 {
@@ -93,10 +104,14 @@ pub(crate) fn note_cut(
     reach: usize,
 ) -> Result<(), Memory>
     requires { to ≤ reach }
-    ensures sound { IsCrashImage (now_of log.old.items file.old.items) file.old.items → IsCrashImage (now_of log.new.items file.new.items) file.new.items }
+    ensures sound { IsCrashImage (now_of log.old.items file.old.items) file.old.items
+        → IsCrashImage (now_of log.new.items file.new.items) file.new.items }
     ensures file { OnOk result (file.new.items ≡ take reach file.old.items) }
-    ensures now { OnOk result (now_of log.new.items file.new.items ≡ was_cut to (now_of log.old.items file.old.items)) }
-    ensures past { OnOk result (past_of log.new.items file.new.items ≡ past_of log.old.items file.old.items ++ moment (now_of log.old.items file.old.items) alone ∷ []) }
+    ensures now { OnOk result
+        (now_of log.new.items file.new.items ≡ was_cut to (now_of log.old.items file.old.items)) }
+    ensures past { OnOk result
+        (past_of log.new.items file.new.items ≡ past_of log.old.items file.old.items
+        ++ moment (now_of log.old.items file.old.items) alone ∷ []) }
     ensures same_file { OnErr result (file.new.items ≡ file.old.items) }
     ensures same_log { OnErr result (log.new.items ≡ log.old.items) }
 {
@@ -141,12 +156,14 @@ fn take_one_back(file: &mut Vec<u8>, call: &Call) -> Result<(), Memory>
     Ok(())
 }
 
-/// How many of the calls, from the first, a crash after them all does not ask about, since a sync ended them.
+/// How many of the calls, from the first, a crash after them all does not ask about, since a sync
+/// ended them.
 pub(crate) fn settled_calls(calls: &[Call]) -> usize
     ensures bound { result ≤ length calls.now }
     ensures open { list_all is_open (drop result calls.now) ≡ true }
     ensures since { (file : List ℕ) → now_of calls.now file ≡ now_of (drop result calls.now) file }
-    ensures left { (file : List ℕ) (choice : Choice) → left_of choice calls.now file ≡ left_of choice (drop result calls.now) file }
+    ensures left { (file : List ℕ) (choice : Choice)
+        → left_of choice calls.now file ≡ left_of choice (drop result calls.now) file }
 {
     let mut begin = calls.len();
     while begin > 0 {

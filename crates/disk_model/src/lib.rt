@@ -1,8 +1,8 @@
 //! Disks: what a read gives, what a crash may leave, and the failures that are counted.
 //!
-//! `Disk` is the trait. `MemDisk` keeps a file in memory and answers what a crash during each of its calls may
-//! leave; `FileDisk` is the adapter to a file. Layers above make no device call of their own: they write, cut
-//! and read by the functions here, which sync what they do.
+//! `Disk` is the trait. `MemDisk` keeps a file in memory and answers what a crash during each of
+//! its calls may leave; `FileDisk` is the adapter to a file. Layers above make no device call of
+//! their own: they write, cut and read by the functions here, which sync what they do.
 #![tactic(auto)]
 
 mod calls;

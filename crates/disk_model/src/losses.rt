@@ -22,8 +22,8 @@ pub enum Choice {
     Fill(u8),
 }
 
-/// The image that a crash after the first `end` calls leaves by this choice; `bytes` is what a read gives after
-/// all of the calls.
+/// The image that a crash after the first `end` calls leaves by this choice; `bytes` is what a read
+/// gives after all of the calls.
 pub(crate) fn image_at(
     alloc: Global,
     log: &[Call],
@@ -32,8 +32,11 @@ pub(crate) fn image_at(
     choice: Choice,
 ) -> Result<Bytes, Memory>
     requires { end ≤ length log.now }
-    ensures may_be { IfOk result (λ image. IsCrashImage (now_of (take end log.now) (before (drop end log.now) bytes.now)) image) }
-    ensures by_choice { IfOk result (λ image. image ≡ left_of choice (take end log.now) (before (drop end log.now) bytes.now)) }
+    ensures may_be { IfOk result
+        (λ image. IsCrashImage (now_of (take end log.now) (before (drop end log.now) bytes.now))
+        image) }
+    ensures by_choice { IfOk result
+        (λ image. image ≡ left_of choice (take end log.now) (before (drop end log.now) bytes.now)) }
 {
     let mut file = bytes.to_vec(alloc)?;
     take_back(&mut file, &log[end..])?;
@@ -67,8 +70,10 @@ fn lose_all(image: &mut Vec<u8>, file: &[u8], calls: &[Call], choice: Choice) ->
 
 fn lose(image: &mut Vec<u8>, file: &[u8], call: &Call, choice: Choice) -> Result<(), Memory>
     requires { is_open call.now ≡ true }
-    ensures may_be { OnOk result ((u : Unsynced) (after : List ℕ) → IsCrashImage u image.old.items → IsCrashImage (step call.now after u) image.new.items) }
-    ensures by_choice { OnOk result ((after : List ℕ) → image.new.items ≡ lost choice file.now call.now after image.old.items) }
+    ensures may_be { OnOk result ((u : Unsynced) (after : List ℕ) → IsCrashImage u image.old.items
+        → IsCrashImage (step call.now after u) image.new.items) }
+    ensures by_choice { OnOk result ((after : List ℕ)
+        → image.new.items ≡ lost choice file.now call.now after image.old.items) }
 {
     match call {
         Call::Look => Ok(()),
@@ -89,7 +94,9 @@ fn tear(
     choice: Choice,
 ) -> Result<(), Memory>
     ensures torn { OnOk result (Torn at size image.old.items image.new.items) }
-    ensures by_choice { OnOk result (image.new.items ≡ overwritten image.old.items at (arrived choice size (take size (drop at file.now)))) }
+    ensures by_choice { OnOk result
+        (image.new.items ≡ overwritten image.old.items at
+        (arrived choice size (take size (drop at file.now)))) }
 {
     let from = at.min(file.len());
     let written = &file[from..from + size.min(file.len() - from)];
@@ -106,7 +113,8 @@ fn tear(
 
 fn shorten(image: &mut Vec<u8>, to: usize, choice: Choice)
     ensures cut { Cut to image.old.items image.new.items }
-    ensures by_choice { image.new.items ≡ take (remaining choice to (length image.old.items)) image.old.items }
+    ensures by_choice { image.new.items ≡ take
+        (remaining choice to (length image.old.items)) image.old.items }
 {
     let length = image.len();
     match choice {

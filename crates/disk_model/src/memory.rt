@@ -12,8 +12,9 @@ use u1_base::{Bytes, Memory, Numbers};
 
 /// A disk in memory.
 ///
-/// A call whose number is in `failing`, or that finds no memory for itself or for its record, counts a fault. A
-/// write that is to fail puts the first half of its bytes, a cut that is to fail goes half of the way.
+/// A call whose number is in `failing`, or that finds no memory for itself or for its record,
+/// counts a fault. A write that is to fail puts the first half of its bytes, a cut that is to fail
+/// goes half of the way.
 #[derive(Drop)]
 pub struct MemDisk {
     bytes: Vec<u8>,
@@ -21,16 +22,19 @@ pub struct MemDisk {
     failing: Numbers,
     made: u64,
     faults: u64,
-    ghost image: { IsCrashImage (now_of log.items bytes.items) bytes.items } by { Prim.hlevel props },
+    ghost image: { IsCrashImage (now_of log.items bytes.items)
+        bytes.items } by { Prim.hlevel props },
 }
 
 impl MemDisk {
-    ghost use Rattle.std.specs.Prelude.{◌≡◌, ◌+◌, ◌<◌, ◌≤◌, ◌⊎◌, ◌↔◌, IfOk, IsErr, IsOk, OnErr, OnOk, IsTrue};
+    ghost use Rattle.std.specs.Prelude.{◌≡◌, ◌+◌, ◌<◌, ◌≤◌, ◌⊎◌, ◌↔◌, IfOk, IsErr, IsOk, OnErr};
+    ghost use Rattle.std.specs.Prelude.{OnOk, IsTrue};
     ghost use Rattle.disk_model.specs.Disk.{IsCrashImage};
     ghost use Rattle.disk_model.specs.Device.{lost_at, untouched};
     ghost use Rattle.disk_model.specs.Counts.{called};
     ghost use Rattle.disk_model.specs.Moments.{Looked};
-    ghost use Rattle.disk_model.specs.MemDisk.{FailsAsTold, IsToFail, mem_calls, mem_failing, mem_known, mem_left, mem_left_after};
+    ghost use Rattle.disk_model.specs.MemDisk.{FailsAsTold, IsToFail, mem_calls, mem_failing};
+    ghost use Rattle.disk_model.specs.MemDisk.{mem_known, mem_left, mem_left_after};
 
     /// A disk that holds these bytes. `failing` has the numbers, from 0, of the calls that fail.
     pub fn new(alloc: Global, bytes: Bytes, failing: Numbers) -> MemDisk
@@ -60,11 +64,12 @@ impl MemDisk {
         self.bytes.as_slice()
     }
 
-    /// The image that a stop during that call leaves by this choice: of a write or a cut one of those after it,
-    /// of another call one of those before it.
+    /// The image that a stop during that call leaves by this choice: of a write or a cut one of
+    /// those after it, of another call one of those before it.
     pub fn crash_image(&self, alloc: Global, call: u64, choice: Choice) -> Result<Bytes, Memory>
         requires { call < mem_calls self.now }
-        ensures may_be { IfOk result (λ image. IsCrashImage (lost_at (mem_known self.now) call) image
+        ensures may_be { IfOk result
+            (λ image. IsCrashImage (lost_at (mem_known self.now) call) image
             ⊎ IsCrashImage (lost_at (mem_known self.now) (call + 1)) image) }
         ensures by_choice { IfOk result (λ image. image ≡ mem_left self.now call choice) }
     {
@@ -78,7 +83,8 @@ impl MemDisk {
     // The image at the moment before the call of this number, or now.
     fn image(&self, alloc: Global, moment: usize, choice: Choice) -> Result<Bytes, Memory>
         requires { moment ≤ mem_calls self.now }
-        ensures may_be { IfOk result (λ image. IsCrashImage (lost_at (mem_known self.now) moment) image) }
+        ensures may_be { IfOk result
+            (λ image. IsCrashImage (lost_at (mem_known self.now) moment) image) }
         ensures by_choice { IfOk result (λ image. image ≡ mem_left_after self.now moment choice) }
     {
         image_at(alloc, &self.log, &self.bytes, moment, choice)
@@ -130,7 +136,8 @@ fn is_among(numbers: &[u64], number: u64) -> bool
 }
 
 impl Disk for MemDisk {
-    ghost use Rattle.std.specs.Prelude.{◌≡◌, ◌≤◌, ◌+◌, true, IsTrue, IfOk, OnOk, OnErr, length, take, drop};
+    ghost use Rattle.std.specs.Prelude.{◌≡◌, ◌≤◌, ◌+◌, true, IsTrue, IfOk, OnOk, OnErr, length};
+    ghost use Rattle.std.specs.Prelude.{take, drop};
     ghost use Rattle.u1_base.specs.Causes.{HasCause};
     ghost use Rattle.disk_model.specs.Disk.{Cut, Torn, overwritten, settled, was_cut, wrote};
     ghost use Rattle.disk_model.specs.Moments.{Looked, Took, TookOrNot};
@@ -155,7 +162,8 @@ impl Disk for MemDisk {
 
     fn read_at(&mut self, at: u64, into: &mut [u8]) -> Result<(), DiskFailed>
         requires { at + length into.old ≤ length (mem_known self.old).seen }
-        ensures bytes { OnOk result (into.new ≡ take (length into.old) (drop at (mem_known self.old).seen)) }
+        ensures bytes { OnOk result
+            (into.new ≡ take (length into.old) (drop at (mem_known self.old).seen)) }
         ensures seen { (mem_known self.new).seen ≡ (mem_known self.old).seen }
         ensures crash { Looked (mem_known self.old) (mem_known self.new) }
         ensures counted { (mem_known self.new).made ≡ called 1 (mem_known self.old).made }
@@ -170,10 +178,16 @@ impl Disk for MemDisk {
 
     fn write_at(&mut self, at: u64, bytes: &[u8]) -> Result<(), DiskFailed>
         requires { at ≤ length (mem_known self.old).seen }
-        ensures written { OnOk result ((mem_known self.new).seen ≡ overwritten (mem_known self.old).seen at bytes.now) }
-        ensures torn { OnErr result (Torn at (length bytes.now) (mem_known self.old).seen (mem_known self.new).seen) }
-        ensures crash { OnOk result (Took (mem_known self.old) (mem_known self.new) (wrote at (length bytes.now) (mem_known self.old).now)) }
-        ensures crash_err { OnErr result (TookOrNot (mem_known self.old) (mem_known self.new) (wrote at (length bytes.now) (mem_known self.old).now)) }
+        ensures written { OnOk result
+            ((mem_known self.new).seen ≡ overwritten (mem_known self.old).seen at bytes.now) }
+        ensures torn { OnErr result
+            (Torn at (length bytes.now) (mem_known self.old).seen (mem_known self.new).seen) }
+        ensures crash { OnOk result
+            (Took (mem_known self.old) (mem_known self.new)
+            (wrote at (length bytes.now) (mem_known self.old).now)) }
+        ensures crash_err { OnErr result
+            (TookOrNot (mem_known self.old) (mem_known self.new)
+            (wrote at (length bytes.now) (mem_known self.old).now)) }
         ensures counted { (mem_known self.new).made ≡ called 1 (mem_known self.old).made }
         ensures cause { HasCause (mem_known self.old).faults (mem_known self.new).faults result }
         ensures as_told { FailsAsTold self.old self.new result }
@@ -192,10 +206,14 @@ impl Disk for MemDisk {
 
     fn cut(&mut self, to: u64) -> Result<(), DiskFailed>
         requires { to ≤ length (mem_known self.old).seen }
-        ensures shortened { OnOk result ((mem_known self.new).seen ≡ take to (mem_known self.old).seen) }
+        ensures shortened { OnOk result
+            ((mem_known self.new).seen ≡ take to (mem_known self.old).seen) }
         ensures torn { OnErr result (Cut to (mem_known self.old).seen (mem_known self.new).seen) }
-        ensures crash { OnOk result (Took (mem_known self.old) (mem_known self.new) (was_cut to (mem_known self.old).now)) }
-        ensures crash_err { OnErr result (TookOrNot (mem_known self.old) (mem_known self.new) (was_cut to (mem_known self.old).now)) }
+        ensures crash { OnOk result
+            (Took (mem_known self.old) (mem_known self.new) (was_cut to (mem_known self.old).now)) }
+        ensures crash_err { OnErr result
+            (TookOrNot (mem_known self.old) (mem_known self.new)
+            (was_cut to (mem_known self.old).now)) }
         ensures counted { (mem_known self.new).made ≡ called 1 (mem_known self.old).made }
         ensures cause { HasCause (mem_known self.old).faults (mem_known self.new).faults result }
         ensures as_told { FailsAsTold self.old self.new result }
@@ -213,7 +231,8 @@ impl Disk for MemDisk {
 
     fn sync(&mut self) -> Result<(), DiskFailed>
         ensures seen { (mem_known self.new).seen ≡ (mem_known self.old).seen }
-        ensures durable { OnOk result (Took (mem_known self.old) (mem_known self.new) (settled (mem_known self.old).seen)) }
+        ensures durable { OnOk result
+            (Took (mem_known self.old) (mem_known self.new) (settled (mem_known self.old).seen)) }
         ensures crash_err { OnErr result (Looked (mem_known self.old) (mem_known self.new)) }
         ensures counted { (mem_known self.new).made ≡ called 1 (mem_known self.old).made }
         ensures cause { HasCause (mem_known self.old).faults (mem_known self.new).faults result }

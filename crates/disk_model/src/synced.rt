@@ -1,5 +1,6 @@
 //! Writes, cuts and reads, each with its sync. Nothing above makes a device call of its own.
-ghost use Rattle.std.specs.Prelude.{◌≡◌, ◌+◌, ◌<◌, ◌≤◌, IsTrue, IfOk, MatchOption, OnOk, length, slice_index, take};
+ghost use Rattle.std.specs.Prelude.{◌≡◌, ◌+◌, ◌<◌, ◌≤◌, IsTrue, IfOk, MatchOption, OnOk, length};
+ghost use Rattle.std.specs.Prelude.{slice_index, take};
 ghost use Rattle.u1_base.specs.Causes.{HasCause, HasCauseOf};
 ghost use Rattle.disk_model.specs.Disk.{IsAny, IsCrashImage, Cut, Torn, overwritten};
 ghost use Rattle.disk_model.specs.Device.{IsSettled, file_of};
@@ -42,11 +43,13 @@ impl Error for ReadFault {}
 /// Writes over what stands at `at`, and syncs.
 pub fn write_synced<D: Disk>(disk: &mut D, at: u64, bytes: &[u8]) -> Result<(), DiskFailed>
     requires { IsTrue D.tells → at ≤ length (D.known disk.old).seen }
-    ensures written { IsTrue D.tells → OnOk result ((D.known disk.new).seen ≡ overwritten (D.known disk.old).seen at bytes.now) }
+    ensures written { IsTrue D.tells
+        → OnOk result ((D.known disk.new).seen ≡ overwritten (D.known disk.old).seen at bytes.now) }
     ensures durable { IsTrue D.tells → OnOk result (IsSettled (file_of (D.known disk.new))) }
     ensures beside { IsTrue D.tells → (D.known disk.new).beside ≡ (D.known disk.old).beside }
     ensures any_moment { IsTrue D.tells → IsSettled (file_of (D.known disk.old))
-        → LeavesOnly (D.known disk.old) (D.known disk.new) (Torn at (length bytes.now) (D.known disk.old).seen) }
+        → LeavesOnly (D.known disk.old) (D.known disk.new)
+        (Torn at (length bytes.now) (D.known disk.old).seen) }
     ensures calls { MakesCalls 2 (D.known disk.old) (D.known disk.new) result }
     ensures cause { HasCause (D.known disk.old).faults (D.known disk.new).faults result }
 {
@@ -57,7 +60,8 @@ pub fn write_synced<D: Disk>(disk: &mut D, at: u64, bytes: &[u8]) -> Result<(), 
 /// Shortens to so many bytes, and syncs.
 pub fn cut_synced<D: Disk>(disk: &mut D, to: u64) -> Result<(), DiskFailed>
     requires { IsTrue D.tells → to ≤ length (D.known disk.old).seen }
-    ensures shortened { IsTrue D.tells → OnOk result ((D.known disk.new).seen ≡ take to (D.known disk.old).seen) }
+    ensures shortened { IsTrue D.tells
+        → OnOk result ((D.known disk.new).seen ≡ take to (D.known disk.old).seen) }
     ensures durable { IsTrue D.tells → OnOk result (IsSettled (file_of (D.known disk.new))) }
     ensures beside { IsTrue D.tells → (D.known disk.new).beside ≡ (D.known disk.old).beside }
     ensures any_moment { IsTrue D.tells → IsSettled (file_of (D.known disk.old))
@@ -69,7 +73,8 @@ pub fn cut_synced<D: Disk>(disk: &mut D, to: u64) -> Result<(), DiskFailed>
     disk.sync()
 }
 
-/// Puts these bytes in the place of all that the disk holds, and syncs once. A crash on the way may leave anything.
+/// Puts these bytes in the place of all that the disk holds, and syncs once. A crash on the way may
+/// leave anything.
 pub fn cut_write_synced<D: Disk>(disk: &mut D, bytes: &[u8]) -> Result<(), DiskFailed>
     ensures written { IsTrue D.tells → OnOk result ((D.known disk.new).seen ≡ bytes.now) }
     ensures durable { IsTrue D.tells → OnOk result (IsSettled (file_of (D.known disk.new))) }
@@ -89,10 +94,16 @@ pub fn read_synced<D: Disk>(alloc: Global, disk: &mut D) -> Result<Bytes, ReadFa
     ensures seen { IsTrue D.tells → (D.known disk.new).seen ≡ (D.known disk.old).seen }
     ensures durable { IsTrue D.tells → OnOk result (IsSettled (file_of (D.known disk.new))) }
     ensures beside { IsTrue D.tells → (D.known disk.new).beside ≡ (D.known disk.old).beside }
-    ensures any_moment { IsTrue D.tells → LeavesOnly (D.known disk.old) (D.known disk.new) (IsCrashImage (D.known disk.old).now) }
-    ensures calls { IfOk result (λ bytes. (D.known disk.new).made ≡ called (2 + pieces (length bytes)) (D.known disk.old).made) }
-    ensures most_calls { IsTrue D.tells → (D.known disk.new).made ≤ called (2 + pieces (length (D.known disk.old).seen)) (D.known disk.old).made }
-    ensures cause { HasCauseOf ReadFault.Disk (D.known disk.old).faults (D.known disk.new).faults result }
+    ensures any_moment { IsTrue D.tells
+        → LeavesOnly (D.known disk.old) (D.known disk.new) (IsCrashImage (D.known disk.old).now) }
+    ensures calls { IfOk result
+        (λ bytes. (D.known disk.new).made ≡ called (2 + pieces (length bytes))
+        (D.known disk.old).made) }
+    ensures most_calls { IsTrue D.tells
+        → (D.known disk.new).made ≤ called (2 + pieces (length (D.known disk.old).seen))
+        (D.known disk.old).made }
+    ensures cause { HasCauseOf ReadFault.Disk (D.known disk.old).faults
+        (D.known disk.new).faults result }
 {
     let Ok(size) = settled_length(disk) else {
         return Err(ReadFault::Disk);
@@ -108,12 +119,15 @@ pub fn read_synced<D: Disk>(alloc: Global, disk: &mut D) -> Result<Bytes, ReadFa
 
 /// The first byte, where there is one. Nothing is synced.
 pub fn first_byte<D: Disk>(disk: &mut D) -> Result<Option<u8>, DiskFailed>
-    ensures value { IsTrue D.tells → IfOk result (λ first. MatchOption first (length (D.known disk.old).seen ≡ 0)
-        (λ byte. (0 < length (D.known disk.old).seen) × (slice_index (D.known disk.old).seen 0 ≡ byte))) }
+    ensures value { IsTrue D.tells
+        → IfOk result (λ first. MatchOption first (length (D.known disk.old).seen ≡ 0)
+        (λ byte. (0 < length (D.known disk.old).seen)
+        × (slice_index (D.known disk.old).seen 0 ≡ byte))) }
     ensures seen { IsTrue D.tells → (D.known disk.new).seen ≡ (D.known disk.old).seen }
     ensures now { IsTrue D.tells → (D.known disk.new).now ≡ (D.known disk.old).now }
     ensures beside { IsTrue D.tells → (D.known disk.new).beside ≡ (D.known disk.old).beside }
-    ensures any_moment { IsTrue D.tells → LeavesOnly (D.known disk.old) (D.known disk.new) (IsCrashImage (D.known disk.old).now) }
+    ensures any_moment { IsTrue D.tells
+        → LeavesOnly (D.known disk.old) (D.known disk.new) (IsCrashImage (D.known disk.old).now) }
     ensures most_calls { (D.known disk.new).made ≤ called 2 (D.known disk.old).made }
     ensures cause { HasCause (D.known disk.old).faults (D.known disk.new).faults result }
 {
@@ -134,11 +148,13 @@ pub struct Front {
 
 /// Syncs, and tells how the file begins, where it is not empty.
 pub fn front_synced<D: Disk>(disk: &mut D) -> Result<Option<Front>, DiskFailed>
-    ensures value { IsTrue D.tells → IfOk result (λ front. front ≡ front_of (D.known disk.old).seen) }
+    ensures value { IsTrue D.tells
+        → IfOk result (λ front. front ≡ front_of (D.known disk.old).seen) }
     ensures seen { IsTrue D.tells → (D.known disk.new).seen ≡ (D.known disk.old).seen }
     ensures durable { IsTrue D.tells → OnOk result (IsSettled (file_of (D.known disk.new))) }
     ensures beside { IsTrue D.tells → (D.known disk.new).beside ≡ (D.known disk.old).beside }
-    ensures any_moment { IsTrue D.tells → LeavesOnly (D.known disk.old) (D.known disk.new) (IsCrashImage (D.known disk.old).now) }
+    ensures any_moment { IsTrue D.tells
+        → LeavesOnly (D.known disk.old) (D.known disk.new) (IsCrashImage (D.known disk.old).now) }
     ensures most_calls { (D.known disk.new).made ≤ called 3 (D.known disk.old).made }
     ensures cause { HasCause (D.known disk.old).faults (D.known disk.new).faults result }
 {
@@ -160,7 +176,8 @@ fn settled_length<D: Disk>(disk: &mut D) -> Result<u64, DiskFailed>
     ensures seen { IsTrue D.tells → (D.known disk.new).seen ≡ (D.known disk.old).seen }
     ensures durable { IsTrue D.tells → OnOk result (IsSettled (file_of (D.known disk.new))) }
     ensures beside { IsTrue D.tells → (D.known disk.new).beside ≡ (D.known disk.old).beside }
-    ensures any_moment { IsTrue D.tells → LeavesOnly (D.known disk.old) (D.known disk.new) (IsCrashImage (D.known disk.old).now) }
+    ensures any_moment { IsTrue D.tells
+        → LeavesOnly (D.known disk.old) (D.known disk.new) (IsCrashImage (D.known disk.old).now) }
     ensures calls { MakesCalls 2 (D.known disk.old) (D.known disk.new) result }
     ensures cause { HasCause (D.known disk.old).faults (D.known disk.new).faults result }
 {
@@ -177,12 +194,15 @@ fn zeros(alloc: Global, size: u64) -> Result<Vec<u8>, Memory>
 /// Fills `into` with the first bytes of the disk, a piece at a time.
 fn fill<D: Disk>(disk: &mut D, into: &mut [u8]) -> Result<(), DiskFailed>
     requires { IsTrue D.tells → length into.old ≤ length (D.known disk.old).seen }
-    ensures bytes { IsTrue D.tells → OnOk result (into.new ≡ take (length into.old) (D.known disk.old).seen) }
+    ensures bytes { IsTrue D.tells
+        → OnOk result (into.new ≡ take (length into.old) (D.known disk.old).seen) }
     ensures seen { IsTrue D.tells → (D.known disk.new).seen ≡ (D.known disk.old).seen }
     ensures now { IsTrue D.tells → (D.known disk.new).now ≡ (D.known disk.old).now }
     ensures beside { IsTrue D.tells → (D.known disk.new).beside ≡ (D.known disk.old).beside }
-    ensures any_moment { IsTrue D.tells → LeavesOnly (D.known disk.old) (D.known disk.new) (IsCrashImage (D.known disk.old).now) }
-    ensures calls { MakesCalls (pieces (length into.old)) (D.known disk.old) (D.known disk.new) result }
+    ensures any_moment { IsTrue D.tells
+        → LeavesOnly (D.known disk.old) (D.known disk.new) (IsCrashImage (D.known disk.old).now) }
+    ensures calls { MakesCalls (pieces (length into.old)) (D.known disk.old)
+        (D.known disk.new) result }
     ensures cause { HasCause (D.known disk.old).faults (D.known disk.new).faults result }
 {
     let mut at = 0;

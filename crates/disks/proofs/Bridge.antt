@@ -13,7 +13,8 @@ use Rattle.disks.specs.Moments.{AtEach, LeavesTogether, ChangedOnly, SameElsewhe
 use Rattle.disks.proofs.Trios.{pick_each, one_name, same_all, same_others}
 
 -- a moment as one disk has it, from the files of the three
-pub seen_now : (name : DiskName) (files : Trio File) → seen_from name (now_of files) ≡ moment (pick name files).now (others name files)
+pub seen_now : (name : DiskName) (files : Trio File)
+    → seen_from name (now_of files) ≡ moment (pick name files).now (others name files)
 seen_now Root files = refl
 seen_now Left files = refl
 seen_now Right files = refl
@@ -57,8 +58,10 @@ images_then : (name : DiskName) (P : List ℕ → Type 0) (old : Trio File) (at 
 images_then name P old at beside has images i = record {
   there = has (pick name images) (i name);
   elsewhere = λ other ne.
-      let same : others name at ≡ others name (now_of old) = beside ∙ ap (λ (m : Moment). m.1) (sym (seen_now name old)) in
-      subst (λ (u : Unsynced). IsCrashImage u (pick other images)) (same_others name at (now_of old) same other ne) (i other);
+      let same : others name at ≡ others name (now_of old) = beside
+      ∙ ap (λ (m : Moment). m.1) (sym (seen_now name old)) in
+      subst (λ (u : Unsynced). IsCrashImage u (pick other images))
+      (same_others name at (now_of old) same other ne) (i other);
 }
 
 each_then : (name : DiskName) (P : List ℕ → Type 0) (old : Trio File) (ms : List JointMoment)
@@ -67,7 +70,8 @@ each_then name P old [] e = tt
 each_then name P old (m ∷ ms) e = (images_then name P old m e.0 e.1, each_then name P old ms e.2)
 
 -- calls that left the other two as they were went to one disk
-pub keeps_name : (name to : DiskName) (old new : Devices) → (facing to new).beside ≡ (facing name old).beside → to ≡ name
+pub keeps_name : (name to : DiskName) (old new : Devices)
+    → (facing to new).beside ≡ (facing name old).beside → to ≡ name
 keeps_name name to old new kept = one_name name to new.files old.files kept
 
 pub keeps_others : (name to : DiskName) (old new : Devices) → (facing to new).beside ≡ (facing name old).beside
@@ -86,8 +90,10 @@ run_of_one name old new P run =
       added = a.added;
       each = each_then name P old.files a.moments (subst (Each P (others name old.files)) (sym a.seen) run.each);
       here = images_then name P old.files (now_of new.files)
-          (ap (λ (m : Moment). m.1) (seen_now name new.files) ∙ ap (λ (b : Beside). (moment (pick name (now_of new.files)) b).1) run.kept)
-          (λ image i. run.here image (subst (λ (u : Unsynced). IsCrashImage u image) (pick_each (λ (f : File). f.now) name new.files) i));
+          (ap (λ (m : Moment). m.1) (seen_now name new.files)
+          ∙ ap (λ (b : Beside). (moment (pick name (now_of new.files)) b).1) run.kept)
+          (λ image i. run.here image
+          (subst (λ (u : Unsynced). IsCrashImage u image) (pick_each (λ (f : File). f.now) name new.files) i));
     }
 
 -- The bridge: what is said of calls on one disk says of the three.

@@ -6,7 +6,8 @@ use Rattle.disks.specs.declared.trio.Trio.{Trio}
 use Rattle.disks.specs.Trio.{pick, others, each}
 
 -- what is asked of each, asked of one
-pub pick_each : {A B : Type 0} (f : A → B) (name : DiskName) (trio : Trio A) → pick name (each f trio) ≡ f (pick name trio)
+pub pick_each : {A B : Type 0} (f : A → B) (name : DiskName) (trio : Trio A)
+    → pick name (each f trio) ≡ f (pick name trio)
 pick_each f Root trio = refl
 pick_each f Left trio = refl
 pick_each f Right trio = refl
@@ -68,7 +69,8 @@ same_trio {A = A} t s same =
     ap first (same Root) ∙ ap second (same Left) ∙ ap third (same Right)
 
 -- this one and the other two are all three
-pub same_all : {A : Type 0} (name : DiskName) (t s : Trio A) → pick name t ≡ pick name s → others name t ≡ others name s → t ≡ s
+pub same_all : {A : Type 0} (name : DiskName) (t s : Trio A) → pick name t ≡ pick name s
+    → others name t ≡ others name s → t ≡ s
 same_all name t s one rest =
     same_trio t s (λ n. ⊎_elim
     (λ is. subst (λ (m : DiskName). pick m t ≡ pick m s) (sym is) one)

@@ -31,27 +31,34 @@ module _ {D : Type 0} (known : D → Device) where
     beside_before kept = kept ∙ ap (λ (d : Disks D). (as_one d).beside) e
 
     pub still_turned : (as_one new).beside ≡ (as_one mid).beside → turned_to new ≡ name
-    still_turned kept = keeps_name name (turned_to new) (disks_known known old) (disks_known known new) (beside_before kept)
+    still_turned kept = keeps_name name (turned_to new) (disks_known known old) (disks_known known new)
+        (beside_before kept)
 
-    pub same_elsewhere : (as_one new).beside ≡ (as_one mid).beside → SameElsewhere name (disks_known known old).files (disks_known known new).files
-    same_elsewhere kept = keeps_others name (turned_to new) (disks_known known old) (disks_known known new) (beside_before kept)
+    pub same_elsewhere : (as_one new).beside ≡ (as_one mid).beside
+        → SameElsewhere name (disks_known known old).files (disks_known known new).files
+    same_elsewhere kept = keeps_others name (turned_to new) (disks_known known old) (disks_known known new)
+        (beside_before kept)
 
     -- the file of this disk, after the call
-    pub file_after : (as_one new).beside ≡ (as_one mid).beside → file_of (as_one new) ≡ pick name (disks_known known new).files
+    pub file_after : (as_one new).beside ≡ (as_one mid).beside
+        → file_of (as_one new) ≡ pick name (disks_known known new).files
     file_after kept = ap (λ (n : DiskName). pick n (disks_known known new).files) (still_turned kept)
 
     pub leaves_joint : (P : List ℕ → Type 0) → LeavesOnly (as_one mid) (as_one new) P
-        → LeavesTogether (disks_known known old) (disks_known known new) (ChangedOnly name P (now_of (disks_known known old).files))
+        → LeavesTogether (disks_known known old) (disks_known known new)
+        (ChangedOnly name P (now_of (disks_known known old).files))
     leaves_joint P run =
         joint name (turned_to new) (disks_known known old) (disks_known known new) P
         (subst (λ (d : Disks D). LeavesOnly (as_one d) (as_one new) P) e run)
 
     -- a call that only looks and syncs
     pub leaves_joint_images : LeavesOnly (as_one mid) (as_one new) (IsCrashImage (as_one mid).now)
-        → LeavesTogether (disks_known known old) (disks_known known new) (AreCrashImages (now_of (disks_known known old).files))
+        → LeavesTogether (disks_known known old) (disks_known known new)
+        (AreCrashImages (now_of (disks_known known old).files))
     leaves_joint_images run =
         let before = (disks_known known old).files in let P : List ℕ → Type 0 = IsCrashImage (pick name before).now in
-        weaker (disks_known known old) (disks_known known new) (ChangedOnly name P (now_of before)) (AreCrashImages (now_of before))
+        weaker (disks_known known old) (disks_known known new) (ChangedOnly name P (now_of before))
+        (AreCrashImages (now_of before))
         (joint name (turned_to new) (disks_known known old) (disks_known known new) P
         (subst (λ (d : Disks D). LeavesOnly (as_one d) (as_one new) (IsCrashImage (as_one d).now)) e run))
         (unchanged name before)

@@ -21,10 +21,12 @@ pub record LeavesTogether (old new : Devices) (Q : Trio (List ℕ) → Type 0) :
   pub here : (images : Trio (List ℕ)) → AreCrashImages (now_of new.files) images → Q images
 
 -- the image of the disk of this name has P, and those of the other two are such as this moment may leave
-pub record ChangedOnly (name : DiskName) (P : List ℕ → Type 0) (moment : JointMoment) (images : Trio (List ℕ)) : Type 0 where
+pub record ChangedOnly (name : DiskName) (P : List ℕ → Type 0) (moment : JointMoment)
+    (images : Trio (List ℕ)) : Type 0 where
   pub there : P (pick name images)
   pub elsewhere : (other : DiskName) → other ≢ name → IsCrashImage (pick other moment) (pick other images)
 
--- no file but that of this disk has changed: the others read as before, and a crash may leave of them what it might before
+-- no file but that of this disk has changed: the others read as before, and a crash may leave of them what it might
+-- before
 abbrev pub SameElsewhere : DiskName → Trio File → Trio File → Type 0
 SameElsewhere name old new = (other : DiskName) → other ≢ name → pick other new ≡ pick other old

@@ -25,7 +25,8 @@ abbrev pub total : Trio ℕ → ℕ
 total trio = trio.root + trio.left + trio.right
 
 -- what holds of each holds of the one
-pub one_of_each : {A : Type 0} (P : A → Type 0) (name : DiskName) (trio : Trio A) → P trio.root → P trio.left → P trio.right → P (pick name trio)
+pub one_of_each : {A : Type 0} (P : A → Type 0) (name : DiskName) (trio : Trio A) → P trio.root → P trio.left
+    → P trio.right → P (pick name trio)
 one_of_each P Root trio root left right = root
 one_of_each P Left trio root left right = left
 one_of_each P Right trio root left right = right

@@ -1,4 +1,5 @@
-//! What holds of three disks, whatever they are, each as the contract of a function that does nothing.
+//! What holds of three disks, whatever they are, each as the contract of a function that does
+//! nothing.
 ghost use Rattle.std.specs.Prelude.{IsTrue};
 ghost use Rattle.disks.specs.Joint.{AreCrashImages, now_of, seen_of};
 ghost use Rattle.disks.specs.Disks.{disks_known};
@@ -9,7 +10,9 @@ use disk_model::Disk;
 
 /// What the reads give of the three is one of the images that a crash now may leave.
 pub fn law_reads<D: Disk>(_disks: &Disks<D>)
-    ensures { IsTrue D.tells → AreCrashImages (now_of (disks_known D.known _disks.now).files) (seen_of (disks_known D.known _disks.now).files) }
+    ensures { IsTrue D.tells
+        → AreCrashImages (now_of (disks_known D.known _disks.now).files)
+        (seen_of (disks_known D.known _disks.now).files) }
 {}
 
 /// Where all three are settled, a crash leaves just what the reads give.
@@ -22,7 +25,8 @@ pub fn law_moments()
     ensures { MomentsStay }
 {}
 
-/// Calls that go to one disk move neither what the other two read nor what a crash may leave of them.
+/// Calls that go to one disk move neither what the other two read nor what a crash may leave of
+/// them.
 pub fn law_one_disk()
     ensures { OneDiskMoves }
 {}

@@ -1,8 +1,8 @@
 //! Three disks as one, with one order of moments.
 //!
-//! `Disks` is a disk of `disk_model`: calls go to the one of the three that it is turned to. What holds of the
-//! calls of `disk_model` and of those above it holds so of each of the three, and says what a crash leaves of
-//! all three at one moment.
+//! `Disks` is a disk of `disk_model`: calls go to the one of the three that it is turned to. What
+//! holds of the calls of `disk_model` and of those above it holds so of each of the three, and says
+//! what a crash leaves of all three at one moment.
 #![tactic(auto)]
 
 mod history;

@@ -1,5 +1,5 @@
-//! An example of a run on three disks: two images are written and then the root, and a crash never leaves a root
-//! without both images.
+//! An example of a run on three disks: two images are written and then the root, and a crash never
+//! leaves a root without both images.
 ghost use Rattle.std.specs.Prelude.{◌≡◌, IfOk, IsTrue, OnOk, [], ◌∷◌};
 ghost use Rattle.disk_model.specs.Device.{untouched};
 ghost use Rattle.disk_model.specs.MemDisk.{mem_known};
@@ -17,8 +17,12 @@ use u1_base::{Bytes, Memory, Numbers};
 // Three empty disks get the image twice, and the root a byte.
 fn write_root_last<D: Disk>(disks: &mut Disks<D>, image: &[u8]) -> Result<(), DiskFailed>
     requires { IsTrue D.tells → AreEmpty (disks_known D.known disks.old).files }
-    ensures ok { IsTrue D.tells → OnOk result ((disks_known D.known disks.new).files ≡ record { root = whole (0 ∷ []); left = whole image.now; right = whole image.now }) }
-    ensures any_moment { IsTrue D.tells → LeavesTogether (disks_known D.known disks.old) (disks_known D.known disks.new) (IsRootLast image.now) }
+    ensures ok { IsTrue D.tells
+        → OnOk result ((disks_known D.known disks.new).files
+        ≡ record { root = whole (0 ∷ []); left = whole image.now; right = whole image.now }) }
+    ensures any_moment { IsTrue D.tells
+        → LeavesTogether (disks_known D.known disks.old) (disks_known D.known disks.new)
+        (IsRootLast image.now) }
 {
     write_synced_on(disks, DiskName::Left, 0, image)?;
     write_synced_on(disks, DiskName::Right, 0, image)?;
@@ -45,8 +49,8 @@ const CHOICES: [Choice; 4] = [
     Choice::Fill(7),
 ];
 
-// The run with failing calls of one disk: whether it succeeded, and whether each crash now leaves an empty root or
-// both images.
+// The run with failing calls of one disk: whether it succeeded, and whether each crash now leaves
+// an empty root or both images.
 fn run(alloc: Global, name: DiskName, failing: &[u64]) -> Result<(bool, bool), Memory> {
     let root = empty_disk(alloc, failing_at(DiskName::Root, name, failing))?;
     let left = empty_disk(alloc, failing_at(DiskName::Left, name, failing))?;

@@ -28,7 +28,8 @@ pub(crate) fn failing_at(one: DiskName, name: DiskName, failing: &[u64]) -> &[u6
     if one == name { failing } else { &[] }
 }
 
-// The three disks hold `r`, `left` and `right`; the one of this name fails at its calls of these numbers.
+// The three disks hold `r`, `left` and `right`; the one of this name fails at its calls of these
+// numbers.
 fn disks_of(alloc: Global, name: DiskName, failing: &[u64]) -> Result<Disks<MemDisk>, Memory> {
     let root = disk_of(alloc, b"r", failing_at(DiskName::Root, name, failing))?;
     let left = disk_of(alloc, b"left", failing_at(DiskName::Left, name, failing))?;
@@ -151,8 +152,8 @@ fn calls_go_to_the_disk_that_they_are_turned_to(rt: HostRuntime) -> Result<(), F
     Ok(())
 }
 
-// The calls in their order: a write to the left disk, a write to the root, a sync of the left disk, a cut of the
-// right disk, a sync of the root, a sync of the right disk.
+// The calls in their order: a write to the left disk, a write to the root, a sync of the left disk,
+// a cut of the right disk, a sync of the root, a sync of the right disk.
 fn step(disks: &mut Disks<MemDisk>, number: usize) -> Result<(), DiskFailed> {
     match number {
         0 => write(disks, DiskName::Left, 2, b"XYZW"),
@@ -174,7 +175,8 @@ fn made(disks: &mut Disks<MemDisk>, calls: usize) -> usize {
     calls
 }
 
-// What a crash now leaves of the disk by this choice. A look is noted first, whose image is the one before it.
+// What a crash now leaves of the disk by this choice. A look is noted first, whose image is the one
+// before it.
 pub(crate) fn left_now(
     alloc: Global,
     disks: &mut Disks<MemDisk>,

@@ -1,4 +1,5 @@
-//! Three disks as one: calls go to the one that it is turned to, and each is noted with the three as they stood.
+//! Three disks as one: calls go to the one that it is turned to, and each is noted with the three
+//! as they stood.
 use crate::DiskName;
 use crate::history::History;
 use crate::trio::Trio;
@@ -6,8 +7,9 @@ use disk_model::{Disk, DiskFailed};
 
 /// Three disks that share one order of moments.
 ///
-/// It is a disk: calls go to the one that it is turned to, and the other two lie beside it. Nothing takes it apart
-/// or lends one of the three to be changed, so that each call on one of them is a moment of all three.
+/// It is a disk: calls go to the one that it is turned to, and the other two lie beside it. Nothing
+/// takes it apart or lends one of the three to be changed, so that each call on one of them is a
+/// moment of all three.
 #[derive(Drop)]
 pub struct Disks<D: Disk> {
     trio: Trio<D>,
@@ -52,7 +54,8 @@ impl<D: Disk> Disks<D> {
 }
 
 impl<D: Disk> Disk for Disks<D> {
-    ghost use Rattle.std.specs.Prelude.{◌≡◌, ◌≤◌, ◌+◌, IsTrue, IfOk, OnOk, OnErr, length, take, drop};
+    ghost use Rattle.std.specs.Prelude.{◌≡◌, ◌≤◌, ◌+◌, IsTrue, IfOk, OnOk, OnErr, length, take};
+    ghost use Rattle.std.specs.Prelude.{drop};
     ghost use Rattle.disks.specs.Trio.{one_of_each};
     ghost use Rattle.disks.specs.Joint.{MayStay, facing};
     ghost use Rattle.disks.specs.Disks.{disks_known, files_of, turned_to};
@@ -86,6 +89,8 @@ impl<D: Disk> Disk for Disks<D> {
         self.trio.sync(self.name)
     }
 
-    ghost seen_may_stay = { λ disks tells. one_of_each MayStay (turned_to disks) (files_of D.known disks.trio)
-        (D.seen_may_stay disks.trio.root tells) (D.seen_may_stay disks.trio.left tells) (D.seen_may_stay disks.trio.right tells) };
+    ghost seen_may_stay = { λ disks tells. one_of_each MayStay (turned_to disks)
+        (files_of D.known disks.trio)
+        (D.seen_may_stay disks.trio.root tells) (D.seen_may_stay disks.trio.left tells)
+        (D.seen_may_stay disks.trio.right tells) };
 }

@@ -18,9 +18,11 @@ abbrev pub without : {V : Type 0} → List ℕ → List (List ℕ × V) → List
 without id pairs = where_key id_cmp (λ other. not (same_id id other)) pairs
 
 -- pairs and room tell a table
-pub same_listed : {V : Type 0} (x y : Listed V) → ◌≡◌ {A = List (List ℕ × V) × ℕ} (x.pairs, x.room) (y.pairs, y.room) → x ≡ y
+pub same_listed : {V : Type 0} (x y : Listed V)
+    → ◌≡◌ {A = List (List ℕ × V) × ℕ} (x.pairs, x.room) (y.pairs, y.room) → x ≡ y
 same_listed {V} x y e =
-    let sorted : ◌≡◌ {A = (es : List (List ℕ × V)) × T (is_sorted id_cmp es)} (x.pairs, x.sorted) (y.pairs, y.sorted) = Σ_prop_path (λ es. T_prop _) (λ i. (e i).0) in
+    let sorted : ◌≡◌ {A = (es : List (List ℕ × V)) × T (is_sorted id_cmp es)} (x.pairs, x.sorted) (y.pairs, y.sorted) =
+    Σ_prop_path (λ es. T_prop _) (λ i. (e i).0) in
     λ i. record { pairs = (sorted i).0; sorted = (sorted i).1; room = (e i).1 }
 
 -- a table is stored as these two

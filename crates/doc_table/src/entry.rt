@@ -10,8 +10,8 @@ use u1_base::{FormOf, Id};
 // How many bytes of an id its abbreviated key has.
 const ABBREVIATED: usize = 8;
 
-// An id and its value. The abbreviated key of the id stands beside it: most looks of a search need no more, and to
-// read the id is to wait for memory once more.
+// An id and its value. The abbreviated key of the id stands beside it: most looks of a search need
+// no more, and to read the id is to wait for memory once more.
 #[derive(Drop)]
 pub(crate) struct Entry<F: FormOf, V> {
     pub(crate) abbreviated: u64,
@@ -27,7 +27,8 @@ impl<F: FormOf, V> Entry<F, V> {
         &self.value
     }
 
-    // The order of the entry's id, and of an id with its abbreviated key. Where these keys differ they decide.
+    // The order of the entry's id, and of an id with its abbreviated key. Where these keys differ
+    // they decide.
     pub(crate) fn compare(&self, abbreviated: u64, id: &Id<F>) -> Ordering
         requires { IsAbbreviated id.now abbreviated }
         ensures { result ≡ id_cmp self.now.id id.now }

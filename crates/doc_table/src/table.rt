@@ -1,5 +1,6 @@
 //! The table, over a list of entries that is kept in chunks.
-ghost use Rattle.std.specs.Prelude.{◌≡◌, ◌+◌, ◌<◌, ◌≤◌, [], length, slice_get, OnOk, MatchResult, None};
+ghost use Rattle.std.specs.Prelude.{◌≡◌, ◌+◌, ◌<◌, ◌≤◌, [], length, slice_get, OnOk, MatchResult};
+ghost use Rattle.std.specs.Prelude.{None};
 ghost use Rattle.std.specs.Option.{option_copied};
 ghost use Rattle.std.specs.FinMap.Entries.{find, put};
 ghost use Rattle.chunk_list.specs.Sorted.{FitsAt};
@@ -31,7 +32,12 @@ impl<F: FormOf, V> Model for Table<F, V> {
 
     ghost use Rattle.doc_table.specs.Entries.{pairs_of};
 
-    ghost view = { λ s. record { pairs = pairs_of s.entries.items; sorted = s.sorted; room = s.entries.room } };
+    ghost view = { λ s. record {
+      pairs = pairs_of s.entries.items;
+      sorted = s.sorted;
+      room =
+          s.entries.room;
+    } };
 }
 
 impl<F: FormOf, V> Table<F, V> {
@@ -56,15 +62,16 @@ impl<F: FormOf, V> Table<F, V> {
         self.entries.reserve(1)
     }
 
-    /// Puts the value at the id, and answers the one that stood there. A new id takes one from the room. It takes
-    /// no memory.
+    /// Puts the value at the id, and answers the one that stood there. A new id takes one from the
+    /// room. It takes no memory.
     pub fn put(&mut self, id: Id<F>, value: V) -> Option<V>
     where
         V: Drop,
         requires { find id_cmp id self.old.pairs ≡ None → 0 < self.old.room }
         ensures value { result ≡ find id_cmp id self.old.pairs }
         ensures pairs { self.new.pairs ≡ put id_cmp id value self.old.pairs }
-        ensures room { self.new.room + length self.new.pairs ≡ self.old.room + length self.old.pairs }
+        ensures room { self.new.room + length self.new.pairs ≡ self.old.room
+            + length self.old.pairs }
     {
         let abbreviated = abbreviated(&id);
         match search(&self.entries, abbreviated, &id) {
@@ -133,14 +140,16 @@ impl<F: FormOf, V> Table<F, V> {
     }
 }
 
-// The place where an id with its abbreviated key stands, and its entry, or else the place where it would stand.
+// The place where an id with its abbreviated key stands, and its entry, or else the place where it
+// would stand.
 fn search<'a, F: FormOf, V>(
     entries: &'a ChunkList<Entry<F, V>>,
     abbreviated: u64,
     id: &Id<F>,
 ) -> Result<(usize, &'a Entry<F, V>), usize>
     requires { IsAbbreviated id.now abbreviated }
-    ensures { MatchResult result (λ found. IsFound entries.now.items id.now found.0 found.1.now) (FitsAt id_cmp (pairs_of entries.now.items) id.now) }
+    ensures { MatchResult result (λ found. IsFound entries.now.items id.now found.0 found.1.now)
+        (FitsAt id_cmp (pairs_of entries.now.items) id.now) }
 {
     let (place, found) = entries.find(|entry| entry.compare(abbreviated, id).is_lt());
     match found {

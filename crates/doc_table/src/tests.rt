@@ -1,4 +1,5 @@
-//! A small address book, the worked rows of one document, ids that begin alike, and tables of made ids and of replica uids.
+//! A small address book, the worked rows of one document, ids that begin alike, and tables of made
+//! ids and of replica uids.
 use crate::Table;
 use std::alloc::Global;
 use u1_base::{DocId, Document, IdFault, IdKind, Memory, Replica, ReplicaUid, new_id};

@@ -1,5 +1,6 @@
 -- No key stands twice.
-use Rattle.std.proofs.Common.{◌≡◌, ◌≢◌, ℕ, zero, suc, ◌<◌, Bool, true, false, not, cond, List, [], ◌∷◌, ◌++◌, length, map, take, get_or, refl, sym, subst, ◌∙◌, ◌⊎◌, inl, inr, arith}
+use Rattle.std.proofs.Common.{◌≡◌, ◌≢◌, ℕ, zero, suc, ◌<◌, Bool, true, false, not, cond, List, [], ◌∷◌, ◌++◌, length}
+use Rattle.std.proofs.Common.{map, take, get_or, refl, sym, subst, ◌∙◌, ◌⊎◌, inl, inr, arith}
 use Rattle.std.proofs.lemmas.Bool.{true≢false}
 use Rattle.std.proofs.lemmas.Slice.Eq.{bytes_eq-Decides}
 use Rattle.std.specs.List.{AllPairs, filter, flat_map}
@@ -21,7 +22,8 @@ Apart [] = Unit {0}
 Apart (x ∷ xs) = (In x xs → ⊥) × Apart xs
 
 -- a filter and a front leave no doubles where there were none
-in_cond : {X : Type 0} (b : Bool) (y x : X) (xs more : List X) → (In y xs → In y more) → In y (cond b (x ∷ xs) xs) → In y (x ∷ more)
+in_cond : {X : Type 0} (b : Bool) (y x : X) (xs more : List X) → (In y xs → In y more) → In y (cond b (x ∷ xs) xs)
+    → In y (x ∷ more)
 in_cond true y x xs more f h = elim h [
   | inl e ↦ inl e
   | inr rest ↦ inr (f rest)
@@ -55,7 +57,8 @@ apart_take (suc n) [] apart = apart
 apart_take (suc n) (x ∷ xs) apart = ((λ h. apart.0 (in_take n x xs h)), apart_take n xs apart.1)
 
 -- texts, each once
-dropped_cond : (b : Bool) (x y : List ℕ) (ys : List (List ℕ)) → bytes_eq x y ≡ b → (In x ys → ⊥) → In x (cond (not b) (y ∷ ys) ys) → ⊥
+dropped_cond : (b : Bool) (x y : List ℕ) (ys : List (List ℕ)) → bytes_eq x y ≡ b → (In x ys → ⊥)
+    → In x (cond (not b) (y ∷ ys) ys) → ⊥
 dropped_cond true x y ys same none h = none h
 dropped_cond false x y ys same none h = elim h [
   | inl e ↦ true≢false (sym ((bytes_eq-Decides x y).1 e) ∙ same)
@@ -90,7 +93,8 @@ apart_longer x (t ∷ ts) apart = ((λ h. apart.0 (in_longer x t ts h)), apart_l
 abbrev Begins : Texts → Texts → Type 0
 Begins texts t = (x : List ℕ) × (rest : Texts) × (t ≡ x ∷ rest) × In x texts
 
-begins_longer : (x : List ℕ) (t : Texts) (ts : List Texts) → In t (map (λ (u : Texts). x ∷ u) ts) → (rest : Texts) × (t ≡ x ∷ rest)
+begins_longer : (x : List ℕ) (t : Texts) (ts : List Texts) → In t (map (λ (u : Texts). x ∷ u) ts) → (rest : Texts)
+    × (t ≡ x ∷ rest)
 begins_longer x t [] h = absurd h
 begins_longer x t (u ∷ ts) h = elim h [
   | inl e ↦ (u, e)
@@ -107,10 +111,12 @@ in_append y (x ∷ xs) ys h = elim h [
   ]
 ]
 
-begins : (texts t : Texts) (ts : List Texts) → In t (flat_map (λ (x : List ℕ). map (λ (u : Texts). x ∷ u) ts) texts) → Begins texts t
+begins : (texts t : Texts) (ts : List Texts) → In t (flat_map (λ (x : List ℕ). map (λ (u : Texts). x ∷ u) ts) texts)
+    → Begins texts t
 begins [] t ts h = absurd h
 begins (x ∷ texts) t ts h =
-    elim (in_append t (map (λ (u : Texts). x ∷ u) ts) (flat_map (λ (y : List ℕ). map (λ (u : Texts). y ∷ u) ts) texts) h) [
+    elim (in_append t (map (λ (u : Texts). x ∷ u) ts)
+    (flat_map (λ (y : List ℕ). map (λ (u : Texts). y ∷ u) ts) texts) h) [
       | inl front ↦
           let f : (rest : Texts) × (t ≡ x ∷ rest) = begins_longer x t ts front in
           (x, f.0, f.1, inl refl)
@@ -119,7 +125,8 @@ begins (x ∷ texts) t ts h =
           (f.0, f.1, f.2, inr f.3)
     ]
 
-apart_append : {X : Type 0} (xs ys : List X) → Apart xs → Apart ys → ((y : X) → In y xs → In y ys → ⊥) → Apart (xs ++ ys)
+apart_append : {X : Type 0} (xs ys : List X) → Apart xs → Apart ys → ((y : X) → In y xs → In y ys → ⊥)
+    → Apart (xs ++ ys)
 apart_append [] ys a b none = b
 apart_append (x ∷ xs) ys a b none = (
   (λ h. elim (in_append x xs ys h) [
@@ -132,7 +139,8 @@ apart_append (x ∷ xs) ys a b none = (
 same_head : (x y : List ℕ) (t s r : Texts) → t ≡ x ∷ s → t ≡ y ∷ r → x ≡ y
 same_head x y t s r e f = cc
 
-apart_flat : (texts : Texts) (ts : List Texts) → Apart texts → Apart ts → Apart (flat_map (λ (x : List ℕ). map (λ (u : Texts). x ∷ u) ts) texts)
+apart_flat : (texts : Texts) (ts : List Texts) → Apart texts → Apart ts
+    → Apart (flat_map (λ (x : List ℕ). map (λ (u : Texts). x ∷ u) ts) texts)
 apart_flat [] ts a b = tt
 apart_flat (x ∷ texts) ts a b =
     apart_append (map (λ (u : Texts). x ∷ u) ts) (flat_map (λ (y : List ℕ). map (λ (u : Texts). y ∷ u) ts) texts)

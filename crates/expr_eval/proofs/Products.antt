@@ -1,5 +1,7 @@
 -- The keys are made one after another, up to their greatest number.
-use Rattle.std.proofs.Common.{◌≡◌, ℕ, zero, suc, ◌<◌, ◌≤◌, true, List, [], ◌∷◌, ◌++◌, length, map, take, refl, sym, ap, ap₂, subst, ◌∙◌, inl, inr, arith, append-nil, append_assoc, length-append, take_all, Bor, Vec, vec_len, eqb, ◌-◌}
+use Rattle.std.proofs.Common.{◌≡◌, ℕ, zero, suc, ◌<◌, ◌≤◌, true, List, [], ◌∷◌, ◌++◌, length, map, take, refl, sym, ap}
+use Rattle.std.proofs.Common.{ap₂, subst, ◌∙◌, inl, inr, arith, append-nil, append_assoc, length-append, take_all, Bor}
+use Rattle.std.proofs.Common.{Vec, vec_len, eqb, ◌-◌}
 use Rattle.std.specs.List.{flat_map, list_any}
 use Rattle.content.specs.Tree.{Tree}
 use Rattle.expr_parser.specs.declared.expr.Expr.{Expr}
@@ -29,34 +31,47 @@ take_full (suc n) [] ys full = absurd (omega arith)
 take_full (suc n) (x ∷ xs) ys full = ap (λ (l : List Texts). x ∷ l) (take_full n xs ys (omega arith))
 
 -- the tuples of two parts of the first list
-behind-append : (front xs ys : Texts) (lists : List Texts) → behind front ((xs ++ ys) ∷ lists) ≡ behind front (xs ∷ lists) ++ behind front (ys ∷ lists)
+behind-append : (front xs ys : Texts) (lists : List Texts)
+    → behind front ((xs ++ ys) ∷ lists) ≡ behind front (xs ∷ lists) ++ behind front (ys ∷ lists)
 behind-append front xs ys lists =
-    ap (map (λ (t : Texts). front ++ t)) (flat_map-append (λ (x : List ℕ). map (λ (t : Texts). x ∷ t) (tuples lists)) xs ys)
-    ∙ map-append (λ (t : Texts). front ++ t) (flat_map (λ (x : List ℕ). map (λ (t : Texts). x ∷ t) (tuples lists)) xs) (flat_map (λ (x : List ℕ). map (λ (t : Texts). x ∷ t) (tuples lists)) ys)
+    ap (map (λ (t : Texts). front ++ t))
+    (flat_map-append (λ (x : List ℕ). map (λ (t : Texts). x ∷ t) (tuples lists)) xs ys)
+    ∙ map-append (λ (t : Texts). front ++ t) (flat_map (λ (x : List ℕ). map (λ (t : Texts). x ∷ t) (tuples lists)) xs)
+    (flat_map (λ (x : List ℕ). map (λ (t : Texts). x ∷ t) (tuples lists)) ys)
 
-longer_front : (front : Texts) (x : List ℕ) (ts : List Texts) → map (λ (t : Texts). (front ++ x ∷ []) ++ t) ts ≡ map (λ (t : Texts). front ++ t) (map (λ (t : Texts). x ∷ t) ts)
+longer_front : (front : Texts) (x : List ℕ) (ts : List Texts)
+    → map (λ (t : Texts). (front ++ x ∷ []) ++ t) ts ≡ map (λ (t : Texts). front ++ t) (map (λ (t : Texts). x ∷ t) ts)
 longer_front front x [] = refl
-longer_front front x (t ∷ ts) = ap₂ (λ (a : Texts) (b : List Texts). a ∷ b) (append_assoc front (x ∷ []) t) (longer_front front x ts)
+longer_front front x (t ∷ ts) = ap₂ (λ (a : Texts) (b : List Texts). a ∷ b) (append_assoc front (x ∷ []) t)
+    (longer_front front x ts)
 
 -- those of one text of the first list
-behind-one : (front : Texts) (x : List ℕ) (lists : List Texts) → behind front ((x ∷ []) ∷ lists) ≡ behind (front ++ x ∷ []) lists
+behind-one : (front : Texts) (x : List ℕ) (lists : List Texts)
+    → behind front ((x ∷ []) ∷ lists) ≡ behind (front ++ x ∷ []) lists
 behind-one front x lists =
-    ap (map (λ (t : Texts). front ++ t)) (append-nil (map (λ (t : Texts). x ∷ t) (tuples lists))) ∙ sym (longer_front front x (tuples lists))
+    ap (map (λ (t : Texts). front ++ t)) (append-nil (map (λ (t : Texts). x ∷ t) (tuples lists)))
+    ∙ sym (longer_front front x (tuples lists))
 
 -- one text more
-pub taken_more : (most : ℕ) (front xs : Texts) (x : List ℕ) (lists keys done next : List Texts) → done ≡ take most (keys ++ behind front (xs ∷ lists))
-    → next ≡ take most (done ++ behind (front ++ x ∷ []) lists) → next ≡ take most (keys ++ behind front ((xs ++ x ∷ []) ∷ lists))
+pub taken_more : (most : ℕ) (front xs : Texts) (x : List ℕ) (lists keys done next : List Texts)
+    → done ≡ take most (keys ++ behind front (xs ∷ lists))
+    → next ≡ take most (done ++ behind (front ++ x ∷ []) lists)
+    → next ≡ take most (keys ++ behind front ((xs ++ x ∷ []) ∷ lists))
 taken_more most front xs x lists keys done next before after =
     after ∙ (ap (λ (l : List Texts). take most (l ++ behind (front ++ x ∷ []) lists)) before
     ∙ (take_again most (keys ++ behind front (xs ∷ lists)) (behind (front ++ x ∷ []) lists)
     ∙ ap (take most) (append_assoc keys (behind front (xs ∷ lists)) (behind (front ++ x ∷ []) lists)
-    ∙ ap (λ (l : List Texts). keys ++ l) (ap (λ (l : List Texts). behind front (xs ∷ lists) ++ l) (sym (behind-one front x lists)) ∙ sym (behind-append front xs (x ∷ []) lists)))))
+    ∙ ap (λ (l : List Texts). keys ++ l)
+    (ap (λ (l : List Texts). behind front (xs ∷ lists) ++ l) (sym (behind-one front x lists))
+    ∙ sym (behind-append front xs (x ∷ []) lists)))))
 
 -- no more where there are enough
-pub taken_enough : (most : ℕ) (front xs ys : Texts) (lists keys done : List Texts) → done ≡ take most (keys ++ behind front (xs ∷ lists))
+pub taken_enough : (most : ℕ) (front xs ys : Texts) (lists keys done : List Texts)
+    → done ≡ take most (keys ++ behind front (xs ∷ lists))
     → most ≤ length done → done ≡ take most (keys ++ behind front ((xs ++ ys) ∷ lists))
 taken_enough most front xs ys lists keys done before enough =
-    let full : most ≤ length (take most (keys ++ behind front (xs ∷ lists))) = subst (λ (l : List Texts). most ≤ length l) before enough in
+    let full : most ≤ length (take most (keys ++ behind front (xs ∷ lists))) =
+    subst (λ (l : List Texts). most ≤ length l) before enough in
     before ∙ sym (ap (λ (l : List Texts). take most (keys ++ l)) (behind-append front xs ys lists)
     ∙ (ap (take most) (sym (append_assoc keys (behind front (xs ∷ lists)) (behind front (ys ∷ lists))))
     ∙ take_full most (keys ++ behind front (xs ∷ lists)) (behind front (ys ∷ lists)) full))
@@ -65,7 +80,8 @@ pub behind-nothing : (ts : List Texts) → map (λ (t : Texts). [] ++ t) ts ≡ 
 behind-nothing [] = refl
 behind-nothing (t ∷ ts) = ap (λ (l : List Texts). t ∷ l) (behind-nothing ts)
 
-pub one_more : (most : ℕ) (keys : List Texts) (key : Texts) → length keys < most → keys ++ key ∷ [] ≡ take most (keys ++ key ∷ [])
+pub one_more : (most : ℕ) (keys : List Texts) (key : Texts) → length keys < most
+    → keys ++ key ∷ [] ≡ take most (keys ++ key ∷ [])
 one_more most keys key room = sym (take_all most (keys ++ key ∷ []) (omega (arith, length-append keys (key ∷ []))))
 
 -- a list without texts leaves no tuple
@@ -84,40 +100,49 @@ last_of_front most keys lists front none room =
     ap (λ (key : Texts). keys ++ key ∷ []) (sym (append-nil front)) ∙ (one_more most keys (front ++ []) room
     ∙ ap (λ (l : List Texts). take most (keys ++ behind front l)) (sym none))
 
-pub none_taken : (most : ℕ) (keys lists : List Texts) (front : Texts) → length keys ≤ most → keys ≡ take most (keys ++ behind front ([] ∷ lists))
+pub none_taken : (most : ℕ) (keys lists : List Texts) (front : Texts) → length keys ≤ most
+    → keys ≡ take most (keys ++ behind front ([] ∷ lists))
 none_taken most keys lists front few = sym (ap (take most) (append-nil keys) ∙ take_all most keys few)
 
 -- a list of borrowed texts, none of which is there
 no_texts : {Z : Type 0} (list : Vec (Bor (List ℕ)) Z) → eqb (vec_len list) 0 ≡ true → lent list.items ≡ []
 no_texts list none = ap lent (nil_from_length list.items (omega (arith, eqb-true (vec_len list) 0 none, list.ok.0)))
 
-pub tuples-empty : {Z : Type 0} (lists : List (Vec (Bor (List ℕ)) Z)) → list_any (λ list. eqb (vec_len list) 0) lists ≡ true → tuples (map (λ list. lent list.items) lists) ≡ []
+pub tuples-empty : {Z : Type 0} (lists : List (Vec (Bor (List ℕ)) Z))
+    → list_any (λ list. eqb (vec_len list) 0) lists ≡ true → tuples (map (λ list. lent list.items) lists) ≡ []
 tuples-empty [] some = absurd (false≢true some)
-tuples-empty (list ∷ lists) some = elim (or_cases (eqb (vec_len list) 0) (list_any (λ l. eqb (vec_len l) 0) lists) some) [
-  | inl here ↦ ap (λ (texts : Texts). tuples (texts ∷ map (λ l. lent l.items) lists)) (no_texts list here)
-  | inr there ↦ tuples-none (lent list.items) (map (λ l. lent l.items) lists) (tuples-empty lists there)
-]
+tuples-empty (list ∷ lists) some =
+    elim (or_cases (eqb (vec_len list) 0) (list_any (λ l. eqb (vec_len l) 0) lists) some) [
+      | inl here ↦ ap (λ (texts : Texts). tuples (texts ∷ map (λ l. lent l.items) lists)) (no_texts list here)
+      | inr there ↦ tuples-none (lent list.items) (map (λ l. lent l.items) lists) (tuples-empty lists there)
+    ]
 
 -- the lists that the code makes are those of the definition
-pub lists_same : (tree : Tree) (exprs : List Expr) → map key_texts (map (λ e. texts_of (form_of e) tree) exprs) ≡ map (λ f. key_texts (texts_of f tree)) (map form_of exprs)
+pub lists_same : (tree : Tree) (exprs : List Expr)
+    → map key_texts (map (λ e. texts_of (form_of e) tree) exprs)
+    ≡ map (λ f. key_texts (texts_of f tree)) (map form_of exprs)
 lists_same tree [] = refl
 lists_same tree (e ∷ exprs) = ap (λ (l : List Texts). key_texts (texts_of (form_of e) tree) ∷ l) (lists_same tree exprs)
 
 -- the front without its last text
-pub popped : {Z : Type 0} (longer : Vec (Bor (List ℕ)) Z) (front rest : List (Bor (List ℕ))) (text : Bor (List ℕ)) → longer.items ≡ front ++ text ∷ []
+pub popped : {Z : Type 0} (longer : Vec (Bor (List ℕ)) Z) (front rest : List (Bor (List ℕ))) (text : Bor (List ℕ))
+    → longer.items ≡ front ++ text ∷ []
     → rest ≡ take (vec_len longer - 1) longer.items → rest ≡ front
 popped longer front rest text is left =
     left ∙ (ap (take (vec_len longer - 1)) is
-    ∙ take_at front (text ∷ []) (vec_len longer - 1) (omega (arith, longer.ok.0, ap length is, length-append front (text ∷ []))))
+    ∙ take_at front (text ∷ []) (vec_len longer - 1)
+    (omega (arith, longer.ok.0, ap length is, length-append front (text ∷ []))))
 
 pub taken_few : (most : ℕ) (done more : List Texts) → done ≡ take most more → length done ≤ most
 taken_few most done more e = omega (arith, ap length e, length-take most more)
 
 -- what the code makes is what the definition says
-pub keys_made : (tree : Tree) (exprs : List Expr) (lists : List Texts) → lists ≡ map (λ f. key_texts (texts_of f tree)) (map form_of exprs)
+pub keys_made : (tree : Tree) (exprs : List Expr) (lists : List Texts)
+    → lists ≡ map (λ f. key_texts (texts_of f tree)) (map form_of exprs)
     → take most ([] ++ behind [] lists) ≡ keys_of (map form_of exprs) tree
 keys_made tree exprs lists all = ap (take most) (behind-nothing (tuples lists) ∙ ap tuples all)
 
-pub no_keys : (tree : Tree) (exprs : List Expr) (lists : List Texts) → lists ≡ map (λ f. key_texts (texts_of f tree)) (map form_of exprs)
+pub no_keys : (tree : Tree) (exprs : List Expr) (lists : List Texts)
+    → lists ≡ map (λ f. key_texts (texts_of f tree)) (map form_of exprs)
     → tuples lists ≡ [] → keys_of (map form_of exprs) tree ≡ []
 no_keys tree exprs lists all none = ap (take most) (sym (ap tuples all) ∙ none)

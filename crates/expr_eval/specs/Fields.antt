@@ -1,7 +1,8 @@
 -- What a field has in a content tree.
 use Rattle.std.specs.Prelude.{ℕ, List, [], ◌∷◌, ◌++◌, if◌then◌else◌}
 use Rattle.std.specs.Str.{bytes_eq}
-use Rattle.content.specs.Tree.{Tree, null, boolean, whole, text, list, object, Items, no_items, item, Fields, no_fields, field}
+use Rattle.content.specs.Tree.{Tree, null, boolean, whole, text, list, object, Items, no_items, item, Fields, no_fields}
+use Rattle.content.specs.Tree.{field}
 use Rattle.expr_eval.specs.declared.value.Value.{Value}
 use Rattle.expr_eval.specs.declared.value.Value.TheVariants.{Text, Whole, Truth}
 
@@ -19,8 +20,8 @@ abbrev pub own_values : Items → List Value
 own_values no_items = []
 own_values (item t ts) = own_value t ++ own_values ts
 
--- the values of a field by its parts, the outermost first. A part leads into the member of an object that has this name,
--- and it goes into each item of a list. Where no part is left, a tree gives itself, and a list its items.
+-- the values of a field by its parts, the outermost first. A part leads into the member of an object that has this
+-- name, and it goes into each item of a list. Where no part is left, a tree gives itself, and a list its items.
 abbrev mutual
   pub field_values : Tree → List (List ℕ) → List Value
   field_values (list ts) [] = own_values ts

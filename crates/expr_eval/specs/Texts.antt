@@ -1,5 +1,6 @@
 -- The texts that transforms make of one value.
-use Rattle.std.specs.Prelude.{ℕ, ◌-◌, suc, Bool, true, false, ℤ, pos, negsuc, List, ◌∷◌, ◌++◌, length, replicate, codes, encode_utf8_all}
+use Rattle.std.specs.Prelude.{ℕ, ◌-◌, suc, Bool, true, false, ℤ, pos, negsuc, List, ◌∷◌, ◌++◌, length, replicate, codes}
+use Rattle.std.specs.Prelude.{encode_utf8_all}
 use Rattle.std.specs.Fmt.{decimal}
 use Rattle.std.specs.Str.{chars}
 use Rattle.unicode.specs.Caseless.Caseless.{default_case_fold}

@@ -39,7 +39,8 @@ fn values_given(alloc: Global, expr: &Expr, root: &Json) -> Result<Vec<Value>, M
 // Adds the values that the expression gives.
 #[cycle(values)]
 fn add_values(alloc: Global, expr: &Expr, root: &Json, out: &mut Vec<Value>) -> Result<(), Memory>
-    ensures { OnOk result (out.new.items ≡ out.old.items ++ values_of (form_of expr.now) (tree_of root.now)) }
+    ensures { OnOk result (out.new.items ≡ out.old.items
+        ++ values_of (form_of expr.now) (tree_of root.now)) }
 {
     match expr {
         Expr::Field(path) => add_field_values(root, path.parts(), out),
@@ -67,7 +68,8 @@ fn add_values_of_each(
     root: &Json,
     out: &mut Vec<Value>,
 ) -> Result<(), Memory>
-    ensures { OnOk result (out.new.items ≡ out.old.items ++ values_of_each (forms_of_all exprs.now.items) (tree_of root.now)) }
+    ensures { OnOk result (out.new.items ≡ out.old.items
+        ++ values_of_each (forms_of_all exprs.now.items) (tree_of root.now)) }
 {
     for expr in exprs {
         add_values(alloc, expr, root, out)?;
@@ -85,7 +87,8 @@ fn texts_from(alloc: Global, given: Vec<Value>) -> Result<Vec<Text>, AllocError>
 }
 
 fn add_folded(alloc: Global, given: &[Value], out: &mut Vec<Value>) -> Result<(), Memory>
-    ensures { OnOk result (out.new.items ≡ out.old.items ++ map Value.Text (map folded (texts_in given.now))) }
+    ensures { OnOk result (out.new.items ≡ out.old.items
+        ++ map Value.Text (map folded (texts_in given.now))) }
 {
     let texts = texts_among(alloc, given)?;
     for text in &texts {
@@ -95,7 +98,8 @@ fn add_folded(alloc: Global, given: &[Value], out: &mut Vec<Value>) -> Result<()
 }
 
 fn add_words_once(alloc: Global, given: &[Value], out: &mut Vec<Value>) -> Result<(), Memory>
-    ensures { OnOk result (out.new.items ≡ out.old.items ++ map Value.Text (distinct (flat_map words_in (texts_in given.now)))) }
+    ensures { OnOk result (out.new.items ≡ out.old.items
+        ++ map Value.Text (distinct (flat_map words_in (texts_in given.now)))) }
 {
     let texts = texts_among(alloc, given)?;
     let words = words_among(alloc, &texts)?;
@@ -118,7 +122,8 @@ fn add_numbers(
     width: u8,
     out: &mut Vec<Value>,
 ) -> Result<(), Memory>
-    ensures { OnOk result (out.new.items ≡ out.old.items ++ map Value.Text (map (number_text width) (wholes_in given.now))) }
+    ensures { OnOk result (out.new.items ≡ out.old.items
+        ++ map Value.Text (map (number_text width) (wholes_in given.now))) }
 {
     let numbers = wholes_among(alloc, given)?;
     for number in &numbers {
@@ -128,7 +133,8 @@ fn add_numbers(
 }
 
 fn add_truths(alloc: Global, given: &[Value], out: &mut Vec<Value>) -> Result<(), Memory>
-    ensures { OnOk result (out.new.items ≡ out.old.items ++ map Value.Text (map truth_text (truths_in given.now))) }
+    ensures { OnOk result (out.new.items ≡ out.old.items
+        ++ map Value.Text (map truth_text (truths_in given.now))) }
 {
     let truths = truths_among(alloc, given)?;
     for truth in &truths {

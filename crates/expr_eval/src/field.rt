@@ -1,7 +1,8 @@
 //! The values of a field.
 ghost use Rattle.std.specs.Prelude.{◌≡◌, ◌++◌, OnOk};
 ghost use Rattle.content.specs.TreeOf.{fields_view, items_view, tree_of};
-ghost use Rattle.expr_eval.specs.Fields.{field_values, item_values, member_values, own_value, own_values};
+ghost use Rattle.expr_eval.specs.Fields.{field_values, item_values, member_values, own_value};
+ghost use Rattle.expr_eval.specs.Fields.{own_values};
 
 use crate::value::Value;
 use content::{Field, Json};
@@ -14,7 +15,8 @@ pub(crate) fn add_field_values(
     parts: &[Text],
     out: &mut Vec<Value>,
 ) -> Result<(), Memory>
-    ensures { OnOk result (out.new.items ≡ out.old.items ++ field_values (tree_of json.now) parts.now) }
+    ensures { OnOk result (out.new.items ≡ out.old.items
+        ++ field_values (tree_of json.now) parts.now) }
 {
     match json {
         Json::List(items) => if parts.is_empty() {
@@ -36,7 +38,8 @@ pub(crate) fn add_field_values(
 
 #[cycle(fields)]
 fn add_item_values(items: &Vec<Json>, parts: &[Text], out: &mut Vec<Value>) -> Result<(), Memory>
-    ensures { OnOk result (out.new.items ≡ out.old.items ++ item_values (items_view items.now.items) parts.now) }
+    ensures { OnOk result (out.new.items ≡ out.old.items
+        ++ item_values (items_view items.now.items) parts.now) }
 {
     for item in items {
         add_field_values(item, parts, out)?;
@@ -51,7 +54,8 @@ fn add_member_values(
     parts: &[Text],
     out: &mut Vec<Value>,
 ) -> Result<(), Memory>
-    ensures { OnOk result (out.new.items ≡ out.old.items ++ member_values (fields_view fields.now.items) name.now parts.now) }
+    ensures { OnOk result (out.new.items ≡ out.old.items
+        ++ member_values (fields_view fields.now.items) name.now parts.now) }
 {
     for field in fields {
         if field.name == *name {
@@ -62,7 +66,8 @@ fn add_member_values(
 }
 
 fn add_own_values(items: &Vec<Json>, out: &mut Vec<Value>) -> Result<(), Memory>
-    ensures { OnOk result (out.new.items ≡ out.old.items ++ own_values (items_view items.now.items)) }
+    ensures { OnOk result (out.new.items ≡ out.old.items
+        ++ own_values (items_view items.now.items)) }
 {
     for item in items {
         add_own_value(item, out)?;

@@ -1,4 +1,5 @@
-//! What index expressions give for a document: the values of one expression, and the keys of several.
+//! What index expressions give for a document: the values of one expression, and the keys of
+//! several.
 //!
 //! Both are lists by recursion on the expression and the content tree (`specs/Values.antt`,
 //! `specs/Keys.antt`). They fail only where memory runs out.

@@ -1,5 +1,6 @@
 //! The keys of a content: the product of the texts of several expressions.
-ghost use Rattle.std.specs.Prelude.{◌≡◌, ◌≢◌, ◌==◌, ◌+◌, ◌<◌, ◌≤◌, ◌++◌, ◌∷◌, [], IfOk, OnOk, length, map, take, filter, nat_le, vec_len};
+ghost use Rattle.std.specs.Prelude.{◌≡◌, ◌≢◌, ◌==◌, ◌+◌, ◌<◌, ◌≤◌, ◌++◌, ◌∷◌, [], IfOk, OnOk};
+ghost use Rattle.std.specs.Prelude.{length, map, take, filter, nat_le, vec_len};
 ghost use Rattle.std.specs.List.{All, AllPairs, list_any};
 ghost use Rattle.content.specs.TreeOf.{tree_of};
 ghost use Rattle.expr_parser.specs.FormOf.{form_of};
@@ -22,7 +23,8 @@ use u1_base::{Key, Keys, Memory, Text, Texts};
 pub fn keys(alloc: Global, exprs: &[Expr], root: &Json) -> Result<Keys, Memory>
     requires some { 1 ≤ length exprs.now }
     requires few { length exprs.now ≤ most_exprs }
-    ensures value { IfOk result (λ keys. keys ≡ keys_of (map form_of exprs.now) (tree_of root.now)) }
+    ensures value { IfOk result
+        (λ keys. keys ≡ keys_of (map form_of exprs.now) (tree_of root.now)) }
     ensures widths { IfOk result (λ keys. All (λ key. length key ≡ length exprs.now) keys) }
     ensures distinct { IfOk result (λ keys. AllPairs (λ key other. key ≢ other) keys) }
 {
@@ -38,7 +40,8 @@ pub fn keys(alloc: Global, exprs: &[Expr], root: &Json) -> Result<Keys, Memory>
 }
 
 fn texts_of_each(alloc: Global, exprs: &[Expr], root: &Json) -> Result<Vec<Texts>, Memory>
-    ensures { IfOk result (λ lists. lists.items ≡ map (λ e. texts_of (form_of e) (tree_of root.now)) exprs.now) }
+    ensures { IfOk result (λ lists. lists.items
+        ≡ map (λ e. texts_of (form_of e) (tree_of root.now)) exprs.now) }
 {
     let mut lists = Vec::with_capacity(alloc, exprs.len())?;
     for expr in exprs {
@@ -48,7 +51,8 @@ fn texts_of_each(alloc: Global, exprs: &[Expr], root: &Json) -> Result<Vec<Texts
 }
 
 fn key_texts_of_each<'t>(alloc: Global, given: &'t [Texts]) -> Result<Vec<Vec<&'t str>>, Memory>
-    ensures { IfOk result (λ lists. map (λ list. lent list.items) lists.items ≡ map key_texts given.now) }
+    ensures { IfOk result (λ lists. map (λ list. lent list.items) lists.items
+        ≡ map key_texts given.now) }
 {
     let mut lists = Vec::with_capacity(alloc, given.len())?;
     for texts in given {
@@ -66,7 +70,8 @@ fn key_texts_among<'t>(alloc: Global, texts: &'t [Text]) -> Result<Vec<&'t str>,
 }
 
 fn short_texts<'t>(alloc: Global, texts: &'t [Text]) -> Result<Vec<&'t str>, Memory>
-    ensures { IfOk result (λ short. lent short.items ≡ filter (λ text. nat_le (length text) longest) texts.now) }
+    ensures { IfOk result (λ short. lent short.items
+        ≡ filter (λ text. nat_le (length text) longest) texts.now) }
 {
     let mut short = Vec::with_capacity(alloc, texts.len())?;
     for text in texts {
@@ -84,7 +89,8 @@ fn has_empty(lists: &[Vec<&str>]) -> bool
     lists.iter().any(|list| list.is_empty())
 }
 
-// Adds the keys that begin with the front and go on with one text of each list, until there are 4,096.
+// Adds the keys that begin with the front and go on with one text of each list, until there are
+// 4,096.
 #[cycle(product)]
 fn add_keys<'t>(
     alloc: Global,
@@ -96,7 +102,9 @@ fn add_keys<'t>(
     requires few { vec_len front.old + length lists.now ≤ 8 }
     requires room { length keys.old < most }
     ensures front { OnOk result (front.new.items ≡ front.old.items) }
-    ensures keys { OnOk result (keys.new ≡ take most (keys.old ++ behind (lent front.old.items) (map (λ list. lent list.items) lists.now))) }
+    ensures keys { OnOk result
+        (keys.new ≡ take most (keys.old
+        ++ behind (lent front.old.items) (map (λ list. lent list.items) lists.now))) }
 {
     match lists.split_first() {
         None => {
@@ -122,7 +130,10 @@ fn add_keys_of_each<'t>(
     requires few { vec_len front.old + length others.now < 8 }
     requires room { length keys.old ≤ most }
     ensures front { OnOk result (front.new.items ≡ front.old.items) }
-    ensures keys { OnOk result (keys.new ≡ take most (keys.old ++ behind (lent front.old.items) (lent texts.now ∷ map (λ list. lent list.items) others.now))) }
+    ensures keys { OnOk result
+        (keys.new ≡ take most (keys.old
+        ++ behind (lent front.old.items)
+        (lent texts.now ∷ map (λ list. lent list.items) others.now))) }
 {
     for text in texts {
         if keys.len() >= MOST_DOCUMENT_KEYS {

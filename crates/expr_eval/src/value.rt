@@ -1,6 +1,7 @@
 //! What fields have and expressions give.
 ghost use Rattle.std.specs.Prelude.{◌≡◌, ◌++◌, ◌∷◌, [], IfOk, OnOk};
-ghost use Rattle.expr_eval.specs.Kinds.{text_of, texts_in, truth_of, truths_in, whole_of, wholes_in};
+ghost use Rattle.expr_eval.specs.Kinds.{text_of, texts_in, truth_of, truths_in, whole_of};
+ghost use Rattle.expr_eval.specs.Kinds.{wholes_in};
 ghost use Rattle.expr_eval.specs.Lent.{lent};
 
 use std::alloc::{AllocError, Global};
@@ -60,7 +61,8 @@ pub(crate) fn texts_among<'t>(
 
 // Adds the value if it is a text.
 fn add_text<'t>(value: &'t Value, texts: &mut Vec<&'t str>) -> Result<(), AllocError>
-    ensures { OnOk result (lent texts.new.items ≡ lent texts.old.items ++ texts_in (value.now ∷ [])) }
+    ensures { OnOk result (lent texts.new.items ≡ lent texts.old.items
+        ++ texts_in (value.now ∷ [])) }
 {
     match value {
         Value::Text(text) => {

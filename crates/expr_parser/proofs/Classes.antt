@@ -1,5 +1,6 @@
 -- What the classes of characters exclude.
-use Rattle.std.proofs.Common.{◌≡◌, ℕ, ◌+◌, ◌-◌, ◌*◌, ◌<◌, ◌≤◌, Bool, true, false, ◌⊎◌, eqb, refl, subst, eqb-true, arith, inl, inr}
+use Rattle.std.proofs.Common.{◌≡◌, ℕ, ◌+◌, ◌-◌, ◌*◌, ◌<◌, ◌≤◌, Bool, true, false, ◌⊎◌, eqb, refl, subst, eqb-true}
+use Rattle.std.proofs.Common.{arith, inl, inr}
 use Rattle.std.proofs.lemmas.Bool.Decides.{nat_tests}
 use Rattle.u1_base.proofs.Booleans.{none_true}
 use Rattle.expr_parser.specs.Grammar.{is_white, is_part}
@@ -50,7 +51,8 @@ is_part-a = refl
 -- white space is none of the marks
 pub white_not_mark : (mark c : ℕ) → is_white mark ≡ false → is_white c ≡ true → eqb c mark ≡ false
 white_not_mark mark c not_white white =
-    none_true (eqb c mark) (λ same. let e : c ≡ mark = eqb-true c mark same in let w : is_white mark ≡ true = subst (λ x. is_white x ≡ true) e white in cc)
+    none_true (eqb c mark) (λ same. let e : c ≡ mark = eqb-true c mark same
+    in let w : is_white mark ≡ true = subst (λ x. is_white x ≡ true) e white in cc)
 
 pub digit_not_white : (c : ℕ) → 48 ≤ c → c ≤ 57 → is_white c ≡ false
 unfolding is_white
@@ -90,7 +92,8 @@ goes_on-outside n c (inl low) =
 goes_on-outside n c (inr high) =
     none_true (goes_on n c) (λ e. let p = goes_on-parts n c e in omega (arith, p.high, high.1))
 
-pub goes_on-too_far : (n c m : ℕ) → m ≡ n → (m * 10 + (c - 48) < 1) ⊎ ((1 ≤ m * 10 + (c - 48)) × (128 < m * 10 + (c - 48))) → goes_on n c ≡ false
+pub goes_on-too_far : (n c m : ℕ) → m ≡ n → (m * 10 + (c - 48) < 1)
+    ⊎ ((1 ≤ m * 10 + (c - 48)) × (128 < m * 10 + (c - 48))) → goes_on n c ≡ false
 goes_on-too_far n c m same (inl few) =
     none_true (goes_on n c) (λ e. let p = goes_on-parts n c e in let q = p.some in omega arith)
 goes_on-too_far n c m same (inr far) =

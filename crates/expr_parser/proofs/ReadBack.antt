@@ -1,5 +1,6 @@
 -- A text spells one form at most, and is read as it. The canonical texts of two expressions differ.
-use Rattle.std.proofs.Common.{◌≡◌, ℕ, ◌≤◌, Bool, true, false, cond, ◌&&◌, nat_le, ◌↔◌, List, [], ◌∷◌, map, length, Option, Some, None, Result, Ok, Err, chars, refl, sym, ◌∙◌, ap, ap₂, arith}
+use Rattle.std.proofs.Common.{◌≡◌, ℕ, ◌≤◌, Bool, true, false, cond, ◌&&◌, nat_le, ◌↔◌, List, [], ◌∷◌, map, length}
+use Rattle.std.proofs.Common.{Option, Some, None, Result, Ok, Err, chars, refl, sym, ◌∙◌, ap, ap₂, arith}
 use Rattle.std.proofs.lemmas.Bool.{and_parts, and_from, leb-true, le-leb, false≢true}
 use Rattle.std.proofs.lemmas.List.{length-map}
 use Rattle.std.proofs.lemmas.Slice.Eq.{bytes_eq-Decides}

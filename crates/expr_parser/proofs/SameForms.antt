@@ -1,5 +1,6 @@
 -- The test tells equality of forms.
-use Rattle.std.proofs.Common.{◌≡◌, ℕ, Bool, true, false, ◌&&◌, ◌↔◌, eqb, eqb-true, eq-eqb, IsTrue, List, [], ◌∷◌, length, refl, sym, ◌∙◌, ap, arith}
+use Rattle.std.proofs.Common.{◌≡◌, ℕ, Bool, true, false, ◌&&◌, ◌↔◌, eqb, eqb-true, eq-eqb, IsTrue, List, [], ◌∷◌}
+use Rattle.std.proofs.Common.{length, refl, sym, ◌∙◌, ap, arith}
 use Rattle.std.proofs.lemmas.Bool.{and_parts, and_from, false≢true}
 use Rattle.std.proofs.lemmas.Slice.Eq.{bytes_eq-Decides, slice_eq-Decides}
 use Rattle.expr_parser.specs.declared.expr.Expr.{Expr}
@@ -52,7 +53,8 @@ same_tells f g b e =
     (λ yes. same_is f g (sym e ∙ yes), λ same. e ∙ (ap (is_same f) (sym same) ∙ same_as_itself f))
 
 -- lists of two lengths differ
-pub other_length : (xs ys : List Expr) → (length xs ≡ length ys → ⊥) → are_same (forms_of_all xs) (forms_of_all ys) ≡ false
+pub other_length : (xs ys : List Expr) → (length xs ≡ length ys → ⊥)
+    → are_same (forms_of_all xs) (forms_of_all ys) ≡ false
 other_length [] [] h = absurd (h refl)
 other_length [] (y ∷ ys) h = refl
 other_length (x ∷ xs) [] h = refl

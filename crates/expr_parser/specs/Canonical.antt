@@ -23,4 +23,5 @@ abbrev mutual
 
 -- where some text spells the form, this spelling does too, and has no more bytes
 abbrev pub IsShortest : Form → List ℕ → Type 0
-IsShortest f spelling = (text : List ℕ) → IsUtf8 text → Spells f (chars text) → Spells f (chars spelling) × (length spelling ≤ length text)
+IsShortest f spelling = (text : List ℕ) → IsUtf8 text → Spells f (chars text) → Spells f (chars spelling)
+    × (length spelling ≤ length text)

@@ -1,5 +1,6 @@
 -- The expression that a text reads as, and the texts that an index keeps of its expressions.
-use Rattle.std.specs.Prelude.{◌≡◌, ◌↔◌, ℕ, ◌≤◌, Bool, false, ◌&&◌, nat_le, IsTrue, if◌then◌else◌, List, length, map, Option, Some, None}
+use Rattle.std.specs.Prelude.{◌≡◌, ◌↔◌, ℕ, ◌≤◌, Bool, false, ◌&&◌, nat_le, IsTrue, if◌then◌else◌, List, length, map}
+use Rattle.std.specs.Prelude.{Option, Some, None}
 use Rattle.std.specs.List.{All, filter_map, list_all}
 use Rattle.std.specs.Result.{result_ok}
 use Rattle.std.specs.Str.{IsUtf8, is_utf8, bytes_eq, chars}

@@ -1,5 +1,6 @@
 //! The descent through a text, one function for each rule of the grammar.
-ghost use Rattle.std.specs.Prelude.{◌≡◌, ℕ, ◌<◌, ◌≤◌, [], ◌∷◌, ◌++◌, OnOk, IfOk, IfNone, MatchOption, length, map, Ok, Err, Result, List};
+ghost use Rattle.std.specs.Prelude.{◌≡◌, ℕ, ◌<◌, ◌≤◌, [], ◌∷◌, ◌++◌, OnOk, IfOk, IfNone};
+ghost use Rattle.std.specs.Prelude.{MatchOption, length, map, Ok, Err, Result, List};
 ghost use Rattle.expr_parser.specs.Forms.{Form, combine, field, number};
 ghost use Rattle.expr_parser.specs.FormOf.{form_of, forms_of_all};
 ghost use Rattle.expr_parser.specs.Grammar.{is_part, is_white};
@@ -15,7 +16,8 @@ use u1_base::{Memory, Text, Texts};
 /// Why a reading stops.
 #[derive(Clone, Copy, Debug, PartialEq, Eq)]
 pub(crate) enum Stop {
-    /// What is left begins with a character that cannot stand there, or nothing is left and more has to come.
+    /// What is left begins with a character that cannot stand there, or nothing is left and more
+    /// has to come.
     Here,
     Memory,
 }
@@ -109,8 +111,10 @@ fn some_part<'t>(reader: &mut Reader<'t>) -> Result<&'t str, Stop>
 fn bracket(reader: &mut Reader<'_>, words: &Words<'_>) -> Option<Transform>
     requires { Fails is_white reader.old }
     ensures goes { MatchOption result
-        ((K : Open) → run (behind K words.now.parts words.now.last.now) reader.old ≡ run (done K (field (words.now.parts ++ words.now.last.now ∷ []))) reader.new)
-        (λ t. (K : Open) → run (behind K words.now.parts words.now.last.now) reader.old ≡ run (begin (within t K)) reader.new) }
+        ((K : Open) → run (behind K words.now.parts words.now.last.now) reader.old
+        ≡ run (done K (field (words.now.parts ++ words.now.last.now ∷ []))) reader.new)
+        (λ t. (K : Open) → run (behind K words.now.parts words.now.last.now) reader.old
+        ≡ run (begin (within t K)) reader.new) }
     ensures shorter { length reader.new ≤ length reader.old }
     ensures none { IfNone result (reader.new ≡ reader.old) }
 {
@@ -140,7 +144,8 @@ fn path_of(alloc: Global, parts: Texts, last: &str) -> Result<Path, Memory>
 // Reads what stands in the brackets of a transform, the closing bracket and white space behind it.
 #[cycle(descent)]
 fn call(alloc: Global, reader: &mut Reader<'_>, transform: Transform) -> Result<Expr, Stop>
-    ensures goes { Goes (λ K. begin (within transform K)) (λ e K. done K (form_of e)) reader.old reader.new result }
+    ensures goes { Goes (λ K. begin (within transform K))
+        (λ e K. done K (form_of e)) reader.old reader.new result }
     ensures past { OnOk result (Fails is_white reader.new) }
     ensures shorter { OnOk result (length reader.new < length reader.old) }
 {
@@ -162,7 +167,8 @@ fn applied(
     first: Expr,
 ) -> Result<Expr, Stop>
     requires { Fails is_white reader.old }
-    ensures goes { Goes (λ K. done (within transform K) (form_of first)) (λ e K. ready K (form_of e)) reader.old reader.new result }
+    ensures goes { Goes (λ K. done (within transform K) (form_of first))
+        (λ e K. ready K (form_of e)) reader.old reader.new result }
     ensures shorter { OnOk result (length reader.new ≤ length reader.old) }
 {
     match transform {
@@ -184,7 +190,8 @@ fn applied(
 #[cycle(descent)]
 fn arguments(alloc: Global, reader: &mut Reader<'_>, first: Expr) -> Result<Vec<Expr>, Stop>
     requires { Fails is_white reader.old }
-    ensures goes { Goes (λ K. done (within Transform.Combine K) (form_of first)) (λ all K. ready K (combine (forms_of_all all.items))) reader.old reader.new result }
+    ensures goes { Goes (λ K. done (within Transform.Combine K) (form_of first))
+        (λ all K. ready K (combine (forms_of_all all.items))) reader.old reader.new result }
     ensures shorter { OnOk result (length reader.new ≤ length reader.old) }
 {
     let mut all = Vec::new(alloc);
@@ -199,7 +206,9 @@ fn arguments(alloc: Global, reader: &mut Reader<'_>, first: Expr) -> Result<Vec<
 // Reads the comma and the width, with white space round it.
 fn width_behind(reader: &mut Reader<'_>) -> Result<u8, Stop>
     requires { Fails is_white reader.old }
-    ensures goes { (f : Form) → Goes (λ K. done (within Transform.Number K) f) (λ n K. ready K (number f n)) reader.old reader.new result }
+    ensures goes { (f : Form)
+        → Goes (λ K. done (within Transform.Number K) f)
+        (λ n K. ready K (number f n)) reader.old reader.new result }
     ensures shorter { OnOk result (length reader.new ≤ length reader.old) }
 {
     if !reader.takes(',') {

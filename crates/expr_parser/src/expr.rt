@@ -12,7 +12,8 @@ use std::alloc::Global;
 use u1_base::limits::MOST_EXPRESSION_BYTES;
 use u1_base::{Items, Memory, Text};
 
-/// An index expression: a field, or a transform of what other expressions give (U1DB's index expressions).
+/// An index expression: a field, or a transform of what other expressions give (U1DB's index
+/// expressions).
 #[derive(Debug, Drop)]
 pub enum Expr {
     Field(Path),
@@ -40,7 +41,8 @@ impl Expr {
 
     /// Reads an expression from the whole of the text, which has at most 512 bytes.
     ///
-    /// `At` carries the length in bytes of the longest front of the text that some expression begins with.
+    /// `At` carries the length in bytes of the longest front of the text that some expression
+    /// begins with.
     pub fn read(alloc: Global, text: &str) -> Result<Expr, ParseFault>
         ensures reads { IfOk result (λ e. expr_in text.now ≡ Some (form_of e)) }
         ensures expr { IfOk result (λ e. IsExpr (form_of e)) }

@@ -7,7 +7,8 @@ use std::fmt;
 pub enum ParseFault {
     /// Longer than 512 bytes.
     TooLong,
-    /// The length in bytes of the longest front of the text that some expression begins with, of any length.
+    /// The length in bytes of the longest front of the text that some expression begins with, of
+    /// any length.
     At(u64),
     Memory,
 }

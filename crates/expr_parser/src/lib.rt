@@ -1,8 +1,8 @@
 //! Index expressions: which fields of a document an index takes, and what it makes of them.
 //!
-//! `Expr::read` reads every text of the grammar in `specs/Grammar.antt` that has at most 512 bytes, and no other;
-//! a refused text comes with the place where it goes wrong. `Expr::text` writes the one spelling without white
-//! space. Contracts see an expression as the plain tree `form_of` it.
+//! `Expr::read` reads every text of the grammar in `specs/Grammar.antt` that has at most 512 bytes,
+//! and no other; a refused text comes with the place where it goes wrong. `Expr::text` writes the
+//! one spelling without white space. Contracts see an expression as the plain tree `form_of` it.
 #![tactic(auto)]
 
 mod copy;

@@ -1,5 +1,6 @@
 //! A text that is read from its front.
-ghost use Rattle.std.specs.Prelude.{◌≡◌, ℕ, ◌+◌, ◌-◌, ◌*◌, ◌<◌, ◌≤◌, ◌==◌, [], ◌∷◌, true, false, MatchBool, MatchOption, length, encode_utf8_all};
+ghost use Rattle.std.specs.Prelude.{◌≡◌, ℕ, ◌+◌, ◌-◌, ◌*◌, ◌<◌, ◌≤◌, ◌==◌, [], ◌∷◌, true, false};
+ghost use Rattle.std.specs.Prelude.{MatchBool, MatchOption, length, encode_utf8_all};
 ghost use Rattle.std.specs.Str.{chars};
 ghost use Rattle.expr_parser.specs.Grammar.{is_part, is_white};
 ghost use Rattle.expr_parser.specs.Descent.{Fails, front_of, rest_of};
@@ -54,7 +55,8 @@ impl<'t> Reader<'t> {
 
     /// Passes the mark, if the text begins with it.
     pub fn takes(&mut self, mark: char) -> bool
-        ensures { MatchBool result (self.old ≡ mark ∷ self.new) ((self.new ≡ self.old) × Fails (λ c. c == mark) self.old) }
+        ensures { MatchBool result (self.old ≡ mark ∷ self.new)
+            ((self.new ≡ self.old) × Fails (λ c. c == mark) self.old) }
     {
         match first_of(self.rest) {
             Some((first, rest)) => {
@@ -79,12 +81,14 @@ impl<'t> Reader<'t> {
         part
     }
 
-    /// Passes one more digit of a number from 1 to 128, if one follows, and gives the number with it.
+    /// Passes one more digit of a number from 1 to 128, if one follows, and gives the number with
+    /// it.
     pub fn digit_behind(&mut self, number: u8) -> Option<u8>
         requires { number ≤ 128 }
         ensures { MatchOption result
             ((self.new ≡ self.old) × Fails (goes_on number) self.old)
-            (λ longer. (c : ℕ) × (self.old ≡ c ∷ self.new) × (goes_on number c ≡ true) × (longer ≡ number * 10 + (c - 48))) }
+            (λ longer. (c : ℕ) × (self.old ≡ c ∷ self.new) × (goes_on number c ≡ true)
+            × (longer ≡ number * 10 + (c - 48))) }
     {
         match first_of(self.rest) {
             Some((first, rest)) => match number_with(number, first) {

@@ -12,7 +12,8 @@ use u1_base::Memory;
 // Adds the spelling at the end. At an error a front of it was added.
 #[cycle(spelling)]
 pub(crate) fn spell(expr: &Expr, out: &mut String) -> Result<(), Memory>
-    ensures { OnOk result (string_bytes out.new ≡ string_bytes out.old ++ canonical (form_of expr.now)) }
+    ensures { OnOk result (string_bytes out.new ≡ string_bytes out.old
+        ++ canonical (form_of expr.now)) }
 {
     match expr {
         Expr::Field(path) => spell_path(path, out),
@@ -26,7 +27,8 @@ pub(crate) fn spell(expr: &Expr, out: &mut String) -> Result<(), Memory>
 
 #[cycle(spelling)]
 fn spell_call(word: &str, argument: &Expr, out: &mut String) -> Result<(), Memory>
-    ensures { OnOk result (string_bytes out.new ≡ string_bytes out.old ++ (word.now ++ (canonical (form_of argument.now) ++ codes ")"))) }
+    ensures { OnOk result (string_bytes out.new ≡ string_bytes out.old
+        ++ (word.now ++ (canonical (form_of argument.now) ++ codes ")"))) }
 {
     out.push_str(word)?;
     spell(argument, out)?;
@@ -36,7 +38,8 @@ fn spell_call(word: &str, argument: &Expr, out: &mut String) -> Result<(), Memor
 
 #[cycle(spelling)]
 fn spell_number(argument: &Expr, width: u8, out: &mut String) -> Result<(), Memory>
-    ensures { OnOk result (string_bytes out.new ≡ string_bytes out.old ++ canonical (number (form_of argument.now) width)) }
+    ensures { OnOk result (string_bytes out.new ≡ string_bytes out.old
+        ++ canonical (number (form_of argument.now) width)) }
 {
     out.push_str("number(")?;
     spell(argument, out)?;
@@ -46,7 +49,8 @@ fn spell_number(argument: &Expr, width: u8, out: &mut String) -> Result<(), Memo
 
 #[cycle(spelling)]
 fn spell_combine(arguments: &Vec<Expr>, out: &mut String) -> Result<(), Memory>
-    ensures { OnOk result (string_bytes out.new ≡ string_bytes out.old ++ canonical (combine (forms_of_all arguments.now.items))) }
+    ensures { OnOk result (string_bytes out.new ≡ string_bytes out.old
+        ++ canonical (combine (forms_of_all arguments.now.items))) }
 {
     out.push_str("combine(")?;
     let mut mark = "";
@@ -60,7 +64,8 @@ fn spell_combine(arguments: &Vec<Expr>, out: &mut String) -> Result<(), Memory>
 }
 
 fn spell_path(path: &Path, out: &mut String) -> Result<(), Memory>
-    ensures { OnOk result (string_bytes out.new ≡ string_bytes out.old ++ join_with_byte 46 path.now) }
+    ensures { OnOk result (string_bytes out.new ≡ string_bytes out.old
+        ++ join_with_byte 46 path.now) }
 {
     let mut mark = "";
     for part in path.parts() {

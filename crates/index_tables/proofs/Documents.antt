@@ -1,5 +1,6 @@
 -- A table follows the documents that it is of.
-use Rattle.std.proofs.Common.{◌≡◌, ℕ, Bool, true, false, cond, not, ◌&&◌, ◌||◌, List, [], ◌∷◌, ◌++◌, length, refl, sym, subst, ◌∙◌, ap, ap₂, Option, Some, None}
+use Rattle.std.proofs.Common.{◌≡◌, ℕ, Bool, true, false, cond, not, ◌&&◌, ◌||◌, List, [], ◌∷◌, ◌++◌, length, refl, sym}
+use Rattle.std.proofs.Common.{subst, ◌∙◌, ap, ap₂, Option, Some, None}
 use Rattle.std.proofs.lemmas.List.Elements.{All-nil, All-cons, All-head, All-tail}
 use Rattle.std.specs.Cmp.Lexicographic.{nat_list_cmp_total}
 use Rattle.std.specs.FinMap.Entries.{find, put, find-put, find-append}
@@ -32,27 +33,35 @@ module _ (documents : Documents) (entries : List Entry) (id : List ℕ) (is : Is
   left p =
       has-filter (λ q. not (has (entries_of id (keys_at documents id)) q)) entries p
       ∙ ap (λ (b : Bool). not b && has entries p) (has-entries_of id (keys_at documents id) p)
-      ∙ elim (same_id p.1 id) as (λ (b : Bool). same_id p.1 id ≡ b → (not (b && has_key (keys_at documents id) p.0) && has entries p) ≡ (not b && has entries p)) [
-        | true ↦ λ e. ap (λ (b : Bool). not (has_key (keys_at documents id) p.0) && b) (stood p e) ∙ not_and (has_key (keys_at documents id) p.0)
+      ∙ elim (same_id p.1 id) as (λ (b : Bool). same_id p.1 id ≡ b
+      → (not (b && has_key (keys_at documents id) p.0) && has entries p) ≡ (not b && has entries p)) [
+        | true ↦ λ e. ap (λ (b : Bool). not (has_key (keys_at documents id) p.0) && b) (stood p e)
+            ∙ not_and (has_key (keys_at documents id) p.0)
         | false ↦ λ e. refl
       ] refl
 
   pub new_after : (keys : List Key) → AreNew (dropped documents id entries) (entries_of id keys)
   new_after keys p there =
-      left p ∙ ap (λ (b : Bool). not b && has entries p) (first (same_id p.1 id) (has_key keys p.0) (sym (has-entries_of id keys p) ∙ there))
+      left p ∙ ap (λ (b : Bool). not b && has entries p)
+      (first (same_id p.1 id) (has_key keys p.0) (sym (has-entries_of id keys p) ∙ there))
 
-  pub put_table : (keys : List Key) (new : List Entry) → HoldsBoth (dropped documents id entries) (entries_of id keys) new → IsTableOf (put id_cmp id keys documents) new
+  pub put_table : (keys : List Key) (new : List Entry)
+      → HoldsBoth (dropped documents id entries) (entries_of id keys) new → IsTableOf (put id_cmp id keys documents) new
   put_table keys new both p =
       both p
       ∙ ap₂ (λ (a b : Bool). a || b) (left p) (has-entries_of id keys p)
       ∙ chosen
-      ∙ ap (λ (found : Option (List Key)). has_key (keys_in found) p.0) (sym (find-put id_cmp nat_list_cmp_total p.1 id keys documents))
+      ∙ ap (λ (found : Option (List Key)). has_key (keys_in found) p.0)
+      (sym (find-put id_cmp nat_list_cmp_total p.1 id keys documents))
     where
-      chosen : ((not (same_id p.1 id) && has entries p) || (same_id p.1 id && has_key keys p.0)) ≡ has_key (keys_in (cond (same_id p.1 id) (Some keys) (find id_cmp p.1 documents))) p.0
-      chosen = elim (same_id p.1 id) as (λ (b : Bool). ((not b && has entries p) || (b && has_key keys p.0)) ≡ has_key (keys_in (cond b (Some keys) (find id_cmp p.1 documents))) p.0) [
-        | true ↦ refl
-        | false ↦ or_false (has entries p) ∙ is p
-      ]
+      chosen : ((not (same_id p.1 id) && has entries p) || (same_id p.1 id && has_key keys p.0))
+          ≡ has_key (keys_in (cond (same_id p.1 id) (Some keys) (find id_cmp p.1 documents))) p.0
+      chosen = elim (same_id p.1 id) as
+          (λ (b : Bool). ((not b && has entries p) || (b && has_key keys p.0))
+          ≡ has_key (keys_in (cond b (Some keys) (find id_cmp p.1 documents))) p.0) [
+            | true ↦ refl
+            | false ↦ or_false (has entries p) ∙ is p
+          ]
 
   -- ---- a document more, whose id is not there
 
@@ -61,33 +70,42 @@ module _ (documents : Documents) (entries : List Entry) (id : List ℕ) (is : Is
     none_stood p e = stood p e ∙ ap (λ (found : Option (List Key)). has_key (keys_in found) p.0) none
 
     pub new_document : (keys : List Key) → AreNew entries (entries_of id keys)
-    new_document keys p there = none_stood p (first (same_id p.1 id) (has_key keys p.0) (sym (has-entries_of id keys p) ∙ there))
+    new_document keys p there = none_stood p
+        (first (same_id p.1 id) (has_key keys p.0) (sym (has-entries_of id keys p) ∙ there))
 
-    pub push_table : (keys : List Key) (new : List Entry) → HoldsBoth entries (entries_of id keys) new → IsTableOf (documents ++ (id, keys) ∷ []) new
+    pub push_table : (keys : List Key) (new : List Entry) → HoldsBoth entries (entries_of id keys) new
+        → IsTableOf (documents ++ (id, keys) ∷ []) new
     push_table keys new both p =
         both p
         ∙ ap (λ (b : Bool). has entries p || b) (has-entries_of id keys p)
         ∙ chosen
-        ∙ ap (λ (found : Option (List Key)). has_key (keys_in found) p.0) (sym (find-append id_cmp nat_list_cmp_total documents id keys p.1 none))
+        ∙ ap (λ (found : Option (List Key)). has_key (keys_in found) p.0)
+        (sym (find-append id_cmp nat_list_cmp_total documents id keys p.1 none))
       where
-        chosen : (has entries p || (same_id p.1 id && has_key keys p.0)) ≡ has_key (keys_in (cond (same_id p.1 id) (Some keys) (find id_cmp p.1 documents))) p.0
-        chosen = elim (same_id p.1 id) as (λ (b : Bool). same_id p.1 id ≡ b → (has entries p || (b && has_key keys p.0)) ≡ has_key (keys_in (cond b (Some keys) (find id_cmp p.1 documents))) p.0) [
-          | true ↦ λ e. ap (λ (b : Bool). b || has_key keys p.0) (none_stood p e)
-          | false ↦ λ e. or_false (has entries p) ∙ is p
-        ] refl
+        chosen : (has entries p || (same_id p.1 id && has_key keys p.0))
+            ≡ has_key (keys_in (cond (same_id p.1 id) (Some keys) (find id_cmp p.1 documents))) p.0
+        chosen = elim (same_id p.1 id) as (λ (b : Bool). same_id p.1 id ≡ b
+            → (has entries p || (b && has_key keys p.0))
+            ≡ has_key (keys_in (cond b (Some keys) (find id_cmp p.1 documents))) p.0) [
+              | true ↦ λ e. ap (λ (b : Bool). b || has_key keys p.0) (none_stood p e)
+              | false ↦ λ e. or_false (has entries p) ∙ is p
+            ] refl
 
 -- ---- what documents tell
 
-pub one_table : (documents : Documents) (entries others : List Entry) → IsInOrder entries → IsInOrder others → IsTableOf documents entries → IsTableOf documents others → entries ≡ others
-one_table documents entries others order other_order is other_is = same_tables entries others order other_order (λ p. is p ∙ sym (other_is p))
+pub one_table : (documents : Documents) (entries others : List Entry) → IsInOrder entries → IsInOrder others
+    → IsTableOf documents entries → IsTableOf documents others → entries ≡ others
+one_table documents entries others order other_order is other_is =
+    same_tables entries others order other_order (λ p. is p ∙ sym (other_is p))
 
 -- what holds of all keys holds of one that is among them
 pub of_keys : (P : Key → Type 0) (keys : List Key) (key : Key) → All P keys → has_key keys key ≡ true → P key
 of_keys P [] key all there = absurd (cc)
-of_keys P (k ∷ keys) key all there = elim (same_key key k) as (λ (b : Bool). same_key key k ≡ b → (b || has_key keys key) ≡ true → P key) [
-  | true ↦ λ e h. subst P (sym (same_key_is key k e)) (All-head P k keys all)
-  | false ↦ λ e h. of_keys P keys key (All-tail P k keys all) h
-] refl there
+of_keys P (k ∷ keys) key all there = elim (same_key key k) as
+    (λ (b : Bool). same_key key k ≡ b → (b || has_key keys key) ≡ true → P key) [
+      | true ↦ λ e h. subst P (sym (same_key_is key k e)) (All-head P k keys all)
+      | false ↦ λ e h. of_keys P keys key (All-tail P k keys all) h
+    ] refl there
 
 or_later : (a b : Bool) → b ≡ true → (a || b) ≡ true
 or_later true b p = refl
@@ -96,8 +114,12 @@ or_later false b p = p
 -- what holds of each entry that a list has holds of all
 all_has : (P : Entry → Type 0) (entries : List Entry) → ((p : Entry) → has entries p ≡ true → P p) → All P entries
 all_has P [] each = All-nil P
-all_has P (p ∷ ps) each = All-cons P p ps (each p (ap (λ (b : Bool). b || has ps p) (same_self p))) (all_has P ps (λ q there. each q (or_later (same q p) (has ps q) there)))
+all_has P (p ∷ ps) each = All-cons P p ps (each p (ap (λ (b : Bool). b || has ps p) (same_self p)))
+    (all_has P ps (λ q there. each q (or_later (same q p) (has ps q) there)))
 
-pub wide : (width : ℕ) (documents : Documents) (entries : List Entry) → ((id : List ℕ) → All (λ key. length key ≡ width) (keys_at documents id)) → IsTableOf documents entries → HaveWidth width entries
+pub wide : (width : ℕ) (documents : Documents) (entries : List Entry)
+    → ((id : List ℕ) → All (λ key. length key ≡ width) (keys_at documents id)) → IsTableOf documents entries
+    → HaveWidth width entries
 wide width documents entries keys is =
-    all_has (λ p. length p.0 ≡ width) entries (λ p there. of_keys (λ key. length key ≡ width) (keys_at documents p.1) p.0 (keys p.1) (sym (is p) ∙ there))
+    all_has (λ p. length p.0 ≡ width) entries
+    (λ p there. of_keys (λ key. length key ≡ width) (keys_at documents p.1) p.0 (keys p.1) (sym (is p) ∙ there))

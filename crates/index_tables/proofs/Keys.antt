@@ -1,10 +1,12 @@
 -- The order of keys, text by text.
-use Rattle.std.proofs.Common.{◌≡◌, ℕ, ◌<◌, ◌≤◌, ◌⊎◌, List, [], ◌∷◌, length, drop, zero, suc, refl, ◌∙◌, ap, arith, inl, inr, Ordering, Less, Equal, Greater, nat_cmp}
+use Rattle.std.proofs.Common.{◌≡◌, ℕ, ◌<◌, ◌≤◌, ◌⊎◌, List, [], ◌∷◌, length, drop, zero, suc, refl, ◌∙◌, ap, arith, inl}
+use Rattle.std.proofs.Common.{inr, Ordering, Less, Equal, Greater, nat_cmp}
 use Rattle.std.specs.Cmp.{nat_cmp_is, ranks}
 use Rattle.std.specs.Cmp.Lexicographic.{slice_cmp}
 use Rattle.std.specs.Ordering.{MatchOrdering}
 
-raised : (r : Ordering) (m n : ℕ) → MatchOrdering r (m < n) (m ≡ n) (n < m) → MatchOrdering r (suc m < suc n) (suc m ≡ suc n) (suc n < suc m)
+raised : (r : Ordering) (m n : ℕ) → MatchOrdering r (m < n) (m ≡ n) (n < m)
+    → MatchOrdering r (suc m < suc n) (suc m ≡ suc n) (suc n < suc m)
 raised Less m n p = omega arith
 raised Equal m n p = ap suc p
 raised Greater m n p = omega arith
@@ -24,5 +26,6 @@ module _ {T : Type 0} (R : T → T → Ordering) where
   cmp-at_end (x ∷ a) [] (suc at) in_a in_b ends = absurd (omega arith)
   cmp-at_end (x ∷ a) (y ∷ b) zero in_a in_b ends = absurd (elim ends [ inl e ↦ omega arith | inr e ↦ omega arith ])
   cmp-at_end (x ∷ a) (y ∷ b) (suc at) in_a in_b ends =
-      cmp-at_end a b at (omega arith) (omega arith) (elim ends [ inl e ↦ inl (omega arith) | inr e ↦ inr (omega arith) ])
+      cmp-at_end a b at (omega arith) (omega arith)
+      (elim ends [ inl e ↦ inl (omega arith) | inr e ↦ inr (omega arith) ])
       ∙ nat_cmp-next (length a) (length b)

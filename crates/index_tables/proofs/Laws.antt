@@ -1,5 +1,6 @@
 -- What is known of lists of entries as sets, and when entries are new.
-use Rattle.std.proofs.Common.{◌≡◌, ◌≢◌, ℕ, Bool, true, false, cond, not, ◌&&◌, ◌||◌, List, [], ◌∷◌, refl, sym, subst, ◌∙◌, ap, ap₂, Ordering, Less, Equal, Greater}
+use Rattle.std.proofs.Common.{◌≡◌, ◌≢◌, ℕ, Bool, true, false, cond, not, ◌&&◌, ◌||◌, List, [], ◌∷◌, refl, sym, subst}
+use Rattle.std.proofs.Common.{◌∙◌, ap, ap₂, Ordering, Less, Equal, Greater}
 use Rattle.std.specs.Cmp.{tied_itself}
 use Rattle.std.specs.List.{filter}
 use Rattle.std.specs.Ordering.{is_eq, ordering_then}
@@ -45,14 +46,16 @@ same_pair p q = by (key_cmp p.0 q.0) (id_cmp p.1 q.1)
     by Greater Greater = refl
 
 -- the entries of a document are those of its id with one of its keys
-pub has-entries_of : (id : List ℕ) (keys : List Key) (p : Entry) → has (entries_of id keys) p ≡ (same_id p.1 id && has_key keys p.0)
+pub has-entries_of : (id : List ℕ) (keys : List Key) (p : Entry)
+    → has (entries_of id keys) p ≡ (same_id p.1 id && has_key keys p.0)
 has-entries_of id [] p = none (same_id p.1 id)
   where
     none : (b : Bool) → false ≡ (b && false)
     none true = refl
     none false = refl
 has-entries_of id (key ∷ keys) p =
-    ap₂ (λ (a b : Bool). a || b) (same_pair p (key, id)) (has-entries_of id keys p) ∙ spread (same_id p.1 id) (same_key p.0 key) (has_key keys p.0)
+    ap₂ (λ (a b : Bool). a || b) (same_pair p (key, id)) (has-entries_of id keys p)
+    ∙ spread (same_id p.1 id) (same_key p.0 key) (has_key keys p.0)
   where
     spread : (b a c : Bool) → ((b && a) || (b && c)) ≡ (b && (a || c))
     spread true a c = refl
@@ -62,12 +65,14 @@ has-entries_of id (key ∷ keys) p =
 pub has-filter : (f : Entry → Bool) (ps : List Entry) (p : Entry) → has (filter f ps) p ≡ (f p && has ps p)
 has-filter f [] p = elim (f p) as (λ (b : Bool). false ≡ (b && false)) [ true ↦ refl | false ↦ refl ]
 has-filter f (q ∷ ps) p =
-    elim (same p q) as (λ (b : Bool). same p q ≡ b → has (cond (f q) (q ∷ filter f ps) (filter f ps)) p ≡ (f p && (b || has ps p))) [
+    elim (same p q) as (λ (b : Bool). same p q ≡ b
+    → has (cond (f q) (q ∷ filter f ps) (filter f ps)) p ≡ (f p && (b || has ps p))) [
       | true ↦ λ is.
           let one : f q ≡ f p = ap f (sym (same_is p q is)) in
           elim (f q) as (λ (a : Bool). f q ≡ a → has (cond a (q ∷ filter f ps) (filter f ps)) p ≡ (f p && true)) [
             | true ↦ λ a. ap (λ (b : Bool). b || has (filter f ps) p) is ∙ ap (λ (b : Bool). b && true) (sym a ∙ one)
-            | false ↦ λ a. has-filter f ps p ∙ ap (λ (b : Bool). b && has ps p) (sym one ∙ a) ∙ ap (λ (b : Bool). b && true) (sym a ∙ one)
+            | false ↦ λ a. has-filter f ps p ∙ ap (λ (b : Bool). b && has ps p) (sym one ∙ a)
+                ∙ ap (λ (b : Bool). b && true) (sym a ∙ one)
           ] refl
       | false ↦ λ is.
           elim (f q) as (λ (a : Bool). has (cond a (q ∷ filter f ps) (filter f ps)) p ≡ (f p && has ps p)) [
@@ -78,19 +83,23 @@ has-filter f (q ∷ ps) p =
 
 -- the entries of a document are all of it
 pub entries_are_of : (id : List ℕ) (keys : List Key) (p : Entry) → has (entries_of id keys) p ≡ true → is_of id p ≡ true
-entries_are_of id keys p there = same_id-comm id p.1 ∙ first (same_id p.1 id) (has_key keys p.0) (sym (has-entries_of id keys p) ∙ there)
+entries_are_of id keys p there = same_id-comm id p.1
+    ∙ first (same_id p.1 id) (has_key keys p.0) (sym (has-entries_of id keys p) ∙ there)
 
 -- the entries of a document are new where it has none
-pub new_where_none : (ps : List Entry) (id : List ℕ) (keys : List Key) → ((p : Entry) → has ps p ≡ true → is_of id p ≡ false) → AreNew ps (entries_of id keys)
+pub new_where_none : (ps : List Entry) (id : List ℕ) (keys : List Key)
+    → ((p : Entry) → has ps p ≡ true → is_of id p ≡ false) → AreNew ps (entries_of id keys)
 new_where_none ps id keys none p there =
     elim (has ps p) as (λ (b : Bool). has ps p ≡ b → b ≡ false) [
-      | true ↦ λ is. let yes_of = entries_are_of id keys p there in let not_of = none p is in absurd (cc (yes_of, not_of))
+      | true ↦ λ is. let yes_of = entries_are_of id keys p there in let not_of = none p is
+          in absurd (cc (yes_of, not_of))
       | false ↦ λ is. refl
     ] refl
 
 -- and where all of its entries are gone
 pub new_after_remove : (ps : List Entry) (id : List ℕ) (keys : List Key) → AreNew (not_of id ps) (entries_of id keys)
-new_after_remove ps id keys = new_where_none (not_of id ps) id keys (λ p there. others (is_of id p) (has ps p) (sym (has-filter (λ q. not (is_of id q)) ps p) ∙ there))
+new_after_remove ps id keys = new_where_none (not_of id ps) id keys
+    (λ p there. others (is_of id p) (has ps p) (sym (has-filter (λ q. not (is_of id q)) ps p) ∙ there))
   where
     others : (a b : Bool) → (not a && b) ≡ true → a ≡ false
     others true b h = absurd (cc)
@@ -103,5 +112,6 @@ new_after_drop ps es p there = has-filter (λ q. not (has es q)) ps p ∙ ap (λ
 -- keys that do not tie are not the same
 pub other_key : (a b : Key) → is_eq (key_cmp a b) ≡ false → a ≢ b
 other_key a b other is =
-    let tie : is_eq (key_cmp a b) ≡ true = ap is_eq (subst (λ (x : Key). key_cmp a x ≡ Equal) is (tied_itself key_total a)) in
+    let tie : is_eq (key_cmp a b) ≡ true = ap is_eq
+    (subst (λ (x : Key). key_cmp a x ≡ Equal) is (tied_itself key_total a)) in
     absurd (cc (tie, other))

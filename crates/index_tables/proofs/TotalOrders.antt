@@ -19,7 +19,8 @@ abbrev listed : Entry → List (List (List ℕ))
 listed p = p.0 ∷ (p.1 ∷ []) ∷ []
 
 as_lists : (p q : Entry) → slice_cmp key_cmp (listed p) (listed q) ≡ entry_cmp p q
-as_lists p q = ap (ordering_then (key_cmp p.0 q.0)) (then_Equal (ordering_then (slice_cmp nat_cmp p.1 q.1) Equal) ∙ then_Equal (slice_cmp nat_cmp p.1 q.1))
+as_lists p q = ap (ordering_then (key_cmp p.0 q.0))
+    (then_Equal (ordering_then (slice_cmp nat_cmp p.1 q.1) Equal) ∙ then_Equal (slice_cmp nat_cmp p.1 q.1))
 
 pub entry_total : IsTotalOrder entry_cmp
 entry_total = subst IsTotalOrder (λ i p q. as_lists p q i) (on_total listed (lists_total key_total))

@@ -31,16 +31,25 @@ dropped documents id entries = not_among (entries_of id (keys_at documents id)) 
 
 -- one document changes: its entries go, those of its new keys are new then, and with them it is the table again
 pub record FollowsChanges : Type 0 where
-  pub are_new : (documents : Documents) (entries : List Entry) (id : List ℕ) (keys : List Key) → IsTableOf documents entries → AreNew (dropped documents id entries) (entries_of id keys)
-  pub is_table : (documents : Documents) (entries new : List Entry) (id : List ℕ) (keys : List Key) → IsTableOf documents entries → HoldsBoth (dropped documents id entries) (entries_of id keys) new → IsTableOf (put id_cmp id keys documents) new
+  pub are_new : (documents : Documents) (entries : List Entry) (id : List ℕ) (keys : List Key)
+      → IsTableOf documents entries → AreNew (dropped documents id entries) (entries_of id keys)
+  pub is_table : (documents : Documents) (entries new : List Entry) (id : List ℕ) (keys : List Key)
+      → IsTableOf documents entries → HoldsBoth (dropped documents id entries) (entries_of id keys) new
+      → IsTableOf (put id_cmp id keys documents) new
 
 -- a table is built document by document: the entries of one that is not there yet are new
 pub record FollowsGrowth : Type 0 where
   pub starts : IsTableOf [] []
-  pub are_new : (documents : Documents) (entries : List Entry) (id : List ℕ) (keys : List Key) → IsTableOf documents entries → find id_cmp id documents ≡ None → AreNew entries (entries_of id keys)
-  pub is_table : (documents : Documents) (entries new : List Entry) (id : List ℕ) (keys : List Key) → IsTableOf documents entries → find id_cmp id documents ≡ None → HoldsBoth entries (entries_of id keys) new → IsTableOf (documents ++ (id, keys) ∷ []) new
+  pub are_new : (documents : Documents) (entries : List Entry) (id : List ℕ) (keys : List Key)
+      → IsTableOf documents entries → find id_cmp id documents ≡ None → AreNew entries (entries_of id keys)
+  pub is_table : (documents : Documents) (entries new : List Entry) (id : List ℕ) (keys : List Key)
+      → IsTableOf documents entries → find id_cmp id documents ≡ None → HoldsBoth entries (entries_of id keys) new
+      → IsTableOf (documents ++ (id, keys) ∷ []) new
 
 -- documents tell their table, and keys of one width give entries of this width
 pub record IsToldByDocuments : Type 0 where
-  pub one : (documents : Documents) (entries others : List Entry) → IsInOrder entries → IsInOrder others → IsTableOf documents entries → IsTableOf documents others → entries ≡ others
-  pub width : (width : ℕ) (documents : Documents) (entries : List Entry) → ((id : List ℕ) → All (λ key. length key ≡ width) (keys_at documents id)) → IsTableOf documents entries → HaveWidth width entries
+  pub one : (documents : Documents) (entries others : List Entry) → IsInOrder entries → IsInOrder others
+      → IsTableOf documents entries → IsTableOf documents others → entries ≡ others
+  pub width : (width : ℕ) (documents : Documents) (entries : List Entry)
+      → ((id : List ℕ) → All (λ key. length key ≡ width) (keys_at documents id)) → IsTableOf documents entries
+      → HaveWidth width entries

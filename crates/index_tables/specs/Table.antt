@@ -18,10 +18,12 @@ in_order_once entries one other i j k d lt le = Ordering-set _ _ (one j k d lt l
 
 pub same_indexed : (x y : Indexed) → ◌≡◌ {A = List Entry × ℕ} (x.pairs, x.room) (y.pairs, y.room) → x ≡ y
 same_indexed x y e =
-    let ordered : ◌≡◌ {A = (entries : List Entry) × IsInOrder entries} (x.pairs, x.order) (y.pairs, y.order) = Σ_prop_path in_order_once (λ i. (e i).0) in
+    let ordered : ◌≡◌ {A = (entries : List Entry) × IsInOrder entries} (x.pairs, x.order) (y.pairs, y.order) =
+    Σ_prop_path in_order_once (λ i. (e i).0) in
     λ i. record { pairs = (ordered i).0; order = (ordered i).1; room = (e i).1 }
 
 -- it is stored as these two
 abbrev pub indexed_code : Coded Indexed
 indexed_code =
-    coded_via (coded× (coded_list (coded× (coded_list (coded_list coded_ℕ)) (coded_list coded_ℕ))) coded_ℕ) (λ v. (v.pairs, v.room)) same_indexed
+    coded_via (coded× (coded_list (coded× (coded_list (coded_list coded_ℕ)) (coded_list coded_ℕ))) coded_ℕ)
+    (λ v. (v.pairs, v.room)) same_indexed

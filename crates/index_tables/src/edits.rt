@@ -1,7 +1,8 @@
 //! What is done to the sorted list of pairs.
 ghost use Rattle.std.specs.Prelude.{◌≡◌, ◌+◌, ◌<◌, ◌≤◌, false, not, length, filter, vec_len, ◌||◌};
 ghost use Rattle.std.specs.List.{HoldsAt};
-ghost use Rattle.index_tables.specs.Entries.{AreDistinct, AreNew, HoldsBoth, entries_of, has, is_of, not_among, not_of, same};
+ghost use Rattle.index_tables.specs.Entries.{AreDistinct, AreNew, HoldsBoth, entries_of, has};
+ghost use Rattle.index_tables.specs.Entries.{is_of, not_among, not_of, same};
 ghost use Rattle.index_tables.specs.Order.{IsInOrder};
 ghost use Rattle.index_tables.specs.Seen.{EndsAt, Tells, entry_of, is_below, seen};
 
@@ -30,7 +31,8 @@ fn put(list: &mut ChunkList<Pair>, pair: Pair)
     requires order { IsInOrder (seen list.old.items) }
     requires fresh { has (seen list.old.items) (entry_of pair) ≡ false }
     ensures order { IsInOrder (seen list.new.items) }
-    ensures members { (p : _) → has (seen list.new.items) p ≡ (has (seen list.old.items) p || same p (entry_of pair)) }
+    ensures members { (p : _) → has (seen list.new.items) p
+        ≡ (has (seen list.old.items) p || same p (entry_of pair)) }
     ensures count { length (seen list.new.items) ≡ length (seen list.old.items) + 1 }
     ensures room { list.new.room + 1 ≡ list.old.room }
 {
@@ -58,7 +60,8 @@ pub(crate) fn put_all(list: &mut ChunkList<Pair>, mut pairs: Vec<Pair>)
 fn take_out(list: &mut ChunkList<Pair>, key: &[Text], id: &DocId)
     requires { IsInOrder (seen list.old.items) }
     ensures order { IsInOrder (seen list.new.items) }
-    ensures pairs { seen list.new.items ≡ filter (λ p. not (same p (key.now, id.now))) (seen list.old.items) }
+    ensures pairs { seen list.new.items ≡ filter (λ p. not (same p (key.now, id.now)))
+        (seen list.old.items) }
     ensures room { list.new.room ≡ list.old.room }
 {
     let (place, stands) = place_of(list, key, id);
@@ -71,7 +74,8 @@ fn take_out(list: &mut ChunkList<Pair>, key: &[Text], id: &DocId)
 pub(crate) fn take_keys(list: &mut ChunkList<Pair>, keys: &[Key], id: &DocId)
     requires { IsInOrder (seen list.old.items) }
     ensures order { IsInOrder (seen list.new.items) }
-    ensures pairs { seen list.new.items ≡ not_among (entries_of id.now keys.now) (seen list.old.items) }
+    ensures pairs { seen list.new.items ≡ not_among (entries_of id.now keys.now)
+        (seen list.old.items) }
     ensures room { list.new.room ≡ list.old.room }
 {
     for key in keys {

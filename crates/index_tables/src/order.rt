@@ -9,7 +9,8 @@ use key_lanes::compare;
 use std::cmp::Ordering;
 use u1_base::{DocId, Text};
 
-/// The order of keys: text by text, each by its bytes. A key comes before one that goes on behind it.
+/// The order of keys: text by text, each by its bytes. A key comes before one that goes on behind
+/// it.
 pub fn compare_keys(a: &[Text], b: &[Text]) -> Ordering
     ensures { result ≡ key_cmp a.now b.now }
 {
@@ -24,7 +25,8 @@ pub fn compare_keys(a: &[Text], b: &[Text]) -> Ordering
     a.len().cmp(&b.len())
 }
 
-// The same of the key of a pair, and of a key with its abbreviated key. Where these differ they decide.
+// The same of the key of a pair, and of a key with its abbreviated key. Where these differ they
+// decide.
 pub(crate) fn compare_key(pair: &Pair, abbreviated: u128, key: &[Text]) -> Ordering
     requires { IsAbbreviated key.now abbreviated }
     ensures { result ≡ key_cmp pair.now.key key.now }

@@ -1,5 +1,6 @@
 //! The table of an index.
-ghost use Rattle.std.specs.Prelude.{◌≡◌, ◌≢◌, ◌+◌, ◌≤◌, [], length, slice_get, option_map, IfOk, OnOk, OnErr};
+ghost use Rattle.std.specs.Prelude.{◌≡◌, ◌≢◌, ◌+◌, ◌≤◌, [], length, slice_get, option_map, IfOk};
+ghost use Rattle.std.specs.Prelude.{OnOk, OnErr};
 ghost use Rattle.std.specs.List.{AllPairs};
 ghost use Rattle.index_tables.specs.Entries.{AreNew, HoldsBoth, entries_of, not_among, not_of};
 ghost use Rattle.index_tables.specs.Looks.{FewLooks};
@@ -18,7 +19,8 @@ use std::marker::Model;
 use std::sync::ledger::Ledger;
 use u1_base::{DocId, Key, Keys, Memory, Steps, Text};
 
-/// The pairs of a key and the id of a document that has it: by key, those of one key by id, each once.
+/// The pairs of a key and the id of a document that has it: by key, those of one key by id, each
+/// once.
 #[derive(Drop)]
 pub struct IndexTable {
     pairs: ChunkList<Pair>,
@@ -34,7 +36,12 @@ impl Model for IndexTable {
 
     ghost use Rattle.index_tables.specs.Seen.{seen};
 
-    ghost view = { λ s. record { pairs = seen s.pairs.items; order = s.order; room = s.pairs.room } };
+    ghost view = { λ s. record {
+      pairs = seen s.pairs.items;
+      order = s.order;
+      room =
+          s.pairs.room;
+    } };
 }
 
 impl IndexTable {
@@ -89,7 +96,8 @@ impl IndexTable {
     pub fn add(&mut self, id: &DocId, keys: Keys) -> Result<(), Memory>
         requires distinct { AllPairs (λ key other. key ≢ other) keys }
         requires fresh { AreNew self.old.pairs (entries_of id.now keys) }
-        ensures ok { OnOk result (HoldsBoth self.old.pairs (entries_of id.now keys) self.new.pairs) }
+        ensures ok { OnOk result
+            (HoldsBoth self.old.pairs (entries_of id.now keys) self.new.pairs) }
         ensures err { OnErr result (self.new.pairs ≡ self.old.pairs) }
         ensures count { OnOk result (length self.new.pairs ≡ length self.old.pairs + length keys) }
     {
@@ -99,8 +107,8 @@ impl IndexTable {
         Ok(())
     }
 
-    /// Drops all pairs of an id. It looks at each pair of the table: `drop_pairs` looks for those of known keys.
-    /// It takes no memory.
+    /// Drops all pairs of an id. It looks at each pair of the table: `drop_pairs` looks for those
+    /// of known keys. It takes no memory.
     pub fn remove(&mut self, id: &DocId)
         ensures pairs { self.new.pairs ≡ not_of id.now self.old.pairs }
         ensures room { self.new.room ≡ self.old.room }
@@ -118,7 +126,8 @@ impl IndexTable {
 
     /// The pair at a place, which counts from 0. None past the end. It counts one step.
     pub fn entry<L: Ledger>(&self, place: u64, steps: &mut Steps<L>) -> Option<(&Key, &DocId)>
-        ensures value { option_map (λ p. (p.0.now, p.1.now)) result ≡ slice_get self.now.pairs place }
+        ensures value { option_map (λ p. (p.0.now, p.1.now)) result
+            ≡ slice_get self.now.pairs place }
         ensures looks { steps.new ≡ steps.old + 1 }
     {
         steps.tick();
@@ -137,7 +146,8 @@ impl IndexTable {
         }
     }
 
-    /// The first place whose key is not below the key. It counts at most two steps for each bit of the length.
+    /// The first place whose key is not below the key. It counts at most two steps for each bit of
+    /// the length.
     pub fn seek<L: Ledger>(&self, key: &[Text], steps: &mut Steps<L>) -> u64
         ensures place { FallsAt self.now.pairs key.now result }
         ensures looks { FewLooks (length self.now.pairs) 0 steps.old steps.new }

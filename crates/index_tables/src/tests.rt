@@ -100,7 +100,8 @@ fn document(alloc: Global, number: u64) -> Result<DocId, Fail> {
     Ok(DocId::read(alloc, text.as_str())?)
 }
 
-// The text of a number below 100 in two digits, and of one below 10 in one: they go as the numbers do.
+// The text of a number below 100 in two digits, and of one below 10 in one: they go as the numbers
+// do.
 fn numbered(alloc: Global, number: u64) -> Result<Option<Key>, Fail> {
     let mut texts = Texts::new(alloc);
     texts.push(Text::from_string(format!(in alloc; "{:02}", number / 10)?)?)?;
@@ -333,7 +334,8 @@ fn seeks_among_equal_keys(rt: HostRuntime) -> Result<(), Fail> {
     Ok(())
 }
 
-// Puts a document in the place of an earlier one: a row is its id, a blank, and its keys with a semicolon between.
+// Puts a document in the place of an earlier one: a row is its id, a blank, and its keys with a
+// semicolon between.
 fn put_row(alloc: Global, table: &mut IndexTable, row: &str) -> Result<(), Fail> {
     let (id, keys) = row.split_once(' ').ok_or("no blank")?;
     let set = set_between(alloc, keys)?;
@@ -360,7 +362,8 @@ fn table_of(alloc: Global, rows: &str) -> Result<IndexTable, Fail> {
     Ok(table)
 }
 
-// An address book by the small letters of the names and the words of the tags. One document has no tag.
+// An address book by the small letters of the names and the words of the tags. One document has no
+// tag.
 const BOOK: &str = "\
 c01 ann lee|friend;ann lee|work
 c02 anna roy|work

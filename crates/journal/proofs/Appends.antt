@@ -1,6 +1,9 @@
 -- What the two writes of an append leave, whole or torn.
-use Rattle.std.proofs.Common.{◌≡◌, ◌≢◌, ℕ, ◌+◌, ◌<◌, ◌≤◌, ◌⊎◌, inl, inr, ⊎_elim, false, List, [], ◌∷◌, ◌++◌, length, get_or, set, take, drop, sym, ◌∙◌, ap, subst, arith, length-append, length-take, length-set, get_or-set_same, get_or-set_other}
-use Rattle.std.proofs.lemmas.List.{ext_get_or, get_or-take, take_at, drop_at, take-append-drop, append_assoc, drop-drop, set_at}
+use Rattle.std.proofs.Common.{◌≡◌, ◌≢◌, ℕ, ◌+◌, ◌<◌, ◌≤◌, ◌⊎◌, inl, inr, ⊎_elim, false, List, [], ◌∷◌, ◌++◌, length}
+use Rattle.std.proofs.Common.{get_or, set, take, drop, sym, ◌∙◌, ap, subst, arith, length-append, length-take}
+use Rattle.std.proofs.Common.{length-set, get_or-set_same, get_or-set_other}
+use Rattle.std.proofs.lemmas.List.{ext_get_or, get_or-take, take_at, drop_at, take-append-drop, append_assoc, drop-drop}
+use Rattle.std.proofs.lemmas.List.{set_at}
 use Rattle.std.proofs.lemmas.Bool.{cases_eq}
 use Rattle.std.proofs.lemmas.Bool.Decides.{nat_tests}
 use Rattle.disk_model.specs.Disk.{Torn, is_touched, overwritten}
@@ -18,7 +21,8 @@ torn_before at n old new h t =
     let long : length (take at new) ≡ at = omega (arith, length-take at new, t.no_shorter) in
     ext_get_or 0 (take at new) (take at old) (omega (arith, long, length-take at old))
     (λ k l. let low : k < at = omega (arith, l, long) in
-    get_or-take at new k 0 low ∙ t.same k (omega (arith, low, h)) (outside at n k (inl low)) ∙ sym (get_or-take at old k 0 low))
+    get_or-take at new k 0 low ∙ t.same k (omega (arith, low, h)) (outside at n k (inl low))
+    ∙ sym (get_or-take at old k 0 low))
 
 -- a torn write of one byte leaves all others
 pub torn_one : (at : ℕ) (old new : List ℕ) → at < length old → Torn at 1 old new → new ≡ set old at (get_or new at 0)
@@ -26,7 +30,8 @@ torn_one at old new h t =
     let size : length new ≡ length old = omega (arith, t.no_shorter, t.no_longer) in
     ext_get_or 0 new (set old at (get_or new at 0)) (size ∙ sym (length-set old at (get_or new at 0)))
     (λ k l. ⊎_elim
-    (λ e. ap (λ (i : ℕ). get_or new i 0) e ∙ sym (get_or-set_same old at (get_or new at 0) 0 h) ∙ ap (λ (i : ℕ). get_or (set old at (get_or new at 0)) i 0) (sym e))
+    (λ e. ap (λ (i : ℕ). get_or new i 0) e ∙ sym (get_or-set_same old at (get_or new at 0) 0 h)
+    ∙ ap (λ (i : ℕ). get_or (set old at (get_or new at 0)) i 0) (sym e))
     (λ ne. t.same k (omega (arith, l, size)) (apart at k ne) ∙ sym (get_or-set_other old at k (get_or new at 0) 0 ne))
     (cases_eq k at))
   where
@@ -34,50 +39,65 @@ torn_one at old new h t =
     apart a k ne = grind (arith, nat_tests)
 
 -- the gate stands at the place
-pub gate_one : (f : List ℕ) (g : ℕ) (t new : List ℕ) (at : ℕ) → length f ≡ at → Torn at 1 (f ++ g ∷ t) new → new ≡ f ++ get_or new at 0 ∷ t
+pub gate_one : (f : List ℕ) (g : ℕ) (t new : List ℕ) (at : ℕ) → length f ≡ at → Torn at 1 (f ++ g ∷ t) new
+    → new ≡ f ++ get_or new at 0 ∷ t
 gate_one f g t new at size torn =
-    torn_one at (f ++ g ∷ t) new (omega (arith, length-append f (g ∷ t), size)) torn ∙ set_at f g t (get_or new at 0) at size
+    torn_one at (f ++ g ∷ t) new (omega (arith, length-append f (g ∷ t), size)) torn
+    ∙ set_at f g t (get_or new at 0) at size
 
-overwritten_gate : (f : List ℕ) (g h : ℕ) (t : List ℕ) (at : ℕ) → length f ≡ at → overwritten (f ++ g ∷ t) at (h ∷ []) ≡ f ++ h ∷ t
+overwritten_gate : (f : List ℕ) (g h : ℕ) (t : List ℕ) (at : ℕ) → length f ≡ at
+    → overwritten (f ++ g ∷ t) at (h ∷ []) ≡ f ++ h ∷ t
 overwritten_gate f g h t at size =
     let front_is : take at (f ++ g ∷ t) ≡ f = take_at f (g ∷ t) at size in
     let rest_is : drop (at + 1) (f ++ g ∷ t) ≡ t =
-    ap (drop (at + 1)) (sym (append_assoc f (g ∷ []) t)) ∙ drop_at (f ++ g ∷ []) t (at + 1) (omega (arith, length-append f (g ∷ []), size)) in
-    ap (λ (l : List ℕ). l ++ h ∷ [] ++ drop (at + 1) (f ++ g ∷ t)) front_is ∙ ap (λ (l : List ℕ). f ++ h ∷ [] ++ l) rest_is ∙ append_assoc f (h ∷ []) t
+    ap (drop (at + 1)) (sym (append_assoc f (g ∷ []) t))
+    ∙ drop_at (f ++ g ∷ []) t (at + 1) (omega (arith, length-append f (g ∷ []), size)) in
+    ap (λ (l : List ℕ). l ++ h ∷ [] ++ drop (at + 1) (f ++ g ∷ t)) front_is
+    ∙ ap (λ (l : List ℕ). f ++ h ∷ [] ++ l) rest_is ∙ append_assoc f (h ∷ []) t
 
-overwritten_behind : (f : List ℕ) (g : ℕ) (t piece : List ℕ) (at : ℕ) → length f ≡ at → overwritten (f ++ g ∷ t) (at + 1) piece ≡ f ++ g ∷ (piece ++ drop (length piece) t)
+overwritten_behind : (f : List ℕ) (g : ℕ) (t piece : List ℕ) (at : ℕ) → length f ≡ at
+    → overwritten (f ++ g ∷ t) (at + 1) piece ≡ f ++ g ∷ (piece ++ drop (length piece) t)
 overwritten_behind f g t piece at size =
     let n = length piece in
     let regroup : f ++ g ∷ t ≡ (f ++ g ∷ []) ++ t = sym (append_assoc f (g ∷ []) t) in
     let long : length (f ++ g ∷ []) ≡ at + 1 = omega (arith, length-append f (g ∷ []), size) in
-    let front_is : take (at + 1) (f ++ g ∷ t) ≡ f ++ g ∷ [] = ap (take (at + 1)) regroup ∙ take_at (f ++ g ∷ []) t (at + 1) long in
+    let front_is : take (at + 1) (f ++ g ∷ t) ≡ f ++ g ∷ [] = ap (take (at + 1)) regroup
+    ∙ take_at (f ++ g ∷ []) t (at + 1) long in
     let rest_is : drop (at + 1 + n) (f ++ g ∷ t) ≡ drop n t =
-    sym (drop-drop n (at + 1) (f ++ g ∷ t)) ∙ ap (drop n) (ap (drop (at + 1)) regroup ∙ drop_at (f ++ g ∷ []) t (at + 1) long) in
-    ap (λ (l : List ℕ). l ++ piece ++ drop (at + 1 + n) (f ++ g ∷ t)) front_is ∙ ap (λ (l : List ℕ). f ++ g ∷ [] ++ piece ++ l) rest_is
+    sym (drop-drop n (at + 1) (f ++ g ∷ t))
+    ∙ ap (drop n) (ap (drop (at + 1)) regroup ∙ drop_at (f ++ g ∷ []) t (at + 1) long) in
+    ap (λ (l : List ℕ). l ++ piece ++ drop (at + 1 + n) (f ++ g ∷ t)) front_is
+    ∙ ap (λ (l : List ℕ). f ++ g ∷ [] ++ piece ++ l) rest_is
     ∙ append_assoc (f ++ g ∷ []) piece (drop n t) ∙ append_assoc f (g ∷ []) (piece ++ drop n t)
 
 -- the bytes behind a closed gate are nothing to the reader
-pub torn_behind : (format : ℕ) (head : Head) (bodies : List (List ℕ)) (file image : List ℕ) (gate n : ℕ) → ReadsAs format head bodies file
+pub torn_behind : (format : ℕ) (head : Head) (bodies : List (List ℕ)) (file image : List ℕ) (gate n : ℕ)
+    → ReadsAs format head bodies file
     → length (up_to_gate format head bodies) ≡ gate → Torn (gate + 1) n file image → ReadsAs format head bodies image
 torn_behind format head bodies file image gate n r size t =
     let f = up_to_gate format head bodies in
     let regroup : file ≡ (f ++ r.gate ∷ []) ++ r.rest = r.split ∙ sym (append_assoc f (r.gate ∷ []) r.rest) in
     let long : length (f ++ r.gate ∷ []) ≡ gate + 1 = omega (arith, length-append f (r.gate ∷ []), size) in
-    let fits : gate + 1 ≤ length file = omega (arith, ap length regroup, length-append (f ++ r.gate ∷ []) r.rest, long) in
+    let fits : gate + 1 ≤ length file = omega (arith, ap length regroup, length-append (f ++ r.gate ∷ []) r.rest, long)
+    in
     let same : take (gate + 1) image ≡ f ++ r.gate ∷ [] =
-    torn_before (gate + 1) n file image fits t ∙ ap (take (gate + 1)) regroup ∙ take_at (f ++ r.gate ∷ []) r.rest (gate + 1) long in
+    torn_before (gate + 1) n file image fits t ∙ ap (take (gate + 1)) regroup
+    ∙ take_at (f ++ r.gate ∷ []) r.rest (gate + 1) long in
     record {
       gate = r.gate;
       rest = drop (gate + 1) image;
       header = r.header;
       fit = r.fit;
       shut = r.shut;
-      split = sym (take-append-drop (gate + 1) image) ∙ ap (λ (l : List ℕ). l ++ drop (gate + 1) image) same ∙ append_assoc f (r.gate ∷ []) (drop (gate + 1) image);
+      split = sym (take-append-drop (gate + 1) image) ∙ ap (λ (l : List ℕ). l ++ drop (gate + 1) image) same
+          ∙ append_assoc f (r.gate ∷ []) (drop (gate + 1) image);
     }
 
 -- a body behind the gate that is open
-with_body : (format : ℕ) (head : Head) (bodies : List (List ℕ)) (body file image rest : List ℕ) → ReadsAs format head bodies file → IsBody body
-    → image ≡ up_to_gate format head bodies ++ 1 ∷ ((body_field body ++ 0 ∷ []) ++ rest) → ReadsAs format head (bodies ++ body ∷ []) image
+with_body : (format : ℕ) (head : Head) (bodies : List (List ℕ)) (body file image rest : List ℕ)
+    → ReadsAs format head bodies file → IsBody body
+    → image ≡ up_to_gate format head bodies ++ 1 ∷ ((body_field body ++ 0 ∷ []) ++ rest)
+    → ReadsAs format head (bodies ++ body ∷ []) image
 with_body format head bodies body file image rest r is e =
     let f = up_to_gate format head bodies in
     record {
@@ -86,40 +106,62 @@ with_body format head bodies body file image rest r is e =
       header = r.header;
       fit = AreBodies-push bodies body r.fit is;
       shut = λ z. cc z;
-      split = e ∙ ap (λ (l : List ℕ). f ++ 1 ∷ l) (append_assoc (body_field body) (0 ∷ []) rest) ∙ sym (append_assoc f (entry body) (0 ∷ rest))
+      split = e ∙ ap (λ (l : List ℕ). f ++ 1 ∷ l) (append_assoc (body_field body) (0 ∷ []) rest)
+          ∙ sym (append_assoc f (entry body) (0 ∷ rest))
           ∙ ap (λ (l : List ℕ). l ++ 0 ∷ rest) (sym (up_to_gate-push format head bodies body));
     }
 
-written_behind : (format : ℕ) (head : Head) (bodies : List (List ℕ)) (file piece : List ℕ) (gate : ℕ) (r : ReadsAs format head bodies file)
-    → length (up_to_gate format head bodies) ≡ gate → overwritten file (gate + 1) piece ≡ up_to_gate format head bodies ++ r.gate ∷ (piece ++ drop (length piece) r.rest)
+written_behind : (format : ℕ) (head : Head) (bodies : List (List ℕ)) (file piece : List ℕ) (gate : ℕ)
+    (r : ReadsAs format head bodies file)
+    → length (up_to_gate format head bodies) ≡ gate
+    → overwritten file (gate + 1) piece ≡ up_to_gate format head bodies
+    ++ r.gate ∷ (piece ++ drop (length piece) r.rest)
 written_behind format head bodies file piece gate r size =
-    ap (λ (l : List ℕ). overwritten l (gate + 1) piece) r.split ∙ overwritten_behind (up_to_gate format head bodies) r.gate r.rest piece gate size
+    ap (λ (l : List ℕ). overwritten l (gate + 1) piece) r.split
+    ∙ overwritten_behind (up_to_gate format head bodies) r.gate r.rest piece gate size
 
 -- the gate is open then, or it is not
-pub torn_gate : (format : ℕ) (head : Head) (bodies : List (List ℕ)) (body file image : List ℕ) (gate : ℕ) → ReadsAs format head bodies file → IsBody body
-    → length (up_to_gate format head bodies) ≡ gate → Torn gate 1 (overwritten file (gate + 1) (body_field body ++ 0 ∷ [])) image
+pub torn_gate : (format : ℕ) (head : Head) (bodies : List (List ℕ)) (body file image : List ℕ) (gate : ℕ)
+    → ReadsAs format head bodies file → IsBody body
+    → length (up_to_gate format head bodies) ≡ gate
+    → Torn gate 1 (overwritten file (gate + 1) (body_field body ++ 0 ∷ [])) image
     → ReadsAs format head bodies image ⊎ ReadsAs format head (bodies ++ body ∷ []) image
 torn_gate format head bodies body file image gate r is size t =
-    let f = up_to_gate format head bodies in let piece = body_field body ++ 0 ∷ [] in let tail = piece ++ drop (length piece) r.rest in
+    let f = up_to_gate format head bodies in let piece = body_field body ++ 0 ∷ []
+    in let tail = piece ++ drop (length piece) r.rest in
     let image_is : image ≡ f ++ get_or image gate 0 ∷ tail =
-    gate_one f r.gate tail image gate size (subst (λ (l : List ℕ). Torn gate 1 l image) (written_behind format head bodies file piece gate r size) t) in
+    gate_one f r.gate tail image gate size
+    (subst (λ (l : List ℕ). Torn gate 1 l image) (written_behind format head bodies file piece gate r size) t) in
     ⊎_elim
-    (λ e. inr (with_body format head bodies body file image (drop (length piece) r.rest) r is (image_is ∙ ap (λ (g : ℕ). f ++ g ∷ tail) e)))
-    (λ ne. inl (record { gate = get_or image gate 0; rest = tail; header = r.header; fit = r.fit; shut = ne; split = image_is }))
+    (λ e. inr (with_body format head bodies body file image (drop (length piece) r.rest) r is
+    (image_is ∙ ap (λ (g : ℕ). f ++ g ∷ tail) e)))
+    (λ ne. inl (record {
+      gate = get_or image gate 0;
+      rest = tail;
+      header = r.header;
+      fit = r.fit;
+      shut = ne;
+      split =
+          image_is;
+    }))
     (cases_eq (get_or image gate 0) 1)
 
 -- both writes whole
-pub added : (format : ℕ) (head : Head) (bodies : List (List ℕ)) (body file : List ℕ) (gate : ℕ) → ReadsAs format head bodies file → IsBody body
+pub added : (format : ℕ) (head : Head) (bodies : List (List ℕ)) (body file : List ℕ) (gate : ℕ)
+    → ReadsAs format head bodies file → IsBody body
     → length (up_to_gate format head bodies) ≡ gate
-    → ReadsAs format head (bodies ++ body ∷ []) (overwritten (overwritten file (gate + 1) (body_field body ++ 0 ∷ [])) gate (1 ∷ []))
+    → ReadsAs format head (bodies ++ body ∷ [])
+    (overwritten (overwritten file (gate + 1) (body_field body ++ 0 ∷ [])) gate (1 ∷ []))
 added format head bodies body file gate r is size =
-    let f = up_to_gate format head bodies in let piece = body_field body ++ 0 ∷ [] in let rest = drop (length piece) r.rest in
+    let f = up_to_gate format head bodies in let piece = body_field body ++ 0 ∷ []
+    in let rest = drop (length piece) r.rest in
     with_body format head bodies body file _ rest r is
     (ap (λ (l : List ℕ). overwritten l gate (1 ∷ [])) (written_behind format head bodies file piece gate r size)
     ∙ overwritten_gate f r.gate 1 (piece ++ rest) gate size)
 
 -- what may be left on the way
-pub adding : (format : ℕ) (head : Head) (bodies : List (List ℕ)) (body file image : List ℕ) (gate : ℕ) → ReadsAs format head bodies file → IsBody body
+pub adding : (format : ℕ) (head : Head) (bodies : List (List ℕ)) (body file image : List ℕ) (gate : ℕ)
+    → ReadsAs format head bodies file → IsBody body
     → length (up_to_gate format head bodies) ≡ gate → IsAdding gate (body_field body ++ 0 ∷ []) file image
     → ReadsAs format head bodies image ⊎ ReadsAs format head (bodies ++ body ∷ []) image
 adding format head bodies body file image gate r is size a =
@@ -127,15 +169,20 @@ adding format head bodies body file image gate r is size a =
     (λ t. torn_gate format head bodies body file image gate r is size t) a
 
 -- the same over what was written
-pub was_added : (format : ℕ) (head : Head) (bodies : List (List ℕ)) (body file new piece : List ℕ) (gate : ℕ) → ReadsAs format head bodies file → IsBody body
-    → length (up_to_gate format head bodies) ≡ gate → piece ≡ body_field body ++ 0 ∷ [] → new ≡ overwritten (overwritten file (gate + 1) piece) gate (1 ∷ [])
+pub was_added : (format : ℕ) (head : Head) (bodies : List (List ℕ)) (body file new piece : List ℕ) (gate : ℕ)
+    → ReadsAs format head bodies file → IsBody body
+    → length (up_to_gate format head bodies) ≡ gate → piece ≡ body_field body ++ 0 ∷ []
+    → new ≡ overwritten (overwritten file (gate + 1) piece) gate (1 ∷ [])
     → ReadsAs format head (bodies ++ body ∷ []) new
 was_added format head bodies body file new piece gate r is size p e =
     subst (ReadsAs format head (bodies ++ body ∷ []))
-    (sym (e ∙ ap (λ (l : List ℕ). overwritten (overwritten file (gate + 1) l) gate (1 ∷ [])) p)) (added format head bodies body file gate r is size)
+    (sym (e ∙ ap (λ (l : List ℕ). overwritten (overwritten file (gate + 1) l) gate (1 ∷ [])) p))
+    (added format head bodies body file gate r is size)
 
-pub is_adding : (format : ℕ) (head : Head) (bodies : List (List ℕ)) (body file piece : List ℕ) (gate : ℕ) → ReadsAs format head bodies file → IsBody body
-    → length (up_to_gate format head bodies) ≡ gate → piece ≡ body_field body ++ 0 ∷ [] → (image : List ℕ) → IsAdding gate piece file image
+pub is_adding : (format : ℕ) (head : Head) (bodies : List (List ℕ)) (body file piece : List ℕ) (gate : ℕ)
+    → ReadsAs format head bodies file → IsBody body
+    → length (up_to_gate format head bodies) ≡ gate → piece ≡ body_field body ++ 0 ∷ [] → (image : List ℕ)
+    → IsAdding gate piece file image
     → ReadsAs format head bodies image ⊎ ReadsAs format head (bodies ++ body ∷ []) image
 is_adding format head bodies body file piece gate r is size p image a =
     adding format head bodies body file image gate r is size (subst (λ (l : List ℕ). IsAdding gate l file image) p a)

@@ -1,5 +1,6 @@
 -- A file begins with at most one field of each kind, and the reader finds it.
-use Rattle.std.proofs.Common.{◌≡◌, ℕ, zero, suc, ⊎_elim, ◌+◌, ◌^◌, ◌<◌, ◌≤◌, Bool, true, false, ◌&&◌, List, [], ◌∷◌, ◌++◌, length, get_or, take, drop, refl, sym, ◌∙◌, ap, subst, arith, length-append}
+use Rattle.std.proofs.Common.{◌≡◌, ℕ, zero, suc, ⊎_elim, ◌+◌, ◌^◌, ◌<◌, ◌≤◌, Bool, true, false, ◌&&◌, List, [], ◌∷◌}
+use Rattle.std.proofs.Common.{◌++◌, length, get_or, take, drop, refl, sym, ◌∙◌, ap, subst, arith, length-append}
 use Rattle.std.specs.Prelude.{None}
 use Rattle.std.specs.Int.{w16, w32, w64, from_be_bytes}
 use Rattle.std.specs.List.{list_all}
@@ -19,15 +20,18 @@ use Rattle.journal.specs.Damage.{Begins}
 
 u16-same : (a b : ℕ) → a < 2 ^ 16 → b < 2 ^ 16 → u16_bytes a ≡ u16_bytes b → a ≡ b
 unfolding u16_bytes
-u16-same a b la lb e = sym (from_be_bytes-to_be_bytes_2 a la) ∙ ap (from_be_bytes w16) e ∙ from_be_bytes-to_be_bytes_2 b lb
+u16-same a b la lb e = sym (from_be_bytes-to_be_bytes_2 a la) ∙ ap (from_be_bytes w16) e
+    ∙ from_be_bytes-to_be_bytes_2 b lb
 
 u32-same : (a b : ℕ) → a < 2 ^ 32 → b < 2 ^ 32 → u32_bytes a ≡ u32_bytes b → a ≡ b
 unfolding u32_bytes
-u32-same a b la lb e = sym (from_be_bytes-to_be_bytes_4 a la) ∙ ap (from_be_bytes w32) e ∙ from_be_bytes-to_be_bytes_4 b lb
+u32-same a b la lb e = sym (from_be_bytes-to_be_bytes_4 a la) ∙ ap (from_be_bytes w32) e
+    ∙ from_be_bytes-to_be_bytes_4 b lb
 
 pub u64-same : (a b : ℕ) → a < 2 ^ 64 → b < 2 ^ 64 → u64_bytes a ≡ u64_bytes b → a ≡ b
 unfolding u64_bytes
-u64-same a b la lb e = sym (from_be_bytes-to_be_bytes_8 a la) ∙ ap (from_be_bytes w64) e ∙ from_be_bytes-to_be_bytes_8 b lb
+u64-same a b la lb e = sym (from_be_bytes-to_be_bytes_8 a la) ∙ ap (from_be_bytes w64) e
+    ∙ from_be_bytes-to_be_bytes_8 b lb
 
 pub length-u16 : (n : ℕ) → length (u16_bytes n) ≡ 2
 unfolding u16_bytes
@@ -47,11 +51,13 @@ length-first_field format = refl
 
 pub length-text_field : (text : List ℕ) → length (text_field text) ≡ 2 + length text
 unfolding text_field
-length-text_field text = length-append (u16_bytes (length text)) text ∙ ap (λ (n : ℕ). n + length text) (length-u16 (length text))
+length-text_field text = length-append (u16_bytes (length text)) text
+    ∙ ap (λ (n : ℕ). n + length text) (length-u16 (length text))
 
 pub length-body_field : (body : List ℕ) → length (body_field body) ≡ 4 + length body
 unfolding body_field
-length-body_field body = length-append (u32_bytes (length body)) body ∙ ap (λ (n : ℕ). n + length body) (length-u32 (length body))
+length-body_field body = length-append (u32_bytes (length body)) body
+    ∙ ap (λ (n : ℕ). n + length body) (length-u32 (length body))
 
 -- what the bytes begin with is their front
 pub begins_front : (field bytes : List ℕ) → Begins field bytes → take (length field) bytes ≡ field
@@ -75,31 +81,36 @@ counted_front number item bytes n size b =
     )
 
 pub text_front : (text bytes : List ℕ) → Begins (text_field text) bytes
-    → (take 2 bytes ≡ u16_bytes (length text)) × (take (length text) (drop 2 bytes) ≡ text) × (length text ≤ length (drop 2 bytes))
+    → (take 2 bytes ≡ u16_bytes (length text)) × (take (length text) (drop 2 bytes) ≡ text)
+    × (length text ≤ length (drop 2 bytes))
 unfolding text_field
 text_front text bytes b = counted_front (u16_bytes (length text)) text bytes 2 (length-u16 (length text)) b
 
 pub body_front : (body bytes : List ℕ) → Begins (body_field body) bytes
-    → (take 4 bytes ≡ u32_bytes (length body)) × (take (length body) (drop 4 bytes) ≡ body) × (length body ≤ length (drop 4 bytes))
+    → (take 4 bytes ≡ u32_bytes (length body)) × (take (length body) (drop 4 bytes) ≡ body)
+    × (length body ≤ length (drop 4 bytes))
 unfolding body_field
 body_front body bytes b = counted_front (u32_bytes (length body)) body bytes 4 (length-u32 (length body)) b
 
 -- the text that stands there, from the number that stands there
-pub text_is : (n : ℕ) (text bytes : List ℕ) → n < 65536 → length text < 65536 → take 2 bytes ≡ u16_bytes n → Begins (text_field text) bytes
+pub text_is : (n : ℕ) (text bytes : List ℕ) → n < 65536 → length text < 65536 → take 2 bytes ≡ u16_bytes n
+    → Begins (text_field text) bytes
     → (n ≤ length (drop 2 bytes)) × (take n (drop 2 bytes) ≡ text)
 text_is n text bytes small short e b =
     let f = text_front text bytes b in
     let same : n ≡ length text = u16-same n (length text) small short (sym e ∙ f.0) in
     (omega (arith, same, f.2), ap (λ (k : ℕ). take k (drop 2 bytes)) same ∙ f.1)
 
-pub body_is : (n : ℕ) (body bytes : List ℕ) → n < 2 ^ 32 → length body < 2 ^ 32 → take 4 bytes ≡ u32_bytes n → Begins (body_field body) bytes
+pub body_is : (n : ℕ) (body bytes : List ℕ) → n < 2 ^ 32 → length body < 2 ^ 32 → take 4 bytes ≡ u32_bytes n
+    → Begins (body_field body) bytes
     → (n ≤ length (drop 4 bytes)) × (take n (drop 4 bytes) ≡ body)
 body_is n body bytes small short e b =
     let f = body_front body bytes b in
     let same : n ≡ length body = u32-same n (length body) small short (sym e ∙ f.0) in
     (omega (arith, same, f.2), ap (λ (k : ℕ). take k (drop 4 bytes)) same ∙ f.1)
 
-counted_begins : (number bytes : List ℕ) (n size : ℕ) → take size bytes ≡ number → Begins (number ++ take n (drop size bytes)) bytes
+counted_begins : (number bytes : List ℕ) (n size : ℕ) → take size bytes ≡ number
+    → Begins (number ++ take n (drop size bytes)) bytes
 counted_begins number bytes n size e = (
   drop n (drop size bytes),
   sym (take-append-drop size bytes) ∙ ap (λ (l : List ℕ). l ++ drop size bytes) e
@@ -107,18 +118,23 @@ counted_begins number bytes n size e = (
       ∙ sym (append_assoc number (take n (drop size bytes)) (drop n (drop size bytes))),
 )
 
-pub text_begins : (n : ℕ) (bytes : List ℕ) → take 2 bytes ≡ u16_bytes n → n ≤ length (drop 2 bytes) → Begins (text_field (take n (drop 2 bytes))) bytes
+pub text_begins : (n : ℕ) (bytes : List ℕ) → take 2 bytes ≡ u16_bytes n → n ≤ length (drop 2 bytes)
+    → Begins (text_field (take n (drop 2 bytes))) bytes
 unfolding text_field
 text_begins n bytes e h =
-    counted_begins (u16_bytes (length (take n (drop 2 bytes)))) bytes n 2 (e ∙ ap u16_bytes (sym (length-take-le n (drop 2 bytes) h)))
+    counted_begins (u16_bytes (length (take n (drop 2 bytes)))) bytes n 2
+    (e ∙ ap u16_bytes (sym (length-take-le n (drop 2 bytes) h)))
 
-pub body_begins : (n : ℕ) (bytes : List ℕ) → take 4 bytes ≡ u32_bytes n → n ≤ length (drop 4 bytes) → Begins (body_field (take n (drop 4 bytes))) bytes
+pub body_begins : (n : ℕ) (bytes : List ℕ) → take 4 bytes ≡ u32_bytes n → n ≤ length (drop 4 bytes)
+    → Begins (body_field (take n (drop 4 bytes))) bytes
 unfolding body_field
 body_begins n bytes e h =
-    counted_begins (u32_bytes (length (take n (drop 4 bytes)))) bytes n 4 (e ∙ ap u32_bytes (sym (length-take-le n (drop 4 bytes) h)))
+    counted_begins (u32_bytes (length (take n (drop 4 bytes)))) bytes n 4
+    (e ∙ ap u32_bytes (sym (length-take-le n (drop 4 bytes) h)))
 
 -- the texts of two fields that stand there are one
-pub text_same : (a b bytes : List ℕ) → length a < 65536 → length b < 65536 → Begins (text_field a) bytes → Begins (text_field b) bytes → a ≡ b
+pub text_same : (a b bytes : List ℕ) → length a < 65536 → length b < 65536 → Begins (text_field a) bytes
+    → Begins (text_field b) bytes → a ≡ b
 text_same a b bytes la lb ba bb =
     let f = text_front a bytes ba in sym f.1 ∙ (text_is (length a) b bytes la lb f.0 bb).1
 
@@ -147,20 +163,25 @@ all_at p (x ∷ xs) (suc k) h e = all_at p xs k (omega (arith, h)) (and_true (p 
 all_ascii : (form : Form) (xs : List ℕ) → list_all (is_allowed form) xs ≡ true → IsAscii xs
 all_ascii form xs e k =
     ⊎_elim (λ inside. allowed_ascii form (get_or xs k 0) (all_at (is_allowed form) xs k inside e))
-    (λ past. let zero_there : get_or xs k 0 ≡ 0 = get_or_past xs k 0 past in omega (arith, zero_there)) (cases_lt k (length xs))
+    (λ past. let zero_there : get_or xs k 0 ≡ 0 = get_or_past xs k 0 past in omega (arith, zero_there))
+    (cases_lt k (length xs))
 
 pub id_utf8 : (form : Form) (text : List ℕ) → IsId form text → IsUtf8 text
 id_utf8 form text i = IsUtf8-from_ascii text (all_ascii form text (id_facts form text i).2)
 
 pub first_front : (format : ℕ) (bytes : List ℕ) → Begins (first_field format) bytes → take 8 bytes ≡ first_field format
-first_front format bytes b = ap (λ (n : ℕ). take n bytes) (sym (length-first_field format)) ∙ begins_front (first_field format) bytes b
+first_front format bytes b = ap (λ (n : ℕ). take n bytes) (sym (length-first_field format))
+    ∙ begins_front (first_field format) bytes b
 
 pub limit_front : (limit : ℕ) (bytes : List ℕ) → Begins (u64_bytes limit) bytes → take 8 bytes ≡ u64_bytes limit
-limit_front limit bytes b = ap (λ (n : ℕ). take n bytes) (sym (length-u64 limit)) ∙ begins_front (u64_bytes limit) bytes b
+limit_front limit bytes b = ap (λ (n : ℕ). take n bytes) (sym (length-u64 limit))
+    ∙ begins_front (u64_bytes limit) bytes b
 
 -- a text of a field that is no id leaves no id there
-pub other_id : (form : Form) (text id bytes : List ℕ) → length text < 65536 → Begins (text_field text) bytes → IsId form id → Begins (text_field id) bytes → IsId form text
-other_id form text id bytes short b is bi = subst (IsId form) (text_same id text bytes (id_short form id is) short bi b) is
+pub other_id : (form : Form) (text id bytes : List ℕ) → length text < 65536 → Begins (text_field text) bytes
+    → IsId form id → Begins (text_field id) bytes → IsId form text
+other_id form text id bytes short b is bi = subst (IsId form)
+    (text_same id text bytes (id_short form id is) short bi b) is
 
 -- a text that reads as no id is none
 pub none_no_id : (form : Form) (text : List ℕ) → id_in form text ≡ None → IsId form text → ⊥

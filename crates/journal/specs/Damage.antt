@@ -3,7 +3,8 @@ use Rattle.std.specs.Prelude.{◌≡◌, ℕ, List, [], ◌∷◌, ◌++◌, len
 use Rattle.u1_base.specs.Fields.{text_field, u64_bytes}
 use Rattle.u1_base.specs.Ids.{IsId}
 use Rattle.u1_base.specs.declared.ids.Form.TheVariants as form
-use Rattle.journal.specs.Image.{Head, IsFormat, IsLimit, IsHeader, IsBody, AreBodies, first_field, body_field, up_to_gate}
+use Rattle.journal.specs.Image.{Head, IsFormat, IsLimit, IsHeader, IsBody, AreBodies, first_field, body_field}
+use Rattle.journal.specs.Image.{up_to_gate}
 
 -- the file begins with these bytes
 abbrev pub Begins : List ℕ → List ℕ → Type 0

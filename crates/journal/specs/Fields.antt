@@ -4,7 +4,8 @@ use Rattle.std.specs.Str.{IsUtf8}
 use Rattle.u1_base.specs.Fields.{text_field, u64_bytes}
 use Rattle.u1_base.specs.Ids.{IsId}
 use Rattle.u1_base.specs.declared.ids.Form.{Form}
-use Rattle.journal.specs.Image.{IsFormat, IsLimit, IsHeader, AreBodies, first_field, IsBody, body_field, entries, header_bytes}
+use Rattle.journal.specs.Image.{IsFormat, IsLimit, IsHeader, AreBodies, first_field, IsBody, body_field, entries}
+use Rattle.journal.specs.Image.{header_bytes}
 use Rattle.journal.specs.Damage.{Begins, DamagedAt}
 use Rattle.journal.specs.declared.parsed.Parsed.{Parsed}
 use Rattle.journal.specs.declared.parsed.Parsed.TheVariants as parsed

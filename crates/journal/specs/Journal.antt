@@ -45,6 +45,7 @@ need journal n = min (journal.length + 5 + n) (2 ^ 64 - 1)
 abbrev pub IsFull : Extent → ℕ → Type 0
 IsFull journal n = journal.limit < need journal n
 
--- a file that an anew begun image leaves on the way: the old one, one that does not read from its first byte on, or the empty image
+-- a file that an anew begun image leaves on the way: the old one, one that does not read from its first byte on, or the
+-- empty image
 abbrev pub IsOnTheWay : List ℕ → Head → List ℕ → Type 0
 IsOnTheWay old head file = (file ≡ old) ⊎ (DamagedAt 0 file ⊎ (file ≡ image 2 head []))

@@ -12,7 +12,8 @@ use Rattle.journal.specs.declared.opening.OpenFault.TheVariants as fault
 -- what was read, or the damage that was named, is what is found of the bytes; the other faults say nothing of them
 abbrev pub ReadsImage : List ℕ → Result StoredImage OpenFault → Type 0
 ReadsImage file (Ok image) =
-    Finds file (Stands image.format image.header image.bodies) × IsExtent image.format image.header image.bodies image.journal
+    Finds file (Stands image.format image.header image.bodies)
+    × IsExtent image.format image.header image.bodies image.journal
 ReadsImage file (Err (fault.Damaged place)) = Finds file (Damaged place)
 ReadsImage file (Err fault.Disk) = Unit {0}
 ReadsImage file (Err fault.Memory) = Unit {0}

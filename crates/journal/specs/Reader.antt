@@ -1,5 +1,6 @@
 -- A plain reader of images: what opening finds, as a function.
-use Rattle.std.specs.Prelude.{ℕ, zero, suc, ◌+◌, ◌^◌, Bool, ◌&&◌, ◌==◌, nat_le, nat_lt, if◌then◌else◌, Option, Some, None, List, [], ◌∷◌, length, take, drop}
+use Rattle.std.specs.Prelude.{ℕ, zero, suc, ◌+◌, ◌^◌, Bool, ◌&&◌, ◌==◌, nat_le, nat_lt, if◌then◌else◌, Option, Some}
+use Rattle.std.specs.Prelude.{None, List, [], ◌∷◌, length, take, drop}
 use Rattle.std.specs.Int.{w16, w32, w64, from_be_bytes}
 use Rattle.std.specs.Str.{bytes_eq}
 use Rattle.u1_base.specs.Fields.{text_field, u64_bytes}
@@ -29,7 +30,8 @@ read_text form file =
 abbrev pub read_limit : List ℕ → Option ℕ
 read_limit file =
     let limit = from_be_bytes w64 (take 8 file) in
-    if begins (u64_bytes limit) file && nat_le LEAST_IMAGE_LIMIT limit && nat_le limit GREATEST_IMAGE_LIMIT then Some limit else None
+    if begins (u64_bytes limit) file && nat_le LEAST_IMAGE_LIMIT limit
+    && nat_le limit GREATEST_IMAGE_LIMIT then Some limit else None
 
 abbrev pub read_body : List ℕ → Option (List ℕ)
 read_body file =
@@ -53,7 +55,8 @@ read_entries (suc fuel) format head place [] = Damaged place
 read_entries (suc fuel) format head place (gate ∷ tail) =
     if gate == 1
     then or_damaged (read_body tail) (place + 1)
-    (λ body. with_body body (read_entries fuel format head (place + 1 + length (body_field body)) (drop (length (body_field body)) tail)))
+    (λ body. with_body body
+    (read_entries fuel format head (place + 1 + length (body_field body)) (drop (length (body_field body)) tail)))
     else Stands format head []
 
 -- behind the header

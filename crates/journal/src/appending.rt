@@ -45,7 +45,8 @@ impl fmt::Display for AppendFault {
 
 impl Error for AppendFault {}
 
-/// The journal of an image: its length, up to and with the closed gate, and its limit, both in bytes.
+/// The journal of an image: its length, up to and with the closed gate, and its limit, both in
+/// bytes.
 #[derive(Debug, Drop)]
 pub struct Journal {
     length: u64,
@@ -64,11 +65,13 @@ impl Model for Journal {
 }
 
 impl Journal {
-    ghost use Rattle.std.specs.Prelude.{◌≡◌, ◌≢◌, ℕ, ◌+◌, ◌^◌, ◌<◌, ◌≤◌, IsTrue, Err, OnOk, OnErr, length};
+    ghost use Rattle.std.specs.Prelude.{◌≡◌, ◌≢◌, ℕ, ◌+◌, ◌^◌, ◌<◌, ◌≤◌, IsTrue, Err, OnOk, OnErr};
+    ghost use Rattle.std.specs.Prelude.{length};
     ghost use Rattle.u1_base.specs.Causes.{HasCauseOf};
     ghost use Rattle.disk_model.specs.Device.{file_of};
     ghost use Rattle.disk_model.specs.Counts.{MakesCalls};
-    ghost use Rattle.journal.specs.Journal.{HoldsOneMore, IsFull, IsHeld, LeavesWithOrWithout, need};
+    ghost use Rattle.journal.specs.Journal.{HoldsOneMore, IsFull, IsHeld, LeavesWithOrWithout};
+    ghost use Rattle.journal.specs.Journal.{need};
 
     pub(crate) fn of(length: u64, limit: u64) -> Journal
         requires some { 1 ≤ length }
@@ -88,8 +91,8 @@ impl Journal {
 
     /// Adds a body of 1 to 2^32-1 bytes, with two writes and two syncs.
     ///
-    /// At `Full` and `Memory` the disk was not called. After `Disk` the image has to be opened again; it has the
-    /// body then or not.
+    /// At `Full` and `Memory` the disk was not called. After `Disk` the image has to be opened
+    /// again; it has the body then or not.
     pub fn append<D: Disk>(
         &mut self,
         alloc: Global,
@@ -99,17 +102,23 @@ impl Journal {
         requires some { 1 ≤ length body.now }
         requires short { length body.now < 2 ^ 32 }
         requires holds { IsTrue D.tells → IsHeld self.old (file_of (D.known disk.old)) }
-        ensures ok { IsTrue D.tells → OnOk result (HoldsOneMore body.now self.old self.new (file_of (D.known disk.old)) (file_of (D.known disk.new))) }
+        ensures ok { IsTrue D.tells
+            → OnOk result (HoldsOneMore body.now self.old self.new (file_of (D.known disk.old))
+            (file_of (D.known disk.new))) }
         ensures length { OnOk result (self.new.length ≡ self.old.length + 5 + length body.now) }
         ensures limit { self.new.limit ≡ self.old.limit }
         ensures same { OnErr result (self.new ≡ self.old) }
-        ensures any_moment { IsTrue D.tells → LeavesWithOrWithout body.now self.old (D.known disk.old) (D.known disk.new) }
+        ensures any_moment { IsTrue D.tells
+            → LeavesWithOrWithout body.now self.old (D.known disk.old) (D.known disk.new) }
         ensures beside { IsTrue D.tells → (D.known disk.new).beside ≡ (D.known disk.old).beside }
-        ensures full { IsFull self.old (length body.now) → result ≡ Err (AppendFault.Full (need self.old (length body.now)) self.old.limit) }
-        ensures only_full { (n m : ℕ) → result ≡ Err (AppendFault.Full n m) → IsFull self.old (length body.now) }
+        ensures full { IsFull self.old (length body.now)
+            → result ≡ Err (AppendFault.Full (need self.old (length body.now)) self.old.limit) }
+        ensures only_full { (n m : ℕ) → result ≡ Err (AppendFault.Full n m)
+            → IsFull self.old (length body.now) }
         ensures untouched { OnErr result (result ≢ Err AppendFault.Disk → disk.new ≡ disk.old) }
         ensures calls { MakesCalls 4 (D.known disk.old) (D.known disk.new) result }
-        ensures cause { HasCauseOf AppendFault.Disk (D.known disk.old).faults (D.known disk.new).faults result }
+        ensures cause { HasCauseOf AppendFault.Disk (D.known disk.old).faults
+            (D.known disk.new).faults result }
     {
         let need = self
             .length
@@ -136,11 +145,14 @@ impl Journal {
 fn add_behind<D: Disk>(disk: &mut D, gate: u64, behind: &[u8]) -> Result<(), DiskFailed>
     requires place { IsTrue D.tells → gate < length (D.known disk.old).seen }
     requires room { gate + 1 < 2 ^ 64 }
-    ensures written { IsTrue D.tells → OnOk result ((D.known disk.new).seen ≡ overwritten (overwritten (D.known disk.old).seen (gate + 1) behind.now) gate (1 ∷ [])) }
+    ensures written { IsTrue D.tells
+        → OnOk result ((D.known disk.new).seen
+        ≡ overwritten (overwritten (D.known disk.old).seen (gate + 1) behind.now) gate (1 ∷ [])) }
     ensures durable { IsTrue D.tells → OnOk result (IsSettled (file_of (D.known disk.new))) }
     ensures beside { IsTrue D.tells → (D.known disk.new).beside ≡ (D.known disk.old).beside }
     ensures any_moment { IsTrue D.tells → IsSettled (file_of (D.known disk.old))
-        → LeavesOnly (D.known disk.old) (D.known disk.new) (IsAdding gate behind.now (D.known disk.old).seen) }
+        → LeavesOnly (D.known disk.old) (D.known disk.new)
+        (IsAdding gate behind.now (D.known disk.old).seen) }
     ensures calls { MakesCalls 4 (D.known disk.old) (D.known disk.new) result }
     ensures cause { HasCause (D.known disk.old).faults (D.known disk.new).faults result }
 {

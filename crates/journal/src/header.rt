@@ -1,6 +1,7 @@
 //! The header of an image.
 ghost use Rattle.std.specs.Prelude.{◌≤◌};
-ghost use Rattle.u1_base.specs.declared.limits.TheConstants.{GREATEST_IMAGE_LIMIT, LEAST_IMAGE_LIMIT};
+ghost use Rattle.u1_base.specs.declared.limits.TheConstants.{GREATEST_IMAGE_LIMIT};
+ghost use Rattle.u1_base.specs.declared.limits.TheConstants.{LEAST_IMAGE_LIMIT};
 
 use std::marker::Model;
 use u1_base::{Bytes, DbName, Items, ReplicaUid};

@@ -70,7 +70,8 @@ impl NewImage {
             → IfOk result (λ journal. HoldsSpelled self.now journal (file_of (D.known disk.new))) }
         ensures journal { IfOk result (λ journal. journal ≡ extent_of self.now) }
         ensures beside { IsTrue D.tells → (D.known disk.new).beside ≡ (D.known disk.old).beside }
-        ensures any_moment { IsTrue D.tells → LeavesOnly (D.known disk.old) (D.known disk.new) IsAny }
+        ensures any_moment { IsTrue D.tells
+            → LeavesOnly (D.known disk.old) (D.known disk.new) IsAny }
         ensures calls { MakesCalls 3 (D.known disk.old) (D.known disk.new) result }
         ensures cause { HasCause (D.known disk.old).faults (D.known disk.new).faults result }
     {

@@ -53,17 +53,25 @@ impl Error for OpenFault {}
 
 /// Syncs the disk, reads its image, and gives the bodies up to the first closed gate.
 ///
-/// A crash on the way leaves no more than might have been left before. Where damage is found the disk is settled
-/// all the same.
+/// A crash on the way leaves no more than might have been left before. Where damage is found the
+/// disk is settled all the same.
 pub fn open_image<D: Disk>(alloc: Global, disk: &mut D) -> Result<Opened, OpenFault>
-    ensures reads { (stored : List ℕ) × (IsTrue D.tells → stored ≡ (D.known disk.old).seen) × Opens stored result }
-    ensures ok { IsTrue D.tells → IfOk result (λ opened. Holds opened.journal opened.format opened.header opened.bodies (file_of (D.known disk.new))) }
-    ensures damaged { IsTrue D.tells → (place : ℕ) → result ≡ Err (OpenFault.Damaged place) → IsSettled (file_of (D.known disk.new)) }
+    ensures reads { (stored : List ℕ) × (IsTrue D.tells → stored ≡ (D.known disk.old).seen)
+        × Opens stored result }
+    ensures ok { IsTrue D.tells
+        → IfOk result (λ opened. Holds opened.journal opened.format opened.header opened.bodies
+        (file_of (D.known disk.new))) }
+    ensures damaged { IsTrue D.tells → (place : ℕ) → result ≡ Err (OpenFault.Damaged place)
+        → IsSettled (file_of (D.known disk.new)) }
     ensures seen { IsTrue D.tells → (D.known disk.new).seen ≡ (D.known disk.old).seen }
     ensures beside { IsTrue D.tells → (D.known disk.new).beside ≡ (D.known disk.old).beside }
-    ensures any_moment { IsTrue D.tells → LeavesOnly (D.known disk.old) (D.known disk.new) (IsCrashImage (D.known disk.old).now) }
-    ensures most_calls { IsTrue D.tells → (D.known disk.new).made ≤ called (2 + pieces (length (D.known disk.old).seen)) (D.known disk.old).made }
-    ensures cause { HasCauseOf OpenFault.Disk (D.known disk.old).faults (D.known disk.new).faults result }
+    ensures any_moment { IsTrue D.tells
+        → LeavesOnly (D.known disk.old) (D.known disk.new) (IsCrashImage (D.known disk.old).now) }
+    ensures most_calls { IsTrue D.tells
+        → (D.known disk.new).made ≤ called (2 + pieces (length (D.known disk.old).seen))
+        (D.known disk.old).made }
+    ensures cause { HasCauseOf OpenFault.Disk (D.known disk.old).faults
+        (D.known disk.new).faults result }
 {
     let stored = match read_image(alloc, disk) {
         Ok(stored) => stored,

@@ -87,8 +87,8 @@ impl Stored {
         self.start
     }
 
-    /// Lends the entry at this place, where the header or the entry before it ends. There is none at
-    /// the closed gate. At any other place the answer says nothing of the image.
+    /// Lends the entry at this place, where the header or the entry before it ends. There is none
+    /// at the closed gate. At any other place the answer says nothing of the image.
     pub fn entry_at(&self, place: usize) -> Option<Entry<'_>>
         ensures meets { (bodies : List (List ℕ)) → HasPassed self.now bodies place
             → Meets self.now bodies result }

@@ -3,7 +3,8 @@ ghost use Rattle.std.specs.Prelude.{◌≡◌, ◌<◌, ◌≤◌, [], ◌∷◌
 ghost use Rattle.u1_base.specs.Fields.{text_field, u64_bytes};
 ghost use Rattle.journal.specs.Image.{IsBody, IsFormat, IsLimit, body_field, first_field};
 ghost use Rattle.journal.specs.Damage.{Begins};
-ghost use Rattle.journal.specs.Fields.{EndsEntries, NoBody, NoFirst, NoLimit, NoText, ReadsHeader, ReadsIdField};
+ghost use Rattle.journal.specs.Fields.{EndsEntries, NoBody, NoFirst, NoLimit, NoText, ReadsHeader};
+ghost use Rattle.journal.specs.Fields.{ReadsIdField};
 
 use crate::parsed::{Parsed, Start};
 use crate::{Bodies, Header};
@@ -24,7 +25,8 @@ pub(crate) fn behind(bytes: &[u8], place: usize) -> &[u8]
 
 /// The format, where the bytes begin with the eight of an image.
 fn format_of(bytes: &[u8]) -> Option<u8>
-    ensures { MatchOption result (NoFirst bytes.now) (λ format. IsFormat format × Begins (first_field format) bytes.now) }
+    ensures { MatchOption result (NoFirst bytes.now)
+        (λ format. IsFormat format × Begins (first_field format) bytes.now) }
 {
     if bytes.len() < 8 {
         return None;
@@ -41,7 +43,8 @@ fn format_of(bytes: &[u8]) -> Option<u8>
 
 /// The text of a field.
 fn text_of(bytes: &[u8]) -> Option<&str>
-    ensures { MatchOption result (NoText bytes.now) (λ text. (length text.now < 65536) × Begins (text_field text.now) bytes.now) }
+    ensures { MatchOption result (NoText bytes.now)
+        (λ text. (length text.now < 65536) × Begins (text_field text.now) bytes.now) }
 {
     if bytes.len() < 2 {
         return None;
@@ -75,7 +78,8 @@ fn id_of<F: FormOf>(alloc: Global, bytes: &[u8]) -> Parsed<Id<F>>
 
 /// The limit of an image.
 fn limit_of(bytes: &[u8]) -> Option<u64>
-    ensures { MatchOption result (NoLimit bytes.now) (λ limit. IsLimit limit × Begins (u64_bytes limit) bytes.now) }
+    ensures { MatchOption result (NoLimit bytes.now)
+        (λ limit. IsLimit limit × Begins (u64_bytes limit) bytes.now) }
 {
     if bytes.len() < 8 {
         return None;
@@ -92,7 +96,8 @@ fn limit_of(bytes: &[u8]) -> Option<u64>
 
 /// The body behind its length.
 pub(crate) fn body_of(bytes: &[u8]) -> Option<&[u8]>
-    ensures { MatchOption result (NoBody bytes.now) (λ body. IsBody body.now × Begins (body_field body.now) bytes.now) }
+    ensures { MatchOption result (NoBody bytes.now)
+        (λ body. IsBody body.now × Begins (body_field body.now) bytes.now) }
 {
     if bytes.len() < 4 {
         return None;

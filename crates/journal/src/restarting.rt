@@ -1,5 +1,7 @@
-//! Beginning an image anew, so that a crash leaves the old bytes, bytes that do not read, or the empty image.
-ghost use Rattle.std.specs.Prelude.{◌≡◌, ◌≢◌, ◌≤◌, ◌<◌, Err, IsTrue, IfOk, OnOk, [], length, slice_index};
+//! Beginning an image anew, so that a crash leaves the old bytes, bytes that do not read, or the
+//! empty image.
+ghost use Rattle.std.specs.Prelude.{◌≡◌, ◌≢◌, ◌≤◌, ◌<◌, Err, IsTrue, IfOk, OnOk, [], length};
+ghost use Rattle.std.specs.Prelude.{slice_index};
 ghost use Rattle.u1_base.specs.Causes.{HasCause, HasCauseOf};
 ghost use Rattle.disk_model.specs.Device.{IsSettled, file_of};
 ghost use Rattle.disk_model.specs.Moments.{LeavesOnly};
@@ -16,24 +18,30 @@ use std::alloc::Global;
 /// The first byte of every image.
 const FIRST_BYTE: u8 = 0x55;
 
-/// Puts an empty image of format 2 in the place of all that the disk holds, in four parts, each with its sync.
+/// Puts an empty image of format 2 in the place of all that the disk holds, in four parts, each
+/// with its sync.
 ///
-/// The first byte is spoilt, the disk is cut to it, the rest of the image is written behind it, and then the first
-/// byte. At `Memory` the disk was not called.
+/// The first byte is spoilt, the disk is cut to it, the rest of the image is written behind it, and
+/// then the first byte. At `Memory` the disk was not called.
 pub fn restart_image<D: Disk>(
     alloc: Global,
     disk: &mut D,
     header: &Header,
 ) -> Result<Journal, ImageFault>
     requires { IsTrue D.tells → IsSettled (file_of (D.known disk.old)) }
-    ensures written { IsTrue D.tells → OnOk result ((D.known disk.new).seen ≡ image 2 header.now []) }
-    ensures ok { IsTrue D.tells → IfOk result (λ journal. Holds journal 2 header.now [] (file_of (D.known disk.new))) }
+    ensures written { IsTrue D.tells
+        → OnOk result ((D.known disk.new).seen ≡ image 2 header.now []) }
+    ensures ok { IsTrue D.tells
+        → IfOk result (λ journal. Holds journal 2 header.now [] (file_of (D.known disk.new))) }
     ensures extent { IfOk result (λ journal. IsExtent 2 header.now [] journal) }
     ensures beside { IsTrue D.tells → (D.known disk.new).beside ≡ (D.known disk.old).beside }
-    ensures any_moment { IsTrue D.tells → LeavesOnly (D.known disk.old) (D.known disk.new) (IsOnTheWay (D.known disk.old).seen header.now) }
+    ensures any_moment { IsTrue D.tells
+        → LeavesOnly (D.known disk.old) (D.known disk.new)
+        (IsOnTheWay (D.known disk.old).seen header.now) }
     ensures untouched { result ≡ Err ImageFault.Memory → disk.new ≡ disk.old }
     ensures most_calls { (D.known disk.new).made ≤ called 10 (D.known disk.old).made }
-    ensures cause { HasCauseOf ImageFault.Disk (D.known disk.old).faults (D.known disk.new).faults result }
+    ensures cause { HasCauseOf ImageFault.Disk (D.known disk.old).faults
+        (D.known disk.new).faults result }
 {
     let Ok(image) = NewImage::of(alloc, header, &[]) else {
         return Err(ImageFault::Memory);
@@ -51,7 +59,9 @@ fn begin_anew<D: Disk>(disk: &mut D, image: &[u8]) -> Result<(), DiskFailed>
     ensures written { IsTrue D.tells → OnOk result ((D.known disk.new).seen ≡ image.now) }
     ensures durable { IsTrue D.tells → OnOk result (IsSettled (file_of (D.known disk.new))) }
     ensures beside { IsTrue D.tells → (D.known disk.new).beside ≡ (D.known disk.old).beside }
-    ensures any_moment { IsTrue D.tells → LeavesOnly (D.known disk.old) (D.known disk.new) (IsAnew (D.known disk.old).seen image.now) }
+    ensures any_moment { IsTrue D.tells
+        → LeavesOnly (D.known disk.old) (D.known disk.new)
+        (IsAnew (D.known disk.old).seen image.now) }
     ensures most_calls { (D.known disk.new).made ≤ called 10 (D.known disk.old).made }
     ensures cause { HasCause (D.known disk.old).faults (D.known disk.new).faults result }
 {
@@ -69,7 +79,9 @@ fn spoil<D: Disk>(disk: &mut D) -> Result<(), DiskFailed>
     ensures spoilt { IsTrue D.tells → OnOk result (slice_index (D.known disk.new).seen 0 ≢ 85) }
     ensures durable { IsTrue D.tells → OnOk result (IsSettled (file_of (D.known disk.new))) }
     ensures beside { IsTrue D.tells → (D.known disk.new).beside ≡ (D.known disk.old).beside }
-    ensures any_moment { IsTrue D.tells → LeavesOnly (D.known disk.old) (D.known disk.new) (IsKeptOrSpoilt (D.known disk.old).seen) }
+    ensures any_moment { IsTrue D.tells
+        → LeavesOnly (D.known disk.old) (D.known disk.new)
+        (IsKeptOrSpoilt (D.known disk.old).seen) }
     ensures most_calls { (D.known disk.new).made ≤ called 4 (D.known disk.old).made }
     ensures cause { HasCause (D.known disk.old).faults (D.known disk.new).faults result }
 {

@@ -55,7 +55,8 @@ fn push_body(out: &mut Bytes, body: &[u8]) -> Result<(), Memory>
     out.extend(body)
 }
 
-/// What an append writes behind the gate: the body behind its length, and the next gate, which is closed.
+/// What an append writes behind the gate: the body behind its length, and the next gate, which is
+/// closed.
 pub(crate) fn behind_the_gate(alloc: Global, body: &[u8]) -> Result<Bytes, Memory>
     requires { length body.now < 2 ^ 32 }
     ensures { IfOk result (λ bytes. bytes ≡ body_field body.now ++ 0 ∷ []) }

@@ -16,7 +16,8 @@ const EMPTY_1: &[u8] = b"U1DBVOL\x01\0\x02db\0\x01a\0\0\x01\0\0\0\0\0\0";
 
 // The body that creates a document `d1` with `{"a":"x","b":1}`: 81 bytes.
 const BODY: &[u8] =
-    b"\x01\0\x02d1\x01\0\0\0\0\0\0\0\0\0\0\0\x01\0\0\0\0\0\x01\x01\0\0\0\x0f{\"a\":\"x\",\"b\":1}\0\x22T-a12aa9bff3485ffcbd67876eea76a865\0";
+    b"\x01\0\x02d1\x01\0\0\0\0\0\0\0\0\0\0\0\x01\0\0\0\0\0\x01\x01\0\0\0\x0f{\"a\":\"x\",\"b\":1}\0\
+      \x22T-a12aa9bff3485ffcbd67876eea76a865\0";
 
 const CHOICES: [Choice; 5] = [
     Choice::Nothing,

@@ -39,7 +39,8 @@ impl Error for ImageFault {}
 
 /// Puts an image of format 2 in the place of all that the disk holds: one cut, one write, one sync.
 ///
-/// A crash on the way may leave anything, and so may an answer `Disk`. At `Memory` the disk was not called.
+/// A crash on the way may leave anything, and so may an answer `Disk`. At `Memory` the disk was not
+/// called.
 pub fn write_image<D: Disk>(
     alloc: Global,
     disk: &mut D,
@@ -47,14 +48,18 @@ pub fn write_image<D: Disk>(
     bodies: &Bodies,
 ) -> Result<Journal, ImageFault>
     requires { AreBodies bodies.now }
-    ensures written { IsTrue D.tells → OnOk result ((D.known disk.new).seen ≡ image 2 header.now bodies.now) }
-    ensures ok { IsTrue D.tells → IfOk result (λ journal. Holds journal 2 header.now bodies.now (file_of (D.known disk.new))) }
+    ensures written { IsTrue D.tells
+        → OnOk result ((D.known disk.new).seen ≡ image 2 header.now bodies.now) }
+    ensures ok { IsTrue D.tells
+        → IfOk result (λ journal. Holds journal 2 header.now bodies.now
+        (file_of (D.known disk.new))) }
     ensures extent { IfOk result (λ journal. IsExtent 2 header.now bodies.now journal) }
     ensures beside { IsTrue D.tells → (D.known disk.new).beside ≡ (D.known disk.old).beside }
     ensures any_moment { IsTrue D.tells → LeavesOnly (D.known disk.old) (D.known disk.new) IsAny }
     ensures untouched { result ≡ Err ImageFault.Memory → disk.new ≡ disk.old }
     ensures calls { MakesCalls 3 (D.known disk.old) (D.known disk.new) result }
-    ensures cause { HasCauseOf ImageFault.Disk (D.known disk.old).faults (D.known disk.new).faults result }
+    ensures cause { HasCauseOf ImageFault.Disk (D.known disk.old).faults
+        (D.known disk.new).faults result }
 {
     let Ok(image) = NewImage::of(alloc, header, bodies.as_slice()) else {
         return Err(ImageFault::Memory);

@@ -1,8 +1,10 @@
 -- The lanes of a block where CR stands and LF follows.
-use Rattle.std.proofs.Common.{◌≡◌, ℕ, ◌+◌, ◌%◌, ◌^◌, ◌<◌, eqb, Bool, true, false, ◌&&◌, List, map, length, get_or, replicate, w8, bit_and, refl, sym, ap, ap₂, ◌∙◌, arith}
+use Rattle.std.proofs.Common.{◌≡◌, ℕ, ◌+◌, ◌%◌, ◌^◌, ◌<◌, eqb, Bool, true, false, ◌&&◌, List, map, length, get_or}
+use Rattle.std.proofs.Common.{replicate, w8, bit_and, refl, sym, ap, ap₂, ◌∙◌, arith}
 use Rattle.std.specs.Prelude.{Option, MatchOption}
 use Rattle.std.proofs.lemmas.Bool.{eqb-true, eqb-false, eq-eqb}
-use Rattle.std.proofs.lemmas.Simd.{bitmask_splat, none_from_empty_mask, length-chunk, get_or-chunk, length-replicate, get_or-replicate}
+use Rattle.std.proofs.lemmas.Simd.{bitmask_splat, none_from_empty_mask, length-chunk, get_or-chunk, length-replicate}
+use Rattle.std.proofs.lemmas.Simd.{get_or-replicate}
 use lib.Lanes.{chunk, zip2, mask_l, top}
 use Rattle.key_lanes.specs.Blocks.{first_set}
 use Rattle.key_lanes.specs.Breaks.{IsBreak, NoBreak, IsFirstBreak}
@@ -28,14 +30,17 @@ Fails-NoBreak bytes low high none k from to is =
 
 -- a block without CR
 pub NoBreak-without_ends : (bytes : List ℕ) (at : ℕ) → at + 16 < length bytes
-    → mask_l (map (top 7) (compared eqb (chunk at 16 bytes) (replicate 16 13))) % 2 ^ 64 ≡ 0 → NoBreak bytes at (at + 16)
+    → mask_l (map (top 7) (compared eqb (chunk at 16 bytes) (replicate 16 13))) % 2 ^ 64 ≡ 0
+    → NoBreak bytes at (at + 16)
 NoBreak-without_ends bytes at room empty k from to is =
     let long = length-chunk at 16 bytes (omega arith) in
     let no_lane = sym (bitmask_splat w8 eqb (chunk at 16 bytes) 16 13 long (omega arith)) ∙ empty in
     eqb-false _ _ (none_from_empty_mask (λ x. eqb x 13) bytes at 16 0 (omega arith) no_lane k from to) is.1
 
 pub break_lane : (bytes : List ℕ) (at : ℕ) (found : Option ℕ) → at + 16 < length bytes
-    → found ≡ first_set (mask_l (map (top 7) (zip2 bit_and (compared eqb (chunk at 16 bytes) (replicate 16 13)) (compared eqb (chunk (at + 1) 16 bytes) (replicate 16 10)))) % 2 ^ 64)
+    → found ≡ first_set (mask_l
+    (map (top 7) (zip2 bit_and (compared eqb (chunk at 16 bytes) (replicate 16 13))
+    (compared eqb (chunk (at + 1) 16 bytes) (replicate 16 10)))) % 2 ^ 64)
     → MatchOption found (NoBreak bytes at (at + 16)) (λ lane. (lane < 16) × IsFirstBreak bytes at (at + lane))
 break_lane bytes at found room is =
     let xs = chunk at 16 bytes in
@@ -49,10 +54,20 @@ break_lane bytes at found room is =
     λ j lt.
     let next : at + 1 + j ≡ at + j + 1 = omega arith in
     let cr = ap₂ eqb (get_or-chunk at 16 bytes j 0 lt) (get_or-replicate 16 j 13 0 lt) in
-    let lf = ap₂ eqb (get_or-chunk (at + 1) 16 bytes j 0 lt ∙ ap (λ k. get_or bytes k 0) next) (get_or-replicate 16 j 10 0 lt) in
-    top-both_compared 16 xs (replicate 16 13) us (replicate 16 10) long_x long_r long_u long_n eqb eqb j lt ∙ ap₂ (λ b c. b && c) cr lf in
+    let lf = ap₂ eqb (get_or-chunk (at + 1) 16 bytes j 0 lt ∙ ap (λ k. get_or bytes k 0) next)
+    (get_or-replicate 16 j 10 0 lt) in
+    top-both_compared 16 xs (replicate 16 13) us (replicate 16 10) long_x long_r long_u long_n eqb eqb j lt
+    ∙ ap₂ (λ b c. b && c) cr lf in
     let long = length-both 16 xs (replicate 16 13) us (replicate 16 10) long_x long_r long_u long_n eqb eqb in
     let first = first_lane (is_break bytes) at 16 lanes long (omega arith) says in
-    rw is (match_map (IsFirstLane (is_break bytes) at 16) (λ lane. (lane < 16) × IsFirstBreak bytes at (at + lane)) _ (Fails-NoBreak bytes at (at + 16))
-    (λ lane one. (one.inside, (omega arith, is_break-IsBreak bytes (at + lane) (omega (arith, one.inside)) one.passes, Fails-NoBreak bytes at (at + lane) one.before)))
+    rw is (match_map (IsFirstLane (is_break bytes) at 16) (λ lane. (lane < 16) × IsFirstBreak bytes at (at + lane)) _
+    (Fails-NoBreak bytes at (at + 16))
+    (λ lane one. (
+      one.inside,
+      (
+        omega arith,
+        is_break-IsBreak bytes (at + lane) (omega (arith, one.inside)) one.passes,
+        Fails-NoBreak bytes at (at + lane) one.before,
+      ),
+    ))
     first)

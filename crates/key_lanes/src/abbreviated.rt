@@ -2,8 +2,9 @@
 ghost use Rattle.std.specs.Prelude.{◌≡◌, ◌^◌, ◌<◌, ◌≤◌, slice_index};
 ghost use Rattle.key_lanes.specs.AbbreviatedKeys.{IsAbbreviatedKey};
 
-/// So many first bytes as a number, the first the highest. A place past the end counts 0. Where the numbers of two
-/// keys differ, their order is that of the keys; where they are equal, nothing is known.
+/// So many first bytes as a number, the first the highest. A place past the end counts 0. Where the
+/// numbers of two keys differ, their order is that of the keys; where they are equal, nothing is
+/// known.
 pub fn abbreviated_key(bytes: &[u8], places: usize) -> u128
     requires { places ≤ 16 }
     ensures value { IsAbbreviatedKey places bytes.now result }

@@ -55,7 +55,8 @@ fn is_ascii_block(bytes: &[u8], at: usize) -> bool
     beyond.to_bitmask() == 0
 }
 
-// The block from `at` on, in small letters. A byte below `A` wraps round, so one comparison finds the capital ones.
+// The block from `at` on, in small letters. A byte below `A` wraps round, so one comparison finds
+// the capital ones.
 #[inline(always)]
 fn lowered(bytes: &[u8], at: usize) -> u8x16
     requires { at + LANES ≤ length bytes.now }

@@ -1,6 +1,8 @@
-//! Searches and comparisons of bytes that go 16 bytes at a time, and abbreviated keys of up to 16 bytes.
+//! Searches and comparisons of bytes that go 16 bytes at a time, and abbreviated keys of up to 16
+//! bytes.
 //!
-//! Each call answers exactly what its plain definition says, for every length. None takes memory, none fails.
+//! Each call answers exactly what its plain definition says, for every length. None takes memory,
+//! none fails.
 #![tactic(auto)]
 
 mod abbreviated;

@@ -8,7 +8,8 @@ use std::simd::prelude::*;
 /// The first place at or after `from` where CR LF stands.
 pub fn find_break(bytes: &[u8], from: usize) -> Option<usize>
     requires { from ≤ length bytes.now }
-    ensures { MatchOption result (NoBreak bytes.now from (length bytes.now)) (IsFirstBreak bytes.now from) }
+    ensures { MatchOption result (NoBreak bytes.now from (length bytes.now))
+        (IsFirstBreak bytes.now from) }
 {
     let len = bytes.len();
     if len - from <= LANES {
@@ -28,10 +29,12 @@ pub fn find_break(bytes: &[u8], from: usize) -> Option<usize>
     }
 }
 
-// Two places are looked at in each turn: where the second byte is neither LF nor CR no line ends at either of them.
+// Two places are looked at in each turn: where the second byte is neither LF nor CR no line ends at
+// either of them.
 fn break_by_bytes(bytes: &[u8], from: usize) -> Option<usize>
     requires { from ≤ length bytes.now }
-    ensures { MatchOption result (NoBreak bytes.now from (length bytes.now)) (IsFirstBreak bytes.now from) }
+    ensures { MatchOption result (NoBreak bytes.now from (length bytes.now))
+        (IsFirstBreak bytes.now from) }
 {
     let mut at = from;
     while bytes.len() - at > 1 {
@@ -47,7 +50,8 @@ fn break_by_bytes(bytes: &[u8], from: usize) -> Option<usize>
     None
 }
 
-// The first lane from `at` on where CR LF stands. The LF may stand behind the block. Most blocks have no CR.
+// The first lane from `at` on where CR LF stands. The LF may stand behind the block. Most blocks
+// have no CR.
 #[inline(always)]
 fn break_in_block(bytes: &[u8], at: usize) -> Option<usize>
     requires { at + LANES < length bytes.now }

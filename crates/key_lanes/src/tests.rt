@@ -1,4 +1,5 @@
-//! Each call against its plain meaning: at each length up to two and a half blocks and at each place in it.
+//! Each call against its plain meaning: at each length up to two and a half blocks and at each
+//! place in it.
 use crate::{abbreviated_key, common_prefix, compare, find_break, is_ascii, lower_ascii};
 use std::cmp::Ordering;
 use std::process::Abort;
@@ -79,7 +80,9 @@ fn find_in_pieces(bytes: &[u8], from: usize, piece: usize) -> Option<usize> {
 #[test]
 fn finds_the_lines_of_a_body_in_pieces(rt: HostRuntime) {
     let body =
-        b"[\r\n{\"ensure\":false,\"last_known_generation\":0,\"last_known_trans_id\":\"\"},\r\n{\"content\":\"{\\\"v\\\":1}\",\"gen\":1,\"id\":\"d1\",\"rev\":\"a:1\",\"trans_id\":\"T-1\"}\r\n]\r\n";
+        b"[\r\n{\"ensure\":false,\"last_known_generation\":0,\"last_known_trans_id\":\"\"},\r\n{\"c\
+          ontent\":\"{\\\"v\\\":1}\",\"gen\":1,\"id\":\"d1\",\"rev\":\"a:1\",\"trans_id\":\"T-1\"}\
+          \r\n]\r\n";
     for piece in [1, 7, 4096] {
         for (from, place) in [(0, 1), (3, 71), (73, 143), (145, 146)] {
             assert_eq!(rt;

@@ -1,5 +1,6 @@
 -- What was read of an input, and what the input gives.
-use Rattle.std.proofs.Common.{◌≡◌, ◌⊎◌, ℕ, ◌+◌, ◌-◌, ◌≤◌, List, [], ◌++◌, length, length-append, take, Some, None, Option}
+use Rattle.std.proofs.Common.{◌≡◌, ◌⊎◌, ℕ, ◌+◌, ◌-◌, ◌≤◌, List, [], ◌++◌, length, length-append, take, Some, None}
+use Rattle.std.proofs.Common.{Option}
 use Rattle.std.proofs.Common.{refl, sym, ap, ◌∙◌, arith, inl, inr}
 use Rattle.std.proofs.KnownBytes.{Consumes-nil, Consumes-trans}
 use Rattle.std.proofs.lemmas.List.{append-nil, length-take, take_all}
@@ -17,7 +18,8 @@ front_of most read rest within =
 
 -- what is gone is a front of what the input gives
 front_given : (most : ℕ) (before after : Option (List ℕ)) (read : List ℕ) → length read ≤ most
-    → Consumes before after read → (given : List ℕ) × Gives before most given × (length given ≤ most) × IsFront read given
+    → Consumes before after read → (given : List ℕ) × Gives before most given × (length given ≤ most)
+    × IsFront read given
 front_given most None after read within gone = (read, tt, within, ([], sym (append-nil read)))
 front_given most (Some xs) None read within gone = absurd gone
 front_given most (Some xs) (Some ys) read within gone =
@@ -31,18 +33,22 @@ whole_given most None after read within gone all = tt
 whole_given most (Some xs) None read within gone all = absurd gone
 whole_given most (Some xs) (Some ys) read within gone (inl full) =
     let exact : most ≡ length read = omega (arith, full, within) in rw (gone, exact) (take-append_seam read ys)
-whole_given most (Some xs) (Some ys) read within gone (inr ended) = rw (gone, ended, append-nil read) (take_all most read within)
+whole_given most (Some xs) (Some ys) read within gone (inr ended) =
+    rw (gone, ended, append-nil read) (take_all most read within)
 
 -- one more piece: it is gone too
 pub next_gone : (first mid last : Option (List ℕ)) (old new : List ℕ) (n : ℕ)
     → Consumes first mid old → AddsNext mid last old new n → Consumes first last new
-next_gone first mid last old new n gone next = rw next.added (Consumes-trans first mid last old next.given gone next.consumed)
+next_gone first mid last old new n gone next =
+    rw next.added (Consumes-trans first mid last old next.given gone next.consumed)
 
-pub next_length : {mid last : Option (List ℕ)} {old new : List ℕ} {n : ℕ} → AddsNext mid last old new n → length new ≡ length old + n
+pub next_length : {mid last : Option (List ℕ)} {old new : List ℕ} {n : ℕ} → AddsNext mid last old new n
+    → length new ≡ length old + n
 next_length {old = old} next = rw (next.added, sym next.many) (length-append old next.given)
 
 module _ (most : ℕ) (before after : Input) (read : List ℕ)
-    (within : length read ≤ most) (gone : Consumes before.left after.left read) (later : before.faults ≤ after.faults) where
+    (within : length read ≤ most) (gone : Consumes before.left after.left read)
+    (later : before.faults ≤ after.faults) where
   -- some was read
   pub took_front : (given : List ℕ) × (gone : List ℕ) × Takes most given gone before after
   took_front =

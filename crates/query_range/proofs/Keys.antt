@@ -1,5 +1,7 @@
 -- A walk through all entries that keeps a key where it is not the last one that was kept.
-use Rattle.std.proofs.Common.{◌≡◌, ℕ, ◌+◌, ◌-◌, ◌<◌, ◌≤◌, Bool, true, false, cond, ◌||◌, List, [], ◌∷◌, ◌++◌, length, map, take, get_or, Option, Some, None, option_map, zero, suc, refl, sym, subst, ◌∙◌, ap, ap₂, arith, add-one, inl, inr, Ordering, Less, Equal, Greater}
+use Rattle.std.proofs.Common.{◌≡◌, ℕ, ◌+◌, ◌-◌, ◌<◌, ◌≤◌, Bool, true, false, cond, ◌||◌, List, [], ◌∷◌, ◌++◌, length}
+use Rattle.std.proofs.Common.{map, take, get_or, Option, Some, None, option_map, zero, suc, refl, sym, subst, ◌∙◌, ap}
+use Rattle.std.proofs.Common.{ap₂, arith, add-one, inl, inr, Ordering, Less, Equal, Greater}
 use Rattle.std.proofs.lemmas.Bool.{cases_Bool, cases_lt}
 use Rattle.std.proofs.lemmas.List.{length-append, map-append, take_more}
 use Rattle.std.specs.List.{list_any, slice_get}
@@ -18,7 +20,8 @@ abbrev pub key_before : List Entry → ℕ → Option Key
 key_before ps zero = None
 key_before ps (suc n) = option_map (λ p. p.0) (slice_get ps n)
 
--- the keys of the entries before a place are kept, each once; the last of them is that of the last entry. Each entry was looked at once
+-- the keys of the entries before a place are kept, each once; the last of them is that of the last entry. Each entry
+-- was looked at once
 pub record Listed (ps : List Entry) (place : ℕ) (keys : List Key) (begun now : ℕ) : Type 0 where
   pub once : keys ≡ keys_of (take place ps)
   pub last : slice_get keys (length keys - 1) ≡ key_before ps place
@@ -58,16 +61,19 @@ last_of xs x = ap (slice_get (xs ++ x ∷ [])) (one_less xs) ∙ at_end xs
 
 -- ---- whether a key stands among those before a place
 
-any_at : (f : Key → Bool) (ps : List Entry) (n : ℕ) (q : Entry) → Some q ≡ slice_get ps n → f q.0 ≡ true → list_any f (map (λ p. p.0) (take (suc n) ps)) ≡ true
+any_at : (f : Key → Bool) (ps : List Entry) (n : ℕ) (q : Entry) → Some q ≡ slice_get ps n → f q.0 ≡ true
+    → list_any f (map (λ p. p.0) (take (suc n) ps)) ≡ true
 any_at f [] n q at is = absurd (cc)
-any_at f (p ∷ ps) zero q at is = let one : q ≡ p = (cc) in ap (λ (b : Bool). b || false) (ap (λ (e : Entry). f e.0) (sym one) ∙ is)
+any_at f (p ∷ ps) zero q at is = let one : q ≡ p = (cc)
+    in ap (λ (b : Bool). b || false) (ap (λ (e : Entry). f e.0) (sym one) ∙ is)
 any_at f (p ∷ ps) (suc n) q at is = ap (λ (b : Bool). f p.0 || b) (any_at f ps n q at is) ∙ or_true (f p.0)
   where
     or_true : (b : Bool) → (b || true) ≡ true
     or_true true = refl
     or_true false = refl
 
-none_at : (f : Key → Bool) (ps : List Entry) (n : ℕ) → n ≤ length ps → ((k : ℕ) (d : Entry) → k < n → f (get_or ps k d).0 ≡ false) → list_any f (map (λ p. p.0) (take n ps)) ≡ false
+none_at : (f : Key → Bool) (ps : List Entry) (n : ℕ) → n ≤ length ps
+    → ((k : ℕ) (d : Entry) → k < n → f (get_or ps k d).0 ≡ false) → list_any f (map (λ p. p.0) (take n ps)) ≡ false
 none_at f [] zero le none = refl
 none_at f (p ∷ ps) zero le none = refl
 none_at f [] (suc n) le none = absurd (omega arith)
@@ -96,7 +102,8 @@ tie_back key other = ap is_eq (key_total.antisymm key other) ∙ by (key_cmp oth
     by Greater = refl
 
 -- in order, a key stands before a place just where it is that of the entry before the place
-known : (ps : List Entry) (place : ℕ) (p : Entry) → IsInOrder ps → Some p ≡ slice_get ps place → list_any (eq_by_cmp key_cmp p.0) (map (λ e. e.0) (take place ps)) ≡ is_key (key_before ps place) p.0
+known : (ps : List Entry) (place : ℕ) (p : Entry) → IsInOrder ps → Some p ≡ slice_get ps place
+    → list_any (eq_by_cmp key_cmp p.0) (map (λ e. e.0) (take place ps)) ≡ is_key (key_before ps place) p.0
 known ps zero p order at = nothing ps
   where
     nothing : (es : List Entry) → list_any (eq_by_cmp key_cmp p.0) (map (λ e. e.0) (take 0 es)) ≡ false
@@ -107,15 +114,21 @@ known ps (suc n) p order at =
     let q = before.0 in
     let q_at : Some q ≡ slice_get ps n = before.1 in
     let q_reads : (d : Entry) → get_or ps n d ≡ q = reads ps n q q_at in
-    let less : entry_cmp q p ≡ Less = subst (λ (e : Entry). entry_cmp e p ≡ Less) (q_reads p) (subst (λ (e : Entry). entry_cmp (get_or ps n p) e ≡ Less) (reads ps (suc n) p at p) (order n (suc n) p (omega arith) (in_list ps (suc n) p at))) in
+    let less : entry_cmp q p ≡ Less = subst (λ (e : Entry). entry_cmp e p ≡ Less) (q_reads p)
+    (subst (λ (e : Entry). entry_cmp (get_or ps n p) e ≡ Less) (reads ps (suc n) p at p)
+    (order n (suc n) p (omega arith) (in_list ps (suc n) p at))) in
     elim (cases_Bool (is_eq (key_cmp q.0 p.0))) [
       | inl ties ↦ any_at (eq_by_cmp key_cmp p.0) ps n q q_at (tie_back p.0 q.0 ∙ ties) ∙ sym ties
       | inr differs ↦
-          none_at (eq_by_cmp key_cmp p.0) ps (suc n) (omega (arith, in_list ps (suc n) p at)) (λ k d lt. apart_back (get_or ps k d).0 p.0 (elim (cases_lt k n) [
-            | inl early ↦ key_below (get_or ps k d) q p.0 (subst (λ (e : Entry). entry_cmp (get_or ps k d) e ≡ Less) (q_reads d) (order k n d early (omega (arith, in_list ps (suc n) p at)))) (below q p less differs)
+          none_at (eq_by_cmp key_cmp p.0) ps (suc n) (omega (arith, in_list ps (suc n) p at))
+          (λ k d lt. apart_back (get_or ps k d).0 p.0 (elim (cases_lt k n) [
+            | inl early ↦ key_below (get_or ps k d) q p.0
+                (subst (λ (e : Entry). entry_cmp (get_or ps k d) e ≡ Less) (q_reads d)
+                (order k n d early (omega (arith, in_list ps (suc n) p at)))) (below q p less differs)
             | inr late ↦
                 let here : n ≡ k = omega arith in
-                subst (λ (m : ℕ). key_cmp (get_or ps m d).0 p.0 ≡ Less) here (subst (λ (e : Entry). key_cmp e.0 p.0 ≡ Less) (sym (q_reads d)) (below q p less differs))
+                subst (λ (m : ℕ). key_cmp (get_or ps m d).0 p.0 ≡ Less) here
+                (subst (λ (e : Entry). key_cmp e.0 p.0 ≡ Less) (sym (q_reads d)) (below q p less differs))
           ]))
           ∙ sym differs
     ]
@@ -123,18 +136,23 @@ known ps (suc n) p order at =
 
 -- ---- one entry more
 
-module _ (ps : List Entry) (order : IsInOrder ps) (place : ℕ) (keys : List Key) (begun now : ℕ) (listed : Listed ps place keys begun now) (p : Entry) (at : Some p ≡ slice_get ps place) (last : Bool) (is : last ≡ is_key (slice_get keys (length keys - 1)) p.0) where
+module _ (ps : List Entry) (order : IsInOrder ps) (place : ℕ) (keys : List Key) (begun now : ℕ)
+    (listed : Listed ps place keys begun now) (p : Entry) (at : Some p ≡ slice_get ps place) (last : Bool)
+    (is : last ≡ is_key (slice_get keys (length keys - 1)) p.0) where
   next_keys : keys_of (take (place + 1) ps) ≡ cond last keys (keys ++ p.0 ∷ [])
   next_keys =
-      ap keys_of (take_more ps place p (in_list ps place p at) ∙ ap (λ (e : Entry). take place ps ++ e ∷ []) (reads ps place p at p))
+      ap keys_of (take_more ps place p (in_list ps place p at)
+      ∙ ap (λ (e : Entry). take place ps ++ e ∷ []) (reads ps place p at p))
       ∙ ap (firsts key_cmp) (map-append (λ (e : Entry). e.0) (take place ps) (p ∷ []))
       ∙ firsts-push key_cmp (map (λ e. e.0) (take place ps)) p.0
-      ∙ ap₂ (λ (b : Bool) (l : List Key). cond b l (l ++ p.0 ∷ [])) (known ps place p order at ∙ ap (λ (o : Option Key). is_key o p.0) (sym listed.last) ∙ sym is) (sym listed.once)
+      ∙ ap₂ (λ (b : Bool) (l : List Key). cond b l (l ++ p.0 ∷ []))
+      (known ps place p order at ∙ ap (λ (o : Option Key). is_key o p.0) (sym listed.last) ∙ sym is) (sym listed.once)
 
   here : key_before ps (place + 1) ≡ Some p.0
   here = ap (key_before ps) (add-one place) ∙ ap (option_map (λ (e : Entry). e.0)) (sym at)
 
-  pub listed_new : last ≡ false → (key : Key) → key ≡ p.0 → (after : List Key) → after ≡ keys ++ key ∷ [] → (later : ℕ) → later ≤ now + 1 → Listed ps (place + 1) after begun later
+  pub listed_new : last ≡ false → (key : Key) → key ≡ p.0 → (after : List Key) → after ≡ keys ++ key ∷ [] → (later : ℕ)
+      → later ≤ now + 1 → Listed ps (place + 1) after begun later
   listed_new fresh key copied after pushed later step =
       let after_is : after ≡ keys ++ p.0 ∷ [] = pushed ∙ ap (λ (k : Key). keys ++ k ∷ []) copied in
       record {
@@ -143,10 +161,12 @@ module _ (ps : List Entry) (order : IsInOrder ps) (place : ℕ) (keys : List Key
         looks = omega (arith, listed.looks, step);
       }
 
-  pub listed_known : last ≡ true → (after : List Key) → after ≡ keys → (later : ℕ) → later ≤ now + 1 → Listed ps (place + 1) after begun later
+  pub listed_known : last ≡ true → (after : List Key) → after ≡ keys → (later : ℕ) → later ≤ now + 1
+      → Listed ps (place + 1) after begun later
   listed_known ties after kept later step = record {
     once = kept ∙ ap (λ (b : Bool). cond b keys (keys ++ p.0 ∷ [])) (sym ties) ∙ sym next_keys;
-    last = ap (λ (l : List Key). slice_get l (length l - 1)) kept ∙ by (slice_get keys (length keys - 1)) (sym is ∙ ties) ∙ sym here;
+    last = ap (λ (l : List Key). slice_get l (length l - 1)) kept
+        ∙ by (slice_get keys (length keys - 1)) (sym is ∙ ties) ∙ sym here;
     looks = omega (arith, listed.looks, step);
   }
     where
@@ -155,7 +175,8 @@ module _ (ps : List Entry) (order : IsInOrder ps) (place : ℕ) (keys : List Key
       by (Some k) h = ap Some (key_same k p.0 (equal_is (key_cmp k p.0) h))
 
 -- all entries were looked at
-pub all_listed : (ps : List Entry) (place : ℕ) (keys : List Key) (begun now : ℕ) → length ps ≤ place → Listed ps place keys begun now → keys ≡ keys_of ps
+pub all_listed : (ps : List Entry) (place : ℕ) (keys : List Key) (begun now : ℕ) → length ps ≤ place
+    → Listed ps place keys begun now → keys ≡ keys_of ps
 all_listed ps place keys begun now whole listed = listed.once ∙ ap keys_of (all ps place whole)
   where
     all : (es : List Entry) (n : ℕ) → length es ≤ n → take n es ≡ es

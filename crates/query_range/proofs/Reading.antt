@@ -1,5 +1,6 @@
 -- What the values of a query are read as, one after the other.
-use Rattle.std.proofs.Common.{◌≡◌, ◌≢◌, ℕ, ◌-◌, ◌<◌, Bool, true, false, cond, ◌&&◌, List, [], ◌∷◌, ◌++◌, length, map, take, drop, get_or, zero, suc, refl, sym, subst, ◌∙◌, ap, arith, eqb-true, inl, inr}
+use Rattle.std.proofs.Common.{◌≡◌, ◌≢◌, ℕ, ◌-◌, ◌<◌, Bool, true, false, cond, ◌&&◌, List, [], ◌∷◌, ◌++◌, length, map}
+use Rattle.std.proofs.Common.{take, drop, get_or, zero, suc, refl, sym, subst, ◌∙◌, ap, arith, eqb-true, inl, inr}
 use Rattle.std.proofs.lemmas.Bool.{cases_Bool}
 use Rattle.std.proofs.lemmas.List.{take-map, length-map, take-append-drop}
 use Rattle.std.specs.Cmp.Lexicographic.{pointwise}
@@ -11,7 +12,8 @@ use Rattle.query_range.specs.declared.pattern.Part.TheVariants.{Exact}
 
 -- a value that ends in a byte is what stands before it, and that byte
 last_is : (n : ℕ) (v : List ℕ) → ends_with nat_eq v (n ∷ []) ≡ true → v ≡ take (length v - 1) v ++ n ∷ []
-last_is n v ends = sym (take-append-drop (length v - 1) v) ∙ ap (λ (l : List ℕ). take (length v - 1) v ++ l) (only (drop (length v - 1) v) ends)
+last_is n v ends = sym (take-append-drop (length v - 1) v)
+    ∙ ap (λ (l : List ℕ). take (length v - 1) v ++ l) (only (drop (length v - 1) v) ends)
   where
     only : (l : List ℕ) → pointwise nat_eq (n ∷ []) l ≡ true → l ≡ n ∷ []
     only [] is = absurd (cc)
@@ -35,18 +37,22 @@ exact_part v none =
     ]
 
 -- the value at a place breaks the rule, and those before it are a pattern
-pub breaks_first : (values : List (List ℕ)) (n : ℕ) (value : List ℕ) (parts : List Part) (part : Part) (opened : Bool) → n < length values → value ≡ get_or values n value → part ≡ part_of value
-    → parts ≡ map part_of (take n values) → opened ≡ list_any is_open parts → IsPattern parts → opened ≡ true → is_any part ≡ false → BreaksFirst (map part_of values) n
+pub breaks_first : (values : List (List ℕ)) (n : ℕ) (value : List ℕ) (parts : List Part) (part : Part) (opened : Bool)
+    → n < length values → value ≡ get_or values n value → part ≡ part_of value
+    → parts ≡ map part_of (take n values) → opened ≡ list_any is_open parts → IsPattern parts → opened ≡ true
+    → is_any part ≡ false → BreaksFirst (map part_of values) n
 breaks_first values n value parts part opened lt at is parts_is open_is pattern behind here =
     let front : parts ≡ take n (map part_of values) = parts_is ∙ sym (take-map part_of n values) in
     record {
       within = omega (arith, length-map values part_of);
       before = subst IsPattern front pattern;
       behind_open = subst (λ (l : List Part). list_any is_open l ≡ true) front (sym open_is ∙ behind);
-      not_any = λ d. ap is_any (sym (there values n d lt) ∙ ap part_of (sym (at ∙ other values n value d lt)) ∙ sym is) ∙ here;
+      not_any = λ d. ap is_any (sym (there values n d lt) ∙ ap part_of (sym (at ∙ other values n value d lt)) ∙ sym is)
+          ∙ here;
     }
   where
-    there : (vs : List (List ℕ)) (k : ℕ) (d : Part) → k < length vs → part_of (get_or vs k []) ≡ get_or (map part_of vs) k d
+    there : (vs : List (List ℕ)) (k : ℕ) (d : Part) → k < length vs
+        → part_of (get_or vs k []) ≡ get_or (map part_of vs) k d
     there [] k d below = absurd (omega arith)
     there (v ∷ vs) zero d below = refl
     there (v ∷ vs) (suc k) d below = there vs k d (omega arith)
@@ -61,7 +67,8 @@ pub other_width : (parts : List Part) (texts : List (List ℕ)) → length parts
 other_width [] [] other = absurd (other refl)
 other_width [] (text ∷ texts) other = refl
 other_width (part ∷ parts) [] other = refl
-other_width (part ∷ parts) (text ∷ texts) other = by (part_meets part text) (other_width parts texts (λ same. other (omega arith)))
+other_width (part ∷ parts) (text ∷ texts) other =
+    by (part_meets part text) (other_width parts texts (λ same. other (omega arith)))
   where
     by : (b : Bool) → false ≡ meets parts texts → false ≡ (b && meets parts texts)
     by true h = h

@@ -1,5 +1,6 @@
 -- A filter that passes one run of a list: what it gives is taken from the run's first place, while a test passes.
-use Rattle.std.proofs.Common.{◌≡◌, ℕ, ◌<◌, ◌≤◌, Bool, true, false, cond, List, [], ◌∷◌, length, get_or, drop, zero, suc, refl, sym, ◌∙◌, ap, arith}
+use Rattle.std.proofs.Common.{◌≡◌, ℕ, ◌<◌, ◌≤◌, Bool, true, false, cond, List, [], ◌∷◌, length, get_or, drop, zero, suc}
+use Rattle.std.proofs.Common.{refl, sym, ◌∙◌, ap, arith}
 use Rattle.std.proofs.lemmas.List.Sums.{take_while-cons}
 use Rattle.std.specs.List.{filter, take_while}
 
@@ -20,7 +21,9 @@ module _ {X : Type 0} (f : X → Bool) where
         elim (g x) as (λ (b : Bool). g x ≡ b → filter f (x ∷ xs) ≡ cond b (x ∷ take_while g xs) []) [
           | true ↦ λ is.
               ap (λ (b : Bool). cond b (x ∷ filter f xs) (filter f xs)) (agree 0 x (omega arith) ∙ is)
-              ∙ ap (λ (l : List X). x ∷ l) (run_at_start xs (λ k d lt. agree (suc k) d (omega arith)) (λ i k d lt le. closed (suc i) (suc k) d (omega arith) (omega arith)))
+              ∙ ap (λ (l : List X). x ∷ l)
+              (run_at_start xs (λ k d lt. agree (suc k) d (omega arith))
+              (λ i k d lt le. closed (suc i) (suc k) d (omega arith) (omega arith)))
           | false ↦ λ is. none_pass (x ∷ xs) (λ k d lt. agree k d lt ∙ fails is k d lt)
         ] refl
         ∙ sym (take_while-cons g x xs)
@@ -33,13 +36,15 @@ module _ {X : Type 0} (f : X → Bool) where
         fails is zero d lt = is
         fails is (suc k) d lt = refuted (g (get_or xs k d)) (closed 0 (suc k) d (omega arith) lt) is
 
-    -- no item before the place passes; from there on the filter asks what the test asks, and what comes before an item that passes it does so too
+    -- no item before the place passes; from there on the filter asks what the test asks, and what comes before an item
+    -- that passes it does so too
     pub run : (xs : List X) (n : ℕ) → n ≤ length xs
         → ((k : ℕ) (d : X) → k < n → f (get_or xs k d) ≡ false)
         → ((k : ℕ) (d : X) → n ≤ k → k < length xs → f (get_or xs k d) ≡ g (get_or xs k d))
         → ((i k : ℕ) (d : X) → n ≤ i → i < k → k < length xs → g (get_or xs k d) ≡ true → g (get_or xs i d) ≡ true)
         → filter f xs ≡ take_while g (drop n xs)
-    run xs zero le before agree closed = run_at_start xs (λ k d lt. agree k d (omega arith) lt) (λ i k d lt in_xs. closed i k d (omega arith) lt in_xs)
+    run xs zero le before agree closed = run_at_start xs (λ k d lt. agree k d (omega arith) lt)
+        (λ i k d lt in_xs. closed i k d (omega arith) lt in_xs)
     run [] (suc n) le before agree closed = absurd (omega arith)
     run (x ∷ xs) (suc n) le before agree closed =
         ap (λ (b : Bool). cond b (x ∷ filter f xs) (filter f xs)) (before 0 x (omega arith))

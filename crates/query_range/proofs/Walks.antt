@@ -1,5 +1,6 @@
 -- A walk through entries from a place on, up to the first that is not taken.
-use Rattle.std.proofs.Common.{◌≡◌, ℕ, ◌+◌, ◌≤◌, Bool, true, false, cond, List, [], ◌∷◌, ◌++◌, length, map, drop, zero, suc, refl, sym, ◌∙◌, ap, ap₂, arith, add-one, Bor, Some, None}
+use Rattle.std.proofs.Common.{◌≡◌, ℕ, ◌+◌, ◌≤◌, Bool, true, false, cond, List, [], ◌∷◌, ◌++◌, length, map, drop, zero}
+use Rattle.std.proofs.Common.{suc, refl, sym, ◌∙◌, ap, ap₂, arith, add-one, Bor, Some, None}
 use Rattle.std.proofs.lemmas.List.{append-nil, append_assoc, length-append, map-append}
 use Rattle.std.proofs.lemmas.List.Sums.{take_while-cons}
 use Rattle.std.specs.List.{slice_get, take_while}
@@ -27,34 +28,42 @@ abbrev pub told : List (Bor (List ℕ)) → List (List ℕ)
 told found = map (λ id. id.now) found
 
 -- the entries from the first place to this one are taken, and their ids found. Each was looked at once
-pub record Walked (test : Entry → Bool) (entries : List Entry) (start place : ℕ) (found : List (Bor (List ℕ))) (begun now : ℕ) : Type 0 where
+pub record Walked (test : Entry → Bool) (entries : List Entry) (start place : ℕ) (found : List (Bor (List ℕ)))
+    (begun now : ℕ) : Type 0 where
   pub taken : List Entry
   pub split : take_while test (drop start entries) ≡ taken ++ take_while test (drop place entries)
   pub ids : told found ≡ ids_of taken
   pub looks : now ≤ begun + length taken
 
-module _ (test : Entry → Bool) (entries : List Entry) (start place : ℕ) (found : List (Bor (List ℕ))) (begun now : ℕ) (walked : Walked test entries start place found begun now) where
+module _ (test : Entry → Bool) (entries : List Entry) (start place : ℕ) (found : List (Bor (List ℕ))) (begun now : ℕ)
+    (walked : Walked test entries start place found begun now) where
   -- nothing more is taken
   pub walk_ends : take_while test (drop place entries) ≡ [] → told found ≡ ids_of (take_while test (drop start entries))
-  walk_ends ends = walked.ids ∙ ap ids_of (sym (walked.split ∙ ap (λ (l : List Entry). walked.taken ++ l) ends ∙ append-nil walked.taken))
+  walk_ends ends = walked.ids
+      ∙ ap ids_of (sym (walked.split ∙ ap (λ (l : List Entry). walked.taken ++ l) ends ∙ append-nil walked.taken))
 
   pub past_end : drop place entries ≡ [] → take_while test (drop place entries) ≡ []
   past_end none = ap (take_while test) none
 
   module _ (entry : Entry) (at : Some entry ≡ slice_get entries place) where
-    split_off : take_while test (drop place entries) ≡ cond (test entry) (entry ∷ take_while test (drop (place + 1) entries)) []
-    split_off = ap (take_while test) (from_place entries place entry at) ∙ take_while-cons test entry (drop (place + 1) entries)
+    split_off : take_while test (drop place entries)
+        ≡ cond (test entry) (entry ∷ take_while test (drop (place + 1) entries)) []
+    split_off = ap (take_while test) (from_place entries place entry at)
+        ∙ take_while-cons test entry (drop (place + 1) entries)
 
     pub refused : test entry ≡ false → take_while test (drop place entries) ≡ []
     refused fails = split_off ∙ ap (λ (b : Bool). cond b (entry ∷ take_while test (drop (place + 1) entries)) []) fails
 
     -- one entry more is taken
-    pub took : test entry ≡ true → (id : Bor (List ℕ)) → id.now ≡ entry.1 → (after : List (Bor (List ℕ))) → after ≡ found ++ id ∷ [] → (later : ℕ) → later ≤ now + 1 → Walked test entries start (place + 1) after begun later
+    pub took : test entry ≡ true → (id : Bor (List ℕ)) → id.now ≡ entry.1 → (after : List (Bor (List ℕ)))
+        → after ≡ found ++ id ∷ [] → (later : ℕ) → later ≤ now + 1
+        → Walked test entries start (place + 1) after begun later
     took passes id id_is after pushed later step = record {
       taken = walked.taken ++ entry ∷ [];
       split =
           walked.split
-          ∙ ap (λ (l : List Entry). walked.taken ++ l) (split_off ∙ ap (λ (b : Bool). cond b (entry ∷ take_while test (drop (place + 1) entries)) []) passes)
+          ∙ ap (λ (l : List Entry). walked.taken ++ l)
+          (split_off ∙ ap (λ (b : Bool). cond b (entry ∷ take_while test (drop (place + 1) entries)) []) passes)
           ∙ sym (append_assoc walked.taken (entry ∷ []) (take_while test (drop (place + 1) entries)));
       ids =
           ap told pushed

@@ -33,7 +33,8 @@ floor_at_prefix = refl
 
 -- d1 has two keys, and stands at the lesser one
 worked : List Entry
-worked = (codes "b" ∷ [], codes "d2") ∷ (codes "b" ∷ [], codes "d1") ∷ (codes "d" ∷ [], codes "d3") ∷ (codes "d" ∷ [], codes "d1") ∷ []
+worked = (codes "b" ∷ [], codes "d2") ∷ (codes "b" ∷ [], codes "d1") ∷ (codes "d" ∷ [], codes "d3")
+    ∷ (codes "d" ∷ [], codes "d1") ∷ []
 
 all_of_them : answer (is_between None None) worked ≡ codes "d2" ∷ codes "d1" ∷ codes "d3" ∷ []
 unfolding worked

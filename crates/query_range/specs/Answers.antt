@@ -56,7 +56,8 @@ pub record IsLeastKey (wanted : Key → Bool) (entries : List Entry) (id : List 
 -- the documents that have a wanted key and no others, by their least wanted keys and then by id. So each stands once
 pub record IsAnswer (wanted : Key → Bool) (entries : List Entry) (ids : List (List ℕ)) : Type 0 where
   pub members : (id : List ℕ) → list_any (same_id id) ids ≡ list_any (λ entry. is_of id entry && wanted entry.0) entries
-  pub order : AllPairs (λ id later. (key other : Key) → IsLeastKey wanted entries id key → IsLeastKey wanted entries later other → entry_cmp (key, id) (other, later) ≡ Less) ids
+  pub order : AllPairs (λ id later. (key other : Key) → IsLeastKey wanted entries id key
+      → IsLeastKey wanted entries later other → entry_cmp (key, id) (other, later) ≡ Less) ids
 
 -- the keys of the entries and no others. They rise, so each stands once
 pub record AreKeys (entries : List Entry) (keys : List Key) : Type 0 where
@@ -91,6 +92,9 @@ pub record AreKeysBy (documents : Documents) (keys : List Key) : Type 0 where
 
 -- what the table of documents answers is the answer by these documents, and there is no other
 pub record AnswersByDocuments : Type 0 where
-  pub found : (wanted : Key → Bool) (documents : Documents) (entries : List Entry) (ids : List (List ℕ)) → IsTableOf documents entries → IsAnswer wanted entries ids → IsAnswerBy wanted documents ids
-  pub one : (wanted : Key → Bool) (documents : Documents) (ids others : List (List ℕ)) → IsAnswerBy wanted documents ids → IsAnswerBy wanted documents others → ids ≡ others
-  pub keys : (documents : Documents) (entries : List Entry) (keys : List Key) → IsTableOf documents entries → AreKeys entries keys → AreKeysBy documents keys
+  pub found : (wanted : Key → Bool) (documents : Documents) (entries : List Entry) (ids : List (List ℕ))
+      → IsTableOf documents entries → IsAnswer wanted entries ids → IsAnswerBy wanted documents ids
+  pub one : (wanted : Key → Bool) (documents : Documents) (ids others : List (List ℕ))
+      → IsAnswerBy wanted documents ids → IsAnswerBy wanted documents others → ids ≡ others
+  pub keys : (documents : Documents) (entries : List Entry) (keys : List Key) → IsTableOf documents entries
+      → AreKeys entries keys → AreKeysBy documents keys

@@ -1,5 +1,6 @@
 -- The ids that a search found so far. Only private clauses speak of them.
-use Rattle.std.specs.Prelude.{◌≡◌, ℕ, ◌%◌, Bool, true, false, ◌||◌, List, length, slice_index_or, Option, Some, None, is_some}
+use Rattle.std.specs.Prelude.{◌≡◌, ℕ, ◌%◌, Bool, true, false, ◌||◌, List, length, slice_index_or, Option, Some, None}
+use Rattle.std.specs.Prelude.{is_some}
 use Rattle.std.specs.Borrow.{Bor}
 use Rattle.std.specs.BTreeSet.{BTreeSet, contains}
 use Rattle.std.specs.Hash.{str}
@@ -38,4 +39,5 @@ HoldsOneMore places others id new_places new =
 
 -- what stands in the tree has a place that is taken
 abbrev pub AreBehind : Places → BTreeSet (Bor (List ℕ)) → Type 0
-AreBehind places others = (id : Bor (List ℕ)) → contains text_cmp others id ≡ true → is_some (owner places id.now) ≡ true
+AreBehind places others = (id : Bor (List ℕ)) → contains text_cmp others id ≡ true
+    → is_some (owner places id.now) ≡ true

@@ -1,5 +1,6 @@
 -- Patterns: what the values of a query ask of the texts of a key.
-use Rattle.std.specs.Prelude.{◌≡◌, ◌≢◌, ℕ, ◌-◌, ◌<◌, Bool, true, false, cond, ◌&&◌, nat_eq, List, [], ◌∷◌, length, map, take, codes, Result, Ok, Err}
+use Rattle.std.specs.Prelude.{◌≡◌, ◌≢◌, ℕ, ◌-◌, ◌<◌, Bool, true, false, cond, ◌&&◌, nat_eq, List, [], ◌∷◌, length, map}
+use Rattle.std.specs.Prelude.{take, codes, Result, Ok, Err}
 use Rattle.std.specs.Cmp.Lexicographic.{pointwise}
 use Rattle.std.specs.List.{AllPairs, HoldsAt, list_any, starts_with, ends_with}
 use Rattle.query_range.specs.declared.pattern.Part.{Part}

@@ -41,7 +41,8 @@ impl<'a> Found<'a> {
 
     // None, with places for so many ids.
     fn new(alloc: Global, ids: usize) -> Result<Found<'a>, Memory>
-        ensures { IfOk result (λ found. (id : _) → holds found.places.items found.others id ≡ false) }
+        ensures { IfOk result (λ found. (id : _)
+            → holds found.places.items found.others id ≡ false) }
     {
         let mut places = Vec::new(alloc);
         places.resize(ids.saturating_mul(2).max(1), None)?;
@@ -53,8 +54,11 @@ impl<'a> Found<'a> {
 
     // Whether the id is a new one. It is kept.
     fn insert(&mut self, id: &'a str) -> Result<bool, Memory>
-        ensures fresh { IfOk result (λ fresh. fresh ≡ not (holds self.old.places.items self.old.others id.entry)) }
-        ensures kept { OnOk result (HoldsOneMore self.old.places.items self.old.others id.entry self.new.places.items self.new.others) }
+        ensures fresh { IfOk result
+            (λ fresh. fresh ≡ not (holds self.old.places.items self.old.others id.entry)) }
+        ensures kept { OnOk result
+            (HoldsOneMore self.old.places.items self.old.others id.entry self.new.places.items
+            self.new.others) }
     {
         let place = place_of(id, self.places.len());
         match self.places[place] {

@@ -1,7 +1,8 @@
 //! Patterns.
 ghost use Rattle.std.specs.Prelude.{◌≡◌, IfOk};
 ghost use Rattle.query_range.specs.Floor.{floor_of};
-ghost use Rattle.query_range.specs.Patterns.{before_star, is_any, is_open, meets, part_meets, part_of};
+ghost use Rattle.query_range.specs.Patterns.{before_star, is_any, is_open, meets, part_meets};
+ghost use Rattle.query_range.specs.Patterns.{part_of};
 
 use crate::PatternFault;
 use std::alloc::Global;
@@ -72,7 +73,8 @@ fn starred_part(alloc: Global, begin: &str) -> Result<Part, Memory>
     Ok(Part::Prefix(Text::copy(alloc, begin)?))
 }
 
-/// The parts of a query, one for each expression of the index. Behind a prefix or any, all parts are any.
+/// The parts of a query, one for each expression of the index. Behind a prefix or any, all parts
+/// are any.
 #[derive(Debug, Drop)]
 pub struct Pattern {
     parts: Items<Part>,
@@ -122,8 +124,8 @@ impl Pattern {
         self.parts.as_slice()
     }
 
-    /// Whether the key has as many texts as the pattern has parts, and each is what its part asks for. It takes no
-    /// memory.
+    /// Whether the key has as many texts as the pattern has parts, and each is what its part asks
+    /// for. It takes no memory.
     pub fn meets(&self, key: &Key) -> bool
         ensures { result ≡ meets self.now key.now }
     {

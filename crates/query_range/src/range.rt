@@ -26,7 +26,8 @@ pub fn matching<L: Ledger>(
     requires width { HaveWidth (length pattern.now) table.now.pairs }
     ensures found { IfOk result (IsAnswer (meets pattern.now) table.now.pairs) }
     ensures filtered { IfOk result (λ ids. ids ≡ answer (meets pattern.now) table.now.pairs) }
-    ensures looks { FewLooks (length table.now.pairs) (length (wanted_of (meets pattern.now) table.now.pairs) + 1) steps.old steps.new }
+    ensures looks { FewLooks (length table.now.pairs)
+        (length (wanted_of (meets pattern.now) table.now.pairs) + 1) steps.old steps.new }
 {
     let floor = pattern.floor(alloc)?;
     let from = table.seek(floor.as_slice(), steps);
@@ -46,8 +47,11 @@ pub fn between<L: Ledger>(
     steps: &mut Steps<L>,
 ) -> Result<Ids, Memory>
     ensures found { IfOk result (IsAnswer (is_within start.entry end.entry) table.now.pairs) }
-    ensures filtered { IfOk result (λ ids. ids ≡ answer (is_within start.entry end.entry) table.now.pairs) }
-    ensures looks { FewLooks (length table.now.pairs) (length (wanted_of (is_within start.entry end.entry) table.now.pairs) + 1) steps.old steps.new }
+    ensures filtered { IfOk result
+        (λ ids. ids ≡ answer (is_within start.entry end.entry) table.now.pairs) }
+    ensures looks { FewLooks (length table.now.pairs)
+        (length (wanted_of (is_within start.entry end.entry) table.now.pairs) + 1)
+        steps.old steps.new }
 {
     let from = start_of(table, start, steps);
     ids_from(alloc, table, from, &up_to(end), steps)

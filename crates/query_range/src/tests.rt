@@ -483,7 +483,8 @@ fn random_table(alloc: Global, random: &mut Random) -> Result<IndexTable, Fail> 
     Ok(table)
 }
 
-// The ids of the pairs whose key meets the pattern, each at its first pair, by a walk through all pairs.
+// The ids of the pairs whose key meets the pattern, each at its first pair, by a walk through all
+// pairs.
 fn filtered(alloc: Global, table: &IndexTable, pattern: &Pattern) -> Result<String, Fail> {
     let mut spelling = String::new(alloc);
     for place in 0..table.length() {

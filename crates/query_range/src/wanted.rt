@@ -32,7 +32,8 @@ impl Wanted<'_> {
     }
 }
 
-/// The documents of the pairs from a place to the first whose key is not taken, each once, at its first pair.
+/// The documents of the pairs from a place to the first whose key is not taken, each once, at its
+/// first pair.
 pub(crate) fn ids_from<L: Ledger>(
     alloc: Global,
     table: &IndexTable,
@@ -40,8 +41,11 @@ pub(crate) fn ids_from<L: Ledger>(
     wanted: &Wanted<'_>,
     steps: &mut Steps<L>,
 ) -> Result<Ids, Memory>
-    ensures ids { IfOk result (λ ids. ids ≡ firsts id_cmp (map (λ p. p.1) (taken_from from (takes wanted.now) table.now.pairs))) }
-    ensures looks { steps.new ≤ steps.old + length (taken_from from (takes wanted.now) table.now.pairs) + 1 }
+    ensures ids { IfOk result
+        (λ ids. ids ≡ firsts id_cmp
+        (map (λ p. p.1) (taken_from from (takes wanted.now) table.now.pairs))) }
+    ensures looks { steps.new ≤ steps.old
+        + length (taken_from from (takes wanted.now) table.now.pairs) + 1 }
 {
     let mut found = Vec::new(alloc);
     let mut entries = table.walk();

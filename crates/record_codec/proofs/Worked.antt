@@ -6,7 +6,8 @@ use Rattle.conflicts.specs.declared.accept.Making.TheVariants as making_of
 use Rattle.conflicts.specs.declared.moves.PosTable.TheVariants as table_of
 use Rattle.conflicts.specs.State.{Step, Accepted, Moved}
 use Rattle.record_fields.specs.Table.{Text}
-use Rattle.record_codec.specs.Bodies.{accept, moved, maybe_moved, body_of, added_of, recorded_in, step_in, first_body_of}
+use Rattle.record_codec.specs.Bodies.{accept, moved, maybe_moved, body_of, added_of, recorded_in, step_in}
+use Rattle.record_codec.specs.Bodies.{first_body_of}
 
 -- only a has a number
 own : List Text
@@ -63,9 +64,17 @@ behind = refl
 -- the document d is deleted at a:1, under the transaction id T
 deleted : Step
 deleted =
-    Accepted (codes "d") (record { rev = record { entries = (codes "a", 1) ∷ []; well = tt }; content = None; making = making_of.Edit; parents = []; current = true }) (codes "T") None
+    Accepted (codes "d") (record {
+      rev = record { entries = (codes "a", 1) ∷ []; well = tt };
+      content = None;
+      making =
+          making_of.Edit;
+      parents = [];
+      current = true;
+    }) (codes "T") None
 
-numbers : body_of own deleted ≡ 1 ∷ 0 ∷ 1 ∷ 100 ∷ 1 ∷ 0 ∷ 0 ∷ 0 ∷ 0 ∷ 0 ∷ 0 ∷ 0 ∷ 0 ∷ 0 ∷ 0 ∷ 0 ∷ 1 ∷ 0 ∷ 0 ∷ 0 ∷ 0 ∷ 0 ∷ 1 ∷ 0 ∷ 0 ∷ 1 ∷ 84 ∷ 0 ∷ []
+numbers : body_of own deleted ≡ 1 ∷ 0 ∷ 1 ∷ 100 ∷ 1 ∷ 0 ∷ 0 ∷ 0 ∷ 0 ∷ 0 ∷ 0 ∷ 0 ∷ 0 ∷ 0 ∷ 0 ∷ 0 ∷ 1 ∷ 0 ∷ 0 ∷ 0 ∷ 0 ∷ 0
+    ∷ 1 ∷ 0 ∷ 0 ∷ 1 ∷ 84 ∷ 0 ∷ []
 unfolding body_of accept maybe_moved own deleted
 numbers = refl
 

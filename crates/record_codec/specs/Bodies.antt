@@ -1,5 +1,6 @@
 -- The body of an entry: one step of a history.
-use Rattle.std.specs.Prelude.{ℕ, zero, suc, ◌-◌, ◌==◌, Bool, List, [], length, if◌then◌else◌, Option, Some, None, Result, Ok, Err}
+use Rattle.std.specs.Prelude.{ℕ, zero, suc, ◌-◌, ◌==◌, Bool, List, [], length, if◌then◌else◌, Option, Some, None}
+use Rattle.std.specs.Prelude.{Result, Ok, Err}
 use Rattle.u1_base.specs.Places.{Place}
 use Rattle.u1_base.specs.declared.ids.Form.TheVariants.{Document, Transaction, Name}
 use Rattle.content.specs.Tree.{Tree}

@@ -8,23 +8,29 @@ use u1_base::ReplicaUid;
 
 // The first body of an image, which creates a document: 81 bytes.
 const CREATED: &[u8] =
-    b"\x01\0\x02d1\x01\0\0\0\0\0\0\0\0\0\0\0\x01\0\0\0\0\0\x01\x01\0\0\0\x0f{\"a\":\"x\",\"b\":1}\0\x22T-a12aa9bff3485ffcbd67876eea76a865\0";
+    b"\x01\0\x02d1\x01\0\0\0\0\0\0\0\0\0\0\0\x01\0\0\0\0\0\x01\x01\0\0\0\x0f{\"a\":\"x\",\"b\":1}\0\
+      \x22T-a12aa9bff3485ffcbd67876eea76a865\0";
 
 // The same in format 1: 73 bytes.
 const CREATED_FIRST: &[u8] =
-    b"\x01\0\x02d1\0\x03a:1\0\0\0\0\0\x01\x01\0\0\0\x0f{\"a\":\"x\",\"b\":1}\0\x22T-a12aa9bff3485ffcbd67876eea76a865\0";
+    b"\x01\0\x02d1\0\x03a:1\0\0\0\0\0\x01\x01\0\0\0\x0f{\"a\":\"x\",\"b\":1}\0\x22T-a12aa9bff3485ff\
+      cbd67876eea76a865\0";
 
 // A revision of another replica, with the move of its place: 119 bytes.
 const TAKEN: &[u8] =
-    b"\x01\0\x02d1\x01\0\0\0\x01\0\x01b\0\0\0\0\0\0\0\x01\x03\0\0\0\0\x01\x01\0\0\0\x02{}\0\x22T-a12aa9bff3485ffcbd67876eea76a865\x02\0\0\0\x01\0\0\0\0\0\0\0\x01\0\x22T-a12aa9bff3485ffcbd67876eea76a865";
+    b"\x01\0\x02d1\x01\0\0\0\x01\0\x01b\0\0\0\0\0\0\0\x01\x03\0\0\0\0\x01\x01\0\0\0\x02{}\0\x22T-a1\
+      2aa9bff3485ffcbd67876eea76a865\x02\0\0\0\x01\0\0\0\0\0\0\0\x01\0\x22T-a12aa9bff3485ffcbd67876\
+      eea76a865";
 
 const TAKEN_FIRST: &[u8] =
-    b"\x01\0\x02d1\0\x03b:1\x03\0\0\0\0\x01\x01\0\0\0\x02{}\0\x22T-a12aa9bff3485ffcbd67876eea76a865\x02\0\x01b\0\0\0\0\0\0\0\x01\0\x22T-a12aa9bff3485ffcbd67876eea76a865";
+    b"\x01\0\x02d1\0\x03b:1\x03\0\0\0\0\x01\x01\0\0\0\x02{}\0\x22T-a12aa9bff3485ffcbd67876eea76a865\
+      \x02\0\x01b\0\0\0\0\0\0\0\x01\0\x22T-a12aa9bff3485ffcbd67876eea76a865";
 
 // A merge with two parents, which is not current and has no content; what is gone; a move; an
 // index; a dropped index; the two bodies above.
 const BODIES: [&[u8]; 7] = [
-    b"\x01\0\x01d\x02\0\0\0\0\0\0\0\0\0\0\0\x02\0\0\0\x01\0\x01c\0\0\0\0\0\0\0\x01\x02\0\0\0\x02\x01\0\0\0\x01\0\0\0\0\0\0\0\x03\x01\0\0\0\x02\0\x01b\0\0\0\0\0\0\0\x04\0\0\0\x01T\0",
+    b"\x01\0\x01d\x02\0\0\0\0\0\0\0\0\0\0\0\x02\0\0\0\x01\0\x01c\0\0\0\0\0\0\0\x01\x02\0\0\0\x02\
+      \x01\0\0\0\x01\0\0\0\0\0\0\0\x03\x01\0\0\0\x02\0\x01b\0\0\0\0\0\0\0\x04\0\0\0\x01T\0",
     b"\x02\0\x01d\0\x01T\x01\0\0\0\x01\0\x01b\0\0\0\0\0\0\0\x07\0\x01U",
     b"\x03\x02\0\0\0\0\0\0\0\0\0\0\0\0\0\0",
     b"\x04\0\x01i\x02\0\x08lower(n)\0\x03a.b",
@@ -222,7 +228,8 @@ fn names_the_first_fault(rt: HostRuntime) -> Result<(), Fail> {
 
 // The first body with a reference to the number 5 in its clock.
 const PAST: &[u8] =
-    b"\x01\0\x02d1\x01\0\0\0\x05\0\0\0\0\0\0\0\x01\0\0\0\0\0\x01\x01\0\0\0\x0f{\"a\":\"x\",\"b\":1}\0\x22T-a12aa9bff3485ffcbd67876eea76a865\0";
+    b"\x01\0\x02d1\x01\0\0\0\x05\0\0\0\0\0\0\0\x01\0\0\0\0\0\x01\x01\0\0\0\x0f{\"a\":\"x\",\"b\":1}\
+      \0\x22T-a12aa9bff3485ffcbd67876eea76a865\0";
 
 // Where the fields of the first body begin.
 const FIELDS: [usize; 10] = [0, 1, 5, 18, 19, 23, 24, 25, 44, 80];

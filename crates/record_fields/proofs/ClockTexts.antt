@@ -22,7 +22,8 @@ length-entry_text e is =
     let inner = and_parts (is_id Replica e.0) (nat_le 1 e.1) outer.0 in
     let small = leb-true e.1 GREATEST_COUNT outer.1 in
     let short = (id_facts Replica e.0 inner.0).1 in
-    let digits : length (decimal e.1) ≤ 19 = length-decimal-le 19 e.1 (lit< tt) (omega (arith, small)) (omega (arith, small)) in
+    let digits : length (decimal e.1) ≤ 19 = length-decimal-le 19 e.1 (lit< tt) (omega (arith, small))
+    (omega (arith, small)) in
     omega (arith, length-append e.0 (58 ∷ decimal e.1), short, digits)
 
 length-entries_text : (es : Entries) → list_all is_entry es ≡ true → length (entries_text es) ≤ 85 * length es

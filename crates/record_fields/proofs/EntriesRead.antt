@@ -1,5 +1,6 @@
 -- Entries with a fault are those of no clock.
-use Rattle.std.proofs.Common.{◌≡◌, ℕ, zero, suc, ◌+◌, Bool, true, false, ◌&&◌, [], ◌∷◌, length, take, Some, None, refl, sym, ap, ◌∙◌, arith, true≢false}
+use Rattle.std.proofs.Common.{◌≡◌, ℕ, zero, suc, ◌+◌, Bool, true, false, ◌&&◌, [], ◌∷◌, length, take, Some, None, refl}
+use Rattle.std.proofs.Common.{sym, ap, ◌∙◌, arith, true≢false}
 use Rattle.std.specs.Prelude.{nat_le}
 use Rattle.std.specs.List.{list_all}
 use Rattle.std.specs.Ordering.{is_lt}
@@ -26,21 +27,25 @@ sorted_take zero es h = refl
 sorted_take (suc k) [] h = refl
 sorted_take (suc k) (e ∷ es) h =
     let parts = and_parts (below_all id_cmp e.0 es) (is_sorted id_cmp es) h in
-    and_from (below_all id_cmp e.0 (take k es)) (is_sorted id_cmp (take k es)) (below_take e.0 k es parts.0) (sorted_take k es parts.1)
+    and_from (below_all id_cmp e.0 (take k es)) (is_sorted id_cmp (take k es)) (below_take e.0 k es parts.0)
+    (sorted_take k es parts.1)
 
 clash : (es : Entries) (f : ClockFault) → IsEntriesFault es f → is_clock es ≡ true → ⊥
 clash es fault.Empty h is = true≢false (sym is ∙ ap is_clock h)
 clash es fault.TooMany h is =
-    let outer = and_parts (is_sorted id_cmp es) (list_all is_entry es && nat_le 1 (length es) && nat_le (length es) 64) is in
+    let outer = and_parts (is_sorted id_cmp es)
+    (list_all is_entry es && nat_le 1 (length es) && nat_le (length es) 64) is in
     let limits = and_parts (list_all is_entry es && nat_le 1 (length es)) (nat_le (length es) 64) outer.1 in
     absurd (omega (arith, leb-true (length es) 64 limits.1, h))
 clash es (fault.BadEntry i) h is =
-    let outer = and_parts (is_sorted id_cmp es) (list_all is_entry es && nat_le 1 (length es) && nat_le (length es) 64) is in
+    let outer = and_parts (is_sorted id_cmp es)
+    (list_all is_entry es && nat_le 1 (length es) && nat_le (length es) 64) is in
     let limits = and_parts (list_all is_entry es && nat_le 1 (length es)) (nat_le (length es) 64) outer.1 in
     let all = and_parts (list_all is_entry es) (nat_le 1 (length es)) limits.0 in
     true≢false (sym all.0 ∙ fails-position is_entry es i h.2)
 clash es (fault.NotSorted i) h is =
-    let outer = and_parts (is_sorted id_cmp es) (list_all is_entry es && nat_le 1 (length es) && nat_le (length es) 64) is in
+    let outer = and_parts (is_sorted id_cmp es)
+    (list_all is_entry es && nat_le 1 (length es) && nat_le (length es) 64) is in
     true≢false (sym (sorted_take (i + 1) es outer.0) ∙ h.3.unsorted)
 clash es fault.Memory h is = h
 

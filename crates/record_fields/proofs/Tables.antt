@@ -1,5 +1,7 @@
 -- Tables grow, keep their numbers, and give no uid two of them.
-use Rattle.std.proofs.Common.{◌≡◌, ℕ, zero, suc, ◌+◌, ◌-◌, ◌≤◌, ◌<◌, ◌^◌, Bool, true, false, not, cond, List, [], ◌∷◌, ◌++◌, length, Option, Some, None, refl, sym, ap, ◌∙◌, subst, arith, length-append, true≢false, lit≤}
+use Rattle.std.proofs.Common.{◌≡◌, ℕ, zero, suc, ◌+◌, ◌-◌, ◌≤◌, ◌<◌, ◌^◌, Bool, true, false, not, cond, List, [], ◌∷◌}
+use Rattle.std.proofs.Common.{◌++◌, length, Option, Some, None, refl, sym, ap, ◌∙◌, subst, arith, length-append}
+use Rattle.std.proofs.Common.{true≢false, lit≤}
 use Rattle.std.specs.Prelude.{◌||◌, is_some}
 use Rattle.std.specs.List.{list_all, list_any, position_from, slice_get}
 use Rattle.std.specs.Str.{bytes_eq}
@@ -16,7 +18,8 @@ pub after-append : (t : Table) (us vs : List Text) → after t (us ++ vs) ≡ af
 after-append t [] vs = refl
 after-append t (u ∷ us) vs = after-append (with_uid t u) us vs
 
-grown-longer : (t : Table) (u : Text) (b : Bool) → length (uids t) ≤ length (uids (cond b t (record { given = t.given; added = t.added ++ u ∷ [] })))
+grown-longer : (t : Table) (u : Text) (b : Bool)
+    → length (uids t) ≤ length (uids (cond b t (record { given = t.given; added = t.added ++ u ∷ [] })))
 grown-longer t u true = omega arith
 grown-longer t u false = simp length-append (omega arith)
 
@@ -37,12 +40,16 @@ pub number_of-from : (us : List Text) (u : Text) → number_of us u ≡ position
 number_of-from us u = position_from-zero (λ known. bytes_eq known u) us
 
 -- the uid of a number is the one that has it
-at_from : (us : List Text) (u : Text) (from n : ℕ) → position_from (λ known. bytes_eq known u) from us ≡ Some n → (k : ℕ) × (n ≡ from + k) × (slice_get us k ≡ Some u)
+at_from : (us : List Text) (u : Text) (from n : ℕ) → position_from (λ known. bytes_eq known u) from us ≡ Some n
+    → (k : ℕ) × (n ≡ from + k) × (slice_get us k ≡ Some u)
 at_from [] u from n e = absurd (cc e)
 at_from (v ∷ us) u from n e =
-    elim (bytes_eq v u) as (λ b. bytes_eq v u ≡ b → cond b (Some from) (position_from (λ known. bytes_eq known u) (from + 1) us) ≡ Some n → (k : ℕ) × (n ≡ from + k) × (slice_get (v ∷ us) k ≡ Some u)) [
+    elim (bytes_eq v u) as (λ b. bytes_eq v u ≡ b
+    → cond b (Some from) (position_from (λ known. bytes_eq known u) (from + 1) us) ≡ Some n → (k : ℕ) × (n ≡ from + k)
+    × (slice_get (v ∷ us) k ≡ Some u)) [
       | true ↦ λ same here. (0, omega (arith, some_is here), ap Some ((bytes_eq-Decides v u).0 same))
-      | false ↦ λ other there. let later = at_from us u (from + 1) n there in (suc later.0, omega (arith, later.1), later.2)
+      | false ↦ λ other there. let later = at_from us u (from + 1) n there
+          in (suc later.0, omega (arith, later.1), later.2)
     ] refl e
   where
     some_is : {a b : ℕ} → Some a ≡ Some b → a ≡ b
@@ -55,15 +62,18 @@ number_of-get us u n e =
     rw same found.2
 
 -- no number where none of the uids is this one
-pub none_from : (us : List Text) (u : Text) (from : ℕ) → position_from (λ known. bytes_eq known u) from us ≡ None → list_any (λ known. bytes_eq known u) us ≡ false
+pub none_from : (us : List Text) (u : Text) (from : ℕ) → position_from (λ known. bytes_eq known u) from us ≡ None
+    → list_any (λ known. bytes_eq known u) us ≡ false
 none_from [] u from e = refl
 none_from (v ∷ us) u from e =
-    elim (bytes_eq v u) as (λ b. cond b (Some from) (position_from (λ known. bytes_eq known u) (from + 1) us) ≡ None → (b || list_any (λ known. bytes_eq known u) us) ≡ false) [
+    elim (bytes_eq v u) as (λ b. cond b (Some from) (position_from (λ known. bytes_eq known u) (from + 1) us) ≡ None
+    → (b || list_any (λ known. bytes_eq known u) us) ≡ false) [
       | true ↦ λ here. absurd (cc here)
       | false ↦ λ there. none_from us u (from + 1) there
     ] e
 
-pub number_of-none : (us : List Text) (u : Text) → number_of us u ≡ None → list_any (λ known. bytes_eq known u) us ≡ false
+pub number_of-none : (us : List Text) (u : Text) → number_of us u ≡ None
+    → list_any (λ known. bytes_eq known u) us ≡ false
 number_of-none us u e = none_from us u 0 (sym (number_of-from us u) ∙ e)
 
 -- ---- no uid has two numbers
@@ -71,7 +81,8 @@ number_of-none us u e = none_from us u 0 (sym (number_of-from us u) ∙ e)
 any_at : (us : List Text) (u : Text) (k : ℕ) → slice_get us k ≡ Some u → list_any (λ known. bytes_eq known u) us ≡ true
 any_at [] u k e = absurd (cc e)
 any_at (v ∷ us) u zero e =
-    let same : v ≡ u = some_text e in ap (λ b. b || list_any (λ known. bytes_eq known u) us) ((bytes_eq-Decides v u).1 same)
+    let same : v ≡ u = some_text e
+    in ap (λ b. b || list_any (λ known. bytes_eq known u) us) ((bytes_eq-Decides v u).1 same)
   where
     some_text : {a b : Text} → Some a ≡ Some b → a ≡ b
     some_text e = cc
@@ -81,21 +92,27 @@ any_at (v ∷ us) u (suc k) e = either (bytes_eq v u) (any_at us u k e)
     either true h = refl
     either false h = h
 
-same_as : (v w : Text) (us : List Text) → v ≡ w → list_any (λ other. bytes_eq other v) us ≡ list_any (λ other. bytes_eq other w) us
+same_as : (v w : Text) (us : List Text) → v ≡ w
+    → list_any (λ other. bytes_eq other v) us ≡ list_any (λ other. bytes_eq other w) us
 same_as v w us e = ap (λ x. list_any (λ other. bytes_eq other x) us) e
 
-at_distinct : (us : List Text) (u : Text) (from k : ℕ) → are_distinct us ≡ true → slice_get us k ≡ Some u → position_from (λ known. bytes_eq known u) from us ≡ Some (from + k)
+at_distinct : (us : List Text) (u : Text) (from k : ℕ) → are_distinct us ≡ true → slice_get us k ≡ Some u
+    → position_from (λ known. bytes_eq known u) from us ≡ Some (from + k)
 at_distinct [] u from k d e = absurd (cc e)
 at_distinct (v ∷ us) u from zero d e =
     let same : v ≡ u = some_text e in
-    ap (λ b. cond b (Some from) (position_from (λ known. bytes_eq known u) (from + 1) us)) ((bytes_eq-Decides v u).1 same) ∙ ap Some (omega arith)
+    ap (λ b. cond b (Some from) (position_from (λ known. bytes_eq known u) (from + 1) us))
+    ((bytes_eq-Decides v u).1 same) ∙ ap Some (omega arith)
   where
     some_text : {a b : Text} → Some a ≡ Some b → a ≡ b
     some_text e = cc
 at_distinct (v ∷ us) u from (suc k) d e =
     let parts = and_parts (not (list_any (λ other. bytes_eq other v) us)) (are_distinct us) d in
-    elim (bytes_eq v u) as (λ b. bytes_eq v u ≡ b → cond b (Some from) (position_from (λ known. bytes_eq known u) (from + 1) us) ≡ Some (from + suc k)) [
-      | true ↦ λ same. absurd (clash (list_any (λ other. bytes_eq other v) us) parts.0 (same_as v u us ((bytes_eq-Decides v u).0 same) ∙ any_at us u k e))
+    elim (bytes_eq v u) as (λ b. bytes_eq v u ≡ b
+    → cond b (Some from) (position_from (λ known. bytes_eq known u) (from + 1) us) ≡ Some (from + suc k)) [
+      | true ↦ λ same. absurd
+          (clash (list_any (λ other. bytes_eq other v) us) parts.0
+          (same_as v u us ((bytes_eq-Decides v u).0 same) ∙ any_at us u k e))
       | false ↦ λ other. at_distinct us u (from + 1) k parts.1 e ∙ ap Some (omega arith)
     ] refl
   where
@@ -103,11 +120,13 @@ at_distinct (v ∷ us) u from (suc k) d e =
     clash true denies holds = absurd (cc denies)
     clash false denies holds = absurd (cc holds)
 
-pub number_of-distinct : (us : List Text) (u : Text) (n : ℕ) → are_distinct us ≡ true → slice_get us n ≡ Some u → number_of us u ≡ Some n
+pub number_of-distinct : (us : List Text) (u : Text) (n : ℕ) → are_distinct us ≡ true → slice_get us n ≡ Some u
+    → number_of us u ≡ Some n
 number_of-distinct us u n d e = number_of-from us u ∙ at_distinct us u 0 n d e ∙ ap Some (omega arith)
 
 -- one more uid, which has no number yet
-apart : (us : List Text) (u v : Text) → list_any (λ other. bytes_eq other v) us ≡ false → bytes_eq u v ≡ false → list_any (λ other. bytes_eq other v) (us ++ u ∷ []) ≡ false
+apart : (us : List Text) (u v : Text) → list_any (λ other. bytes_eq other v) us ≡ false → bytes_eq u v ≡ false
+    → list_any (λ other. bytes_eq other v) (us ++ u ∷ []) ≡ false
 apart [] u v none other = ap (λ b. b || false) other
 apart (w ∷ us) u v none other =
     let parts = neither (bytes_eq w v) (list_any (λ x. bytes_eq x v) us) none in
@@ -117,13 +136,15 @@ apart (w ∷ us) u v none other =
     neither true b e = absurd (cc e)
     neither false b e = (refl, e)
 
-distinct_more : (us : List Text) (u : Text) → are_distinct us ≡ true → list_any (λ known. bytes_eq known u) us ≡ false → are_distinct (us ++ u ∷ []) ≡ true
+distinct_more : (us : List Text) (u : Text) → are_distinct us ≡ true → list_any (λ known. bytes_eq known u) us ≡ false
+    → are_distinct (us ++ u ∷ []) ≡ true
 distinct_more [] u d none = refl
 distinct_more (v ∷ us) u d none =
     let parts = and_parts (not (list_any (λ other. bytes_eq other v) us)) (are_distinct us) d in
     let others = neither (bytes_eq v u) (list_any (λ known. bytes_eq known u) us) none in
     let turned : bytes_eq u v ≡ false = unequal u v (bytes_eq u v) refl others.0 in
-    and_from _ _ (ap not (apart us u v (denied (list_any (λ other. bytes_eq other v) us) parts.0) turned)) (distinct_more us u parts.1 others.1)
+    and_from _ _ (ap not (apart us u v (denied (list_any (λ other. bytes_eq other v) us) parts.0) turned))
+    (distinct_more us u parts.1 others.1)
   where
     neither : (a b : Bool) → (a || b) ≡ false → (a ≡ false) × (b ≡ false)
     neither true b e = absurd (cc e)
@@ -134,7 +155,8 @@ distinct_more (v ∷ us) u d none =
     denied false e = refl
 
     unequal : (a b : Text) (r : Bool) → bytes_eq a b ≡ r → bytes_eq b a ≡ false → r ≡ false
-    unequal a b true same other = absurd (true≢false (sym ((bytes_eq-Decides b a).1 (sym ((bytes_eq-Decides a b).0 same))) ∙ other))
+    unequal a b true same other =
+        absurd (true≢false (sym ((bytes_eq-Decides b a).1 (sym ((bytes_eq-Decides a b).0 same))) ∙ other))
     unequal a b false same other = refl
 
 none_is : (o : Option ℕ) → is_some o ≡ false → o ≡ None
@@ -142,7 +164,8 @@ none_is None e = refl
 none_is (Some n) e = absurd (cc e)
 
 -- the table with one more uid
-pub with_new : (t : Table) (u : Text) → is_some (number_of (uids t) u) ≡ false → with_uid t u ≡ record { given = t.given; added = t.added ++ u ∷ [] }
+pub with_new : (t : Table) (u : Text) → is_some (number_of (uids t) u) ≡ false
+    → with_uid t u ≡ record { given = t.given; added = t.added ++ u ∷ [] }
 with_new t u none = ap (λ b. cond b t (record { given = t.given; added = t.added ++ u ∷ [] })) none
 
 pub with_known : (t : Table) (u : Text) (n : ℕ) → number_of (uids t) u ≡ Some n → with_uid t u ≡ t
@@ -155,11 +178,14 @@ regrouped t u = sym (append_is t.given t.added (u ∷ []))
     append_is [] b c = refl
     append_is (x ∷ a) b c = ap (λ s. x ∷ s) (append_is a b c)
 
-pub length-new : (t : Table) (u : Text) → number_of (uids t) u ≡ None → length (uids (with_uid t u)) ≡ length (uids t) + 1
+pub length-new : (t : Table) (u : Text) → number_of (uids t) u ≡ None
+    → length (uids (with_uid t u)) ≡ length (uids t) + 1
 length-new t u unknown =
-    ap (λ x. length (uids x)) (with_new t u (ap is_some unknown)) ∙ ap length (regrouped t u) ∙ length-append (uids t) (u ∷ [])
+    ap (λ x. length (uids x)) (with_new t u (ap is_some unknown)) ∙ ap length (regrouped t u)
+    ∙ length-append (uids t) (u ∷ [])
 
-all_more : (us : List Text) (u : Text) → list_all (is_id Replica) us ≡ true → IsId Replica u → list_all (is_id Replica) (us ++ u ∷ []) ≡ true
+all_more : (us : List Text) (u : Text) → list_all (is_id Replica) us ≡ true → IsId Replica u
+    → list_all (is_id Replica) (us ++ u ∷ []) ≡ true
 all_more [] u all is = and_from (is_id Replica u) true is refl
 all_more (v ∷ us) u all is =
     let parts = and_parts (is_id Replica v) (list_all (is_id Replica) us) all in
@@ -169,21 +195,26 @@ abbrev pub IsTable : Table → Type 0
 IsTable t = AreNumbered (uids t)
 
 -- one more uid, which has no number yet
-pub AreNumbered-more : (us : List Text) (u : Text) → AreNumbered us → IsId Replica u → is_some (number_of us u) ≡ false → length us < 2 ^ 32 → AreNumbered (us ++ u ∷ [])
+pub AreNumbered-more : (us : List Text) (u : Text) → AreNumbered us → IsId Replica u → is_some (number_of us u) ≡ false
+    → length us < 2 ^ 32 → AreNumbered (us ++ u ∷ [])
 AreNumbered-more us u are is none room = record {
   ids = all_more us u are.ids is;
   distinct = distinct_more us u are.distinct (number_of-none us u (none_is (number_of us u) none));
   few = omega (arith, length-append us (u ∷ []), room);
 }
 
-pub IsTable-with_new : (t : Table) (u : Text) → IsTable t → IsId Replica u → is_some (number_of (uids t) u) ≡ false → length (uids t) < 2 ^ 32 → IsTable (with_uid t u)
+pub IsTable-with_new : (t : Table) (u : Text) → IsTable t → IsId Replica u → is_some (number_of (uids t) u) ≡ false
+    → length (uids t) < 2 ^ 32 → IsTable (with_uid t u)
 IsTable-with_new t u are is none room =
-    subst IsTable (sym (with_new t u none)) (subst AreNumbered (sym (regrouped t u)) (AreNumbered-more (uids t) u are is none room))
+    subst IsTable (sym (with_new t u none))
+    (subst AreNumbered (sym (regrouped t u)) (AreNumbered-more (uids t) u are is none room))
 
 -- the uid of a number is a uid
-pub id_at : (us : List Text) (u : Text) (n : ℕ) → list_all (is_id Replica) us ≡ true → slice_get us n ≡ Some u → IsId Replica u
+pub id_at : (us : List Text) (u : Text) (n : ℕ) → list_all (is_id Replica) us ≡ true → slice_get us n ≡ Some u
+    → IsId Replica u
 id_at [] u n all e = absurd (cc e)
-id_at (v ∷ us) u zero all e = subst (IsId Replica) (some_text e) (and_parts (is_id Replica v) (list_all (is_id Replica) us) all).0
+id_at (v ∷ us) u zero all e = subst (IsId Replica) (some_text e)
+    (and_parts (is_id Replica v) (list_all (is_id Replica) us) all).0
   where
     some_text : {a b : Text} → Some a ≡ Some b → a ≡ b
     some_text e = cc
@@ -191,31 +222,41 @@ id_at (v ∷ us) u (suc n) all e = id_at us u n (and_parts (is_id Replica v) (li
 
 -- ---- the uids of a table are those that were given, and behind them those that were added
 
-from_given : (us vs : List Text) (u : Text) (from n : ℕ) → position_from (λ known. bytes_eq known u) from us ≡ Some n → position_from (λ known. bytes_eq known u) from (us ++ vs) ≡ Some n
+from_given : (us vs : List Text) (u : Text) (from n : ℕ) → position_from (λ known. bytes_eq known u) from us ≡ Some n
+    → position_from (λ known. bytes_eq known u) from (us ++ vs) ≡ Some n
 from_given [] vs u from n e = absurd (cc e)
 from_given (v ∷ us) vs u from n e =
-    elim (bytes_eq v u) as (λ b. cond b (Some from) (position_from (λ known. bytes_eq known u) (from + 1) us) ≡ Some n → cond b (Some from) (position_from (λ known. bytes_eq known u) (from + 1) (us ++ vs)) ≡ Some n) [
+    elim (bytes_eq v u) as (λ b. cond b (Some from) (position_from (λ known. bytes_eq known u) (from + 1) us) ≡ Some n
+    → cond b (Some from) (position_from (λ known. bytes_eq known u) (from + 1) (us ++ vs)) ≡ Some n) [
       | true ↦ λ here. here
       | false ↦ λ there. from_given us vs u (from + 1) n there
     ] e
 
-from_added : (us vs : List Text) (u : Text) (from : ℕ) → position_from (λ known. bytes_eq known u) from us ≡ None → position_from (λ known. bytes_eq known u) from (us ++ vs) ≡ position_from (λ known. bytes_eq known u) (from + length us) vs
+from_added : (us vs : List Text) (u : Text) (from : ℕ) → position_from (λ known. bytes_eq known u) from us ≡ None
+    → position_from (λ known. bytes_eq known u) from (us ++ vs)
+    ≡ position_from (λ known. bytes_eq known u) (from + length us) vs
 from_added [] vs u from e = ap (λ n. position_from (λ known. bytes_eq known u) n vs) (omega arith)
 from_added (v ∷ us) vs u from e =
-    elim (bytes_eq v u) as (λ b. cond b (Some from) (position_from (λ known. bytes_eq known u) (from + 1) us) ≡ None → cond b (Some from) (position_from (λ known. bytes_eq known u) (from + 1) (us ++ vs)) ≡ position_from (λ known. bytes_eq known u) (from + suc (length us)) vs) [
+    elim (bytes_eq v u) as (λ b. cond b (Some from) (position_from (λ known. bytes_eq known u) (from + 1) us) ≡ None
+    → cond b (Some from) (position_from (λ known. bytes_eq known u) (from + 1) (us ++ vs))
+    ≡ position_from (λ known. bytes_eq known u) (from + suc (length us)) vs) [
       | true ↦ λ here. absurd (cc here)
-      | false ↦ λ there. from_added us vs u (from + 1) there ∙ ap (λ n. position_from (λ known. bytes_eq known u) n vs) (omega arith)
+      | false ↦ λ there. from_added us vs u (from + 1) there
+          ∙ ap (λ n. position_from (λ known. bytes_eq known u) n vs) (omega arith)
     ] e
 
 shifted : ℕ → Option ℕ → Option ℕ
 shifted k None = None
 shifted k (Some n) = Some (k + n)
 
-from_shifted : (vs : List Text) (u : Text) (from k : ℕ) → position_from (λ known. bytes_eq known u) (k + from) vs ≡ shifted k (position_from (λ known. bytes_eq known u) from vs)
+from_shifted : (vs : List Text) (u : Text) (from k : ℕ)
+    → position_from (λ known. bytes_eq known u) (k + from) vs
+    ≡ shifted k (position_from (λ known. bytes_eq known u) from vs)
 unfolding shifted
 from_shifted [] u from k = refl
 from_shifted (v ∷ vs) u from k =
-    elim (bytes_eq v u) as (λ b. cond b (Some (k + from)) (position_from (λ known. bytes_eq known u) (k + from + 1) vs) ≡ shifted k (cond b (Some from) (position_from (λ known. bytes_eq known u) (from + 1) vs))) [
+    elim (bytes_eq v u) as (λ b. cond b (Some (k + from)) (position_from (λ known. bytes_eq known u) (k + from + 1) vs)
+    ≡ shifted k (cond b (Some from) (position_from (λ known. bytes_eq known u) (from + 1) vs))) [
       | true ↦ refl
       | false ↦ ap (λ n. position_from (λ known. bytes_eq known u) n vs) (omega arith) ∙ from_shifted vs u (from + 1) k
     ]
@@ -223,7 +264,8 @@ from_shifted (v ∷ vs) u from k =
 pub number_given : (us vs : List Text) (u : Text) (n : ℕ) → number_of us u ≡ Some n → number_of (us ++ vs) u ≡ Some n
 number_given us vs u n e = number_of-from (us ++ vs) u ∙ from_given us vs u 0 n (sym (number_of-from us u) ∙ e)
 
-number_behind : (us vs : List Text) (u : Text) → number_of us u ≡ None → number_of (us ++ vs) u ≡ shifted (length us) (number_of vs u)
+number_behind : (us vs : List Text) (u : Text) → number_of us u ≡ None
+    → number_of (us ++ vs) u ≡ shifted (length us) (number_of vs u)
 unfolding shifted
 number_behind us vs u none =
     number_of-from (us ++ vs) u
@@ -232,11 +274,13 @@ number_behind us vs u none =
     ∙ from_shifted vs u 0 (length us)
     ∙ ap (shifted (length us)) (sym (number_of-from vs u))
 
-pub number_added : (us vs : List Text) (u : Text) (n : ℕ) → number_of us u ≡ None → number_of vs u ≡ Some n → number_of (us ++ vs) u ≡ Some (length us + n)
+pub number_added : (us vs : List Text) (u : Text) (n : ℕ) → number_of us u ≡ None → number_of vs u ≡ Some n
+    → number_of (us ++ vs) u ≡ Some (length us + n)
 unfolding shifted
 number_added us vs u n none e = number_behind us vs u none ∙ ap (shifted (length us)) e
 
-pub number_neither : (us vs : List Text) (u : Text) → number_of us u ≡ None → number_of vs u ≡ None → number_of (us ++ vs) u ≡ None
+pub number_neither : (us vs : List Text) (u : Text) → number_of us u ≡ None → number_of vs u ≡ None
+    → number_of (us ++ vs) u ≡ None
 unfolding shifted
 number_neither us vs u none e = number_behind us vs u none ∙ ap (shifted (length us)) e
 
@@ -246,13 +290,17 @@ some_shifted k None = refl
 some_shifted k (Some n) = refl
 
 -- a uid has a number where it is one of either
-pub has_both : (us vs : List Text) (u : Text) → is_some (number_of (us ++ vs) u) ≡ (is_some (number_of us u) || is_some (number_of vs u))
+pub has_both : (us vs : List Text) (u : Text)
+    → is_some (number_of (us ++ vs) u) ≡ (is_some (number_of us u) || is_some (number_of vs u))
 has_both us vs u = by (number_of us u) refl
   where
-    by : (o : Option ℕ) → number_of us u ≡ o → is_some (number_of (us ++ vs) u) ≡ (is_some (number_of us u) || is_some (number_of vs u))
+    by : (o : Option ℕ) → number_of us u ≡ o
+        → is_some (number_of (us ++ vs) u) ≡ (is_some (number_of us u) || is_some (number_of vs u))
     by None none =
-        ap is_some (number_behind us vs u none) ∙ some_shifted (length us) (number_of vs u) ∙ sym (ap (λ o. is_some o || is_some (number_of vs u)) none)
-    by (Some n) known = ap is_some (number_given us vs u n known) ∙ sym (ap (λ o. is_some o || is_some (number_of vs u)) known)
+        ap is_some (number_behind us vs u none) ∙ some_shifted (length us) (number_of vs u)
+        ∙ sym (ap (λ o. is_some o || is_some (number_of vs u)) none)
+    by (Some n) known = ap is_some (number_given us vs u n known)
+        ∙ sym (ap (λ o. is_some o || is_some (number_of vs u)) known)
 
 pub get_given : (us vs : List Text) (n : ℕ) → n < length us → slice_get (us ++ vs) n ≡ slice_get us n
 get_given [] vs n h = absurd (omega (arith, h))

@@ -1,5 +1,6 @@
 -- Ids, clocks and expressions are UTF-8, so that bytes that are not are none; and when a text is a canonical one.
-use Rattle.std.proofs.Common.{◌≡◌, ℕ, zero, suc, ◌<◌, Bool, true, false, cond, List, [], ◌∷◌, length, get_or, Option, Some, None, refl, sym, ap, ◌∙◌, subst, ⊎_elim, arith}
+use Rattle.std.proofs.Common.{◌≡◌, ℕ, zero, suc, ◌<◌, Bool, true, false, cond, List, [], ◌∷◌, length, get_or, Option}
+use Rattle.std.proofs.Common.{Some, None, refl, sym, ap, ◌∙◌, subst, ⊎_elim, arith}
 use Rattle.std.specs.Char.{is_ascii_digit}
 use Rattle.std.specs.Fmt.{decimal}
 use Rattle.std.specs.List.{list_all}
@@ -40,7 +41,8 @@ ascii_utf8 : (p : ℕ → Bool) → ((b : ℕ) → p b ≡ true → b < 128) →
 ascii_utf8 p small xs e =
     IsUtf8-from_ascii xs
     (λ k. ⊎_elim (λ inside. small (get_or xs k 0) (all_at p xs k inside e))
-    (λ past. let zero_there : get_or xs k 0 ≡ 0 = get_or_past xs k 0 past in omega (arith, zero_there)) (cases_lt k (length xs)))
+    (λ past. let zero_there : get_or xs k 0 ≡ 0 = get_or_past xs k 0 past in omega (arith, zero_there))
+    (cases_lt k (length xs)))
 
 -- ---- ids
 
@@ -73,9 +75,11 @@ entry_utf8 e is =
     let outer = and_parts (is_id form_of.Replica e.0 && nat_le 1 e.1) (nat_le e.1 GREATEST_COUNT) is in
     let inner = and_parts (is_id form_of.Replica e.0) (nat_le 1 e.1) outer.0 in
     let small = leb-true e.1 GREATEST_COUNT outer.1 in
-    let digits : list_all is_ascii_digit (decimal e.1) ≡ true = digits_decimal own_numerals e.1 (omega (arith, small)) in
+    let digits : list_all is_ascii_digit (decimal e.1) ≡ true = digits_decimal own_numerals e.1 (omega (arith, small))
+    in
     IsUtf8-append e.0 (58 ∷ decimal e.1) (id_utf8 form_of.Replica e.0 inner.0)
-    (IsUtf8-append (58 ∷ []) (decimal e.1) (one_utf8 58 (omega arith)) (ascii_utf8 is_ascii_digit digit_ascii (decimal e.1) digits))
+    (IsUtf8-append (58 ∷ []) (decimal e.1) (one_utf8 58 (omega arith))
+    (ascii_utf8 is_ascii_digit digit_ascii (decimal e.1) digits))
 
 entries_utf8 : (es : Entries) → list_all is_entry es ≡ true → IsUtf8 (entries_text es)
 entries_utf8 [] is = IsUtf8-nil
@@ -90,7 +94,8 @@ no_clock text none = by (clock_in text) refl
   where
     by : (o : Option Clock) → clock_in text ≡ o → o ≡ None
     by None e = refl
-    by (Some c) e = absurd (none (subst IsUtf8 (sym (reads_only text c e)) (entries_utf8 c.entries (T_true _ (entries_of c)))))
+    by (Some c) e = absurd (none
+        (subst IsUtf8 (sym (reads_only text c e)) (entries_utf8 c.entries (T_true _ (entries_of c)))))
 
 -- ---- expressions
 
@@ -101,11 +106,14 @@ no_expression s e = ap (λ o. cond (spells_back s o) (Some s) None) e
 pub no_expression_text : (s : List ℕ) → (IsUtf8 s → ⊥) → expression_in s ≡ None
 no_expression_text s none = no_expression s (expr_in-None s (λ f is. none is.utf8))
 
-pub canonical_expression : (s : List ℕ) (f : Expression) → expr_in s ≡ Some f → bytes_eq (canonical f) s ≡ true → expression_in s ≡ Some (canonical f)
+pub canonical_expression : (s : List ℕ) (f : Expression) → expr_in s ≡ Some f → bytes_eq (canonical f) s ≡ true
+    → expression_in s ≡ Some (canonical f)
 unfolding is_spelled
 canonical_expression s f e same =
-    ap (λ o. cond (spells_back s o) (Some s) None) e ∙ ap (λ b. cond b (Some s) None) same ∙ ap Some (sym ((bytes_eq-Decides (canonical f) s).0 same))
+    ap (λ o. cond (spells_back s o) (Some s) None) e ∙ ap (λ b. cond b (Some s) None) same
+    ∙ ap Some (sym ((bytes_eq-Decides (canonical f) s).0 same))
 
-pub other_expression : (s : List ℕ) (f : Expression) → expr_in s ≡ Some f → bytes_eq (canonical f) s ≡ false → expression_in s ≡ None
+pub other_expression : (s : List ℕ) (f : Expression) → expr_in s ≡ Some f → bytes_eq (canonical f) s ≡ false
+    → expression_in s ≡ None
 unfolding is_spelled
 other_expression s f e other = ap (λ o. cond (spells_back s o) (Some s) None) e ∙ ap (λ b. cond b (Some s) None) other

@@ -1,5 +1,6 @@
 -- The numbers of uids: a body names a uid by its number, and gives its text where it is named for the first time.
-use Rattle.std.specs.Prelude.{ℕ, ◌≤◌, ◌^◌, Bool, true, not, ◌&&◌, IsTrue, if◌then◌else◌, is_some, List, [], ◌∷◌, ◌++◌, length, position, Option, refl}
+use Rattle.std.specs.Prelude.{ℕ, ◌≤◌, ◌^◌, Bool, true, not, ◌&&◌, IsTrue, if◌then◌else◌, is_some, List, [], ◌∷◌, ◌++◌}
+use Rattle.std.specs.Prelude.{length, position, Option, refl}
 use Rattle.std.specs.Coded.{Coded, code_by, coded×, coded_ℕ, coded_list}
 use Rattle.std.specs.List.{list_all, list_any}
 use Rattle.std.specs.Str.{bytes_eq}

@@ -3,7 +3,8 @@ ghost use Rattle.std.specs.Prelude.{◌≡◌, IfOk, None, Ok, is_some, option_c
 ghost use Rattle.std.specs.List.{slice_get};
 ghost use Rattle.record_fields.specs.Table.{number_of, uids};
 ghost use Rattle.record_fields.specs.Fields.{each};
-ghost use Rattle.record_fields.specs.Named.{clock, clocks, entries, entry, introduced, place, reference, referred, uid};
+ghost use Rattle.record_fields.specs.Named.{clock, clocks, entries, entry, introduced, place};
+ghost use Rattle.record_fields.specs.Named.{reference, referred, uid};
 ghost use Rattle.record_fields.specs.Reading.{Reads};
 ghost use Rattle.record_fields.specs.declared.format.Format.TheVariants as format_of;
 

@@ -3,7 +3,8 @@
 ghost use Rattle.std.specs.Prelude.{◌≡◌, ◌≢◌, ◌≤◌, ◌↔◌, IfOk, IsNone, IsSome, length};
 ghost use Rattle.std.specs.Int.{w16, w32, w64};
 ghost use Rattle.u1_base.specs.declared.limits.TheConstants.{GREATEST_COUNT};
-ghost use Rattle.record_fields.specs.Plain.{byte, number, bytes, flag, id, text, text_of, generation, trans_at};
+ghost use Rattle.record_fields.specs.Plain.{byte, number, bytes, flag, id, text, text_of};
+ghost use Rattle.record_fields.specs.Plain.{generation, trans_at};
 ghost use Rattle.record_fields.specs.Reading.{Reads};
 ghost use Rattle.record_fields.specs.Fields.{whole};
 

@@ -34,30 +34,35 @@ module _ {R : Type 0} (known : R → Known) (is_open : R → Type 0) (crash : R 
   Settled r = (found : Found State) → crash r (known r).moment found → found ≡ Stands (state_in (known r))
 
   -- where nothing happens no crash is added
-  pub unchanged : (r : R) (P : Found State → Type 0) → ((found : Found State) → crash r (known r).moment found → P found) → AddsOnly known crash r r P
+  pub unchanged : (r : R) (P : Found State → Type 0)
+      → ((found : Found State) → crash r (known r).moment found → P found) → AddsOnly known crash r r P
   unchanged r P here = record {
     later = omega arith;
     same = λ k o low h. h;
-    added = λ k o low high h. let e : k ≡ (known r).moment = omega (arith, low, high) in here o (subst (λ (j : ℕ). crash r j o) e h);
+    added = λ k o low high h. let e : k ≡ (known r).moment = omega (arith, low, high)
+        in here o (subst (λ (j : ℕ). crash r j o) e h);
   }
 
   module _ {A F : Type 0} (failure : F → Option CommitFault) where
     -- an answer that needs no step
-    pub answered : (r : R) (d : Decided A F) (answer : A) → is_open r → Settled r → d ≡ Answers answer None → IsDone known is_open crash failure d r r (Ok answer)
-    answered r d answer ready settled e = subst (λ (d : Decided A F). IsDone known is_open crash failure d r r (Ok answer)) (sym e) (record {
-      ok = (refl, refl, ready);
-      still = refl;
-      cause = tt;
-      too_long = tt;
-      state = tt;
-      left = tt;
-      any_moment = unchanged r _ (λ o h. inl (settled o h));
-      limit = refl;
-      later = omega arith;
-    })
+    pub answered : (r : R) (d : Decided A F) (answer : A) → is_open r → Settled r → d ≡ Answers answer None
+        → IsDone known is_open crash failure d r r (Ok answer)
+    answered r d answer ready settled e =
+        subst (λ (d : Decided A F). IsDone known is_open crash failure d r r (Ok answer)) (sym e) (record {
+          ok = (refl, refl, ready);
+          still = refl;
+          cause = tt;
+          too_long = tt;
+          state = tt;
+          left = tt;
+          any_moment = unchanged r _ (λ o h. inl (settled o h));
+          limit = refl;
+          later = omega arith;
+        })
 
     -- a fault before the commit
-    pub undone : (r : R) (d : Decided A F) (fault : F) → is_open r → Settled r → IsUndone failure d fault → IsDone known is_open crash failure d r r (Err fault)
+    pub undone : (r : R) (d : Decided A F) (fault : F) → is_open r → Settled r → IsUndone failure d fault
+        → IsDone known is_open crash failure d r r (Err fault)
     undone r d fault ready settled why = record {
       ok = tt;
       still = if_none (step_in d) _ refl;
@@ -70,43 +75,61 @@ module _ {R : Type 0} (known : R → Known) (is_open : R → Type 0) (crash : R 
       later = omega arith;
     }
       where
-        caused : IsUndone failure d fault → IfFailed (failure fault) (HasFailed (known r) (known r) (step_in d)) (IsRefusal d fault)
-        caused (inl e) = subst (λ (o : Option CommitFault). IfFailed o (HasFailed (known r) (known r) (step_in d)) (IsRefusal d fault)) (sym e) tt
-        caused (inr h) = subst (λ (o : Option CommitFault). IfFailed o (HasFailed (known r) (known r) (step_in d)) (IsRefusal d fault)) (sym h.0) h.1
+        caused : IsUndone failure d fault
+            → IfFailed (failure fault) (HasFailed (known r) (known r) (step_in d)) (IsRefusal d fault)
+        caused (inl e) = subst (λ (o : Option CommitFault). IfFailed o (HasFailed (known r) (known r) (step_in d))
+            (IsRefusal d fault)) (sym e) tt
+        caused (inr h) = subst (λ (o : Option CommitFault). IfFailed o (HasFailed (known r) (known r) (step_in d))
+            (IsRefusal d fault)) (sym h.0) h.1
 
-        short : IsUndone failure d fault → IfSome (step_in d) (λ x. (known r).limit < (known r).need x → IfFailed (failure fault) (IsTooLong (known r) x) ⊥)
-        short (inl e) = if_each (step_in d) _ (λ x long. subst (λ (o : Option CommitFault). IfFailed o (IsTooLong (known r) x) ⊥) (sym e) (inr refl))
+        short : IsUndone failure d fault
+            → IfSome (step_in d) (λ x. (known r).limit < (known r).need x
+            → IfFailed (failure fault) (IsTooLong (known r) x) ⊥)
+        short (inl e) = if_each (step_in d) _
+            (λ x long. subst (λ (o : Option CommitFault). IfFailed o (IsTooLong (known r) x) ⊥) (sym e) (inr refl))
         short (inr h) = no_step d fault _ h.1
 
         left : IsUndone failure d fault → IsLeft (known r) (known r) (is_open r) (is_disk_failure (failure fault))
-        left (inl e) = subst (λ (o : Option CommitFault). IsLeft (known r) (known r) (is_open r) (is_disk_failure o)) (sym e) (ready, λ x. refl)
-        left (inr h) = subst (λ (o : Option CommitFault). IsLeft (known r) (known r) (is_open r) (is_disk_failure o)) (sym h.0) (ready, λ x. refl)
+        left (inl e) = subst (λ (o : Option CommitFault). IsLeft (known r) (known r) (is_open r) (is_disk_failure o))
+            (sym e) (ready, λ x. refl)
+        left (inr h) = subst (λ (o : Option CommitFault). IsLeft (known r) (known r) (is_open r) (is_disk_failure o))
+            (sym h.0) (ready, λ x. refl)
 
     -- what ends a call is what ends its commit
     pub done_ok : (old new : R) (d : Decided A F) (answer given : A) (step : Option Step) → d ≡ Answers answer step →
-        IsDone known is_open crash commit_failure (Answers answer step) old new (Ok given) → IsDone known is_open crash failure d old new (Ok given)
-    done_ok old new d answer given step e h = subst (λ (d : Decided A F). IsDone known is_open crash failure d old new (Ok given)) (sym e) (record {
-      ok = h.ok;
-      still = h.still;
-      cause = tt;
-      too_long = h.too_long;
-      state = tt;
-      left = tt;
-      any_moment = h.any_moment;
-      limit = h.limit;
-      later = h.later;
-    })
+        IsDone known is_open crash commit_failure (Answers answer step) old new (Ok given)
+        → IsDone known is_open crash failure d old new (Ok given)
+    done_ok old new d answer given step e h =
+        subst (λ (d : Decided A F). IsDone known is_open crash failure d old new (Ok given)) (sym e) (record {
+          ok = h.ok;
+          still = h.still;
+          cause = tt;
+          too_long = h.too_long;
+          state = tt;
+          left = tt;
+          any_moment = h.any_moment;
+          limit = h.limit;
+          later = h.later;
+        })
 
-    pub done_err : (old new : R) (d : Decided A F) (answer : A) (step : Option Step) (f : CommitFault) (fault : F) → d ≡ Answers answer step → failure fault ≡ Some f →
-        IsDone known is_open crash commit_failure (Answers answer step) old new (Err f) → IsDone known is_open crash failure d old new (Err fault)
-    done_err old new d answer step f fault e is h = subst (λ (d : Decided A F). IsDone known is_open crash failure d old new (Err fault)) (sym e) (record {
-      ok = tt;
-      still = h.still;
-      cause = subst (λ (o : Option CommitFault). IfFailed o (HasFailed (known old) (known new) step) ⊥) (sym is) h.cause;
-      too_long = subst (λ (o : Option CommitFault). IfSome step (λ x. (known old).limit < (known old).need x → IfFailed o (IsTooLong (known old) x) ⊥)) (sym is) h.too_long;
-      state = h.state;
-      left = subst (λ (o : Option CommitFault). IsLeft (known old) (known new) (is_open new) (is_disk_failure o)) (sym is) h.left;
-      any_moment = subst (λ (o : Option CommitFault). AddsOnly known crash old new (MayStand (state_in (known old)) step (is_disk_failure o))) (sym is) h.any_moment;
-      limit = h.limit;
-      later = h.later;
-    })
+    pub done_err : (old new : R) (d : Decided A F) (answer : A) (step : Option Step) (f : CommitFault) (fault : F)
+        → d ≡ Answers answer step → failure fault ≡ Some f →
+        IsDone known is_open crash commit_failure (Answers answer step) old new (Err f)
+        → IsDone known is_open crash failure d old new (Err fault)
+    done_err old new d answer step f fault e is h =
+        subst (λ (d : Decided A F). IsDone known is_open crash failure d old new (Err fault)) (sym e) (record {
+          ok = tt;
+          still = h.still;
+          cause = subst (λ (o : Option CommitFault). IfFailed o (HasFailed (known old) (known new) step) ⊥)
+              (sym is) h.cause;
+          too_long = subst (λ (o : Option CommitFault). IfSome step
+              (λ x. (known old).limit < (known old).need x → IfFailed o (IsTooLong (known old) x) ⊥))
+              (sym is) h.too_long;
+          state = h.state;
+          left = subst (λ (o : Option CommitFault). IsLeft (known old) (known new) (is_open new) (is_disk_failure o))
+              (sym is) h.left;
+          any_moment = subst (λ (o : Option CommitFault). AddsOnly known crash old new
+              (MayStand (state_in (known old)) step (is_disk_failure o))) (sym is) h.any_moment;
+          limit = h.limit;
+          later = h.later;
+        })

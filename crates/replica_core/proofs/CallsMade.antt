@@ -9,7 +9,8 @@ use Rattle.conflicts.specs.declared.resolutions.ResolveFault.TheVariants as reso
 use Rattle.vector_rev.specs.Clock.{Clock}
 use Rattle.replica_core.specs.Calls.{Decided, Answers, IsRefusal}
 use Rattle.replica_core.specs.CallsDecide.{accept_made, accept_next}
-use Rattle.replica_core.specs.CallsFaults.{put_failed, put_failure, put_refusal, resolve_failed, resolve_failure, resolve_refusal}
+use Rattle.replica_core.specs.CallsFaults.{put_failed, put_failure, put_refusal, resolve_failed, resolve_failure}
+use Rattle.replica_core.specs.CallsFaults.{resolve_refusal}
 use Rattle.replica_core.specs.declared.calls.documents.PutFault.{PutFault}
 use Rattle.replica_core.specs.declared.calls.resolutions.ResolveDocFault.{ResolveDocFault}
 use Rattle.replica_core.specs.declared.fault.CommitFault.{CommitFault}
@@ -27,7 +28,8 @@ resolve_fails (commit.Full need limit) = refl
 resolve_fails commit.Disk = refl
 resolve_fails commit.Memory = refl
 
-module _ {E F : Type 0} (refusal : E → F) (seed : ℕ) (s : State) (doc : Text) (made : Result Accept E) (memory : E) where
+module _ {E F : Type 0} (refusal : E → F) (seed : ℕ) (s : State) (doc : Text) (made : Result Accept E)
+    (memory : E) where
   -- what is made is decided
   pub made_is : (a : Accept) → ◌⊎◌ (◌≡◌ {A = Result Accept E} (Ok a) (Err memory)) (Ok a ≡ made) →
       accept_made refusal seed s doc made ≡ Answers a.rev (Some (accept_next seed s doc a None))
@@ -35,11 +37,14 @@ module _ {E F : Type 0} (refusal : E → F) (seed : ℕ) (s : State) (doc : Text
   made_is a (inr e) = ap (accept_made refusal seed s doc) (sym e)
 
   -- and so is a refusal
-  pub refused_is : (fault : E) → ◌⊎◌ (◌≡◌ {A = Result Accept E} (Err fault) (Err memory)) (Err fault ≡ made) → IsRefusal (accept_made refusal seed s doc made) (refusal fault) ⊎ (fault ≡ memory)
+  pub refused_is : (fault : E) → ◌⊎◌ (◌≡◌ {A = Result Accept E} (Err fault) (Err memory)) (Err fault ≡ made)
+      → IsRefusal (accept_made refusal seed s doc made) (refusal fault) ⊎ (fault ≡ memory)
   refused_is fault (inl e) = inr (cc (e))
-  refused_is fault (inr e) = inl (subst (λ (m : Result Accept E). IsRefusal (accept_made refusal seed s doc m) (refusal fault)) e refl)
+  refused_is fault (inr e) =
+      inl (subst (λ (m : Result Accept E). IsRefusal (accept_made refusal seed s doc m) (refusal fault)) e refl)
 
-pub put_undone : (d : Decided Clock PutFault) (fault : EditFault) → IsRefusal d (put_refusal fault) ⊎ (fault ≡ edit.Memory) → IsUndone put_failure d (put_refusal fault)
+pub put_undone : (d : Decided Clock PutFault) (fault : EditFault) → IsRefusal d (put_refusal fault)
+    ⊎ (fault ≡ edit.Memory) → IsUndone put_failure d (put_refusal fault)
 put_undone d fault (inr e) = inl (ap (λ (f : EditFault). put_failure (put_refusal f)) e)
 put_undone d edit.NoDocument (inl is) = inr (refl, is)
 put_undone d edit.Conflicted (inl is) = inr (refl, is)
@@ -48,7 +53,8 @@ put_undone d edit.AlreadyDeleted (inl is) = inr (refl, is)
 put_undone d edit.ClockFull (inl is) = inr (refl, is)
 put_undone d edit.Memory (inl is) = inl refl
 
-pub resolve_undone : (d : Decided Clock ResolveDocFault) (fault : ResolveFault) → IsRefusal d (resolve_refusal fault) ⊎ (fault ≡ resolve.Memory) → IsUndone resolve_failure d (resolve_refusal fault)
+pub resolve_undone : (d : Decided Clock ResolveDocFault) (fault : ResolveFault) → IsRefusal d (resolve_refusal fault)
+    ⊎ (fault ≡ resolve.Memory) → IsUndone resolve_failure d (resolve_refusal fault)
 resolve_undone d fault (inr e) = inl (ap (λ (f : ResolveFault). resolve_failure (resolve_refusal f)) e)
 resolve_undone d resolve.NoDocument (inl is) = inr (refl, is)
 resolve_undone d resolve.NotConflicted (inl is) = inr (refl, is)

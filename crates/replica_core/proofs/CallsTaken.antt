@@ -30,10 +30,14 @@ module _ {A : Type 0} (s : State) (m : Move) (d : Decided A TakeFault) where
   goes_on_is e = ap (λ (b : Bool). if b then d else Refuses (LogCheck (kept_place s m) m.at)) e
 
   -- it did not pass, or memory ran out
-  pub check_undone : (fault : TakeFault) → ChecksFrom {A = A} (kept_place s m) m.at (Err fault) → IsUndone take_failure (if_goes_on s m d) fault
+  pub check_undone : (fault : TakeFault) → ChecksFrom {A = A} (kept_place s m) m.at (Err fault)
+      → IsUndone take_failure (if_goes_on s m d) fault
   check_undone fault (inl e) = inl (ap take_failure e)
   check_undone fault (inr h) =
-      inr (ap take_failure h.1, subst (λ (b : Bool). IsRefusal (if b then d else Refuses (LogCheck (kept_place s m) m.at)) fault) (sym h.0) h.1)
+      inr (
+        ap take_failure h.1,
+        subst (λ (b : Bool). IsRefusal (if b then d else Refuses (LogCheck (kept_place s m) m.at)) fault) (sym h.0) h.1,
+      )
 
 -- ---- the steps fit
 
@@ -45,11 +49,13 @@ module _ (tests : TestsDecide) (s : State) (m : Move) (e : passes (kept_place s 
       by true = tt
       by false = (tests.on (kept_place s m) m.at).1 e
 
-  pub take_fits : (seed : ℕ) (doc : Text) (accepted : Option Accept) → IfSome accepted (FitsDocument (s.document doc)) → IfSome (take_step seed doc m s accepted) (Fits s)
+  pub take_fits : (seed : ℕ) (doc : Text) (accepted : Option Accept) → IfSome accepted (FitsDocument (s.document doc))
+      → IfSome (take_step seed doc m s accepted) (Fits s)
   take_fits seed doc None h = move_fits
   take_fits seed doc (Some a) h = (h, (tests.on (kept_place s m) m.at).1 e)
 
 -- what holds of a step of the program's holds of it as a step of a history
-pub each_mapped : {A : Type 0} (f : A → Step) (o : Option A) (x : Option Step) (P : Step → Type 0) → option_map f o ≡ x → IfSome x P → IfSome o (λ a. P (f a))
+pub each_mapped : {A : Type 0} (f : A → Step) (o : Option A) (x : Option Step) (P : Step → Type 0) → option_map f o ≡ x
+    → IfSome x P → IfSome o (λ a. P (f a))
 each_mapped f None x P e h = tt
 each_mapped f (Some a) x P e h = subst (λ (o : Option Step). IfSome o P) (sym e) h

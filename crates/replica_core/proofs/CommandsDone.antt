@@ -7,13 +7,16 @@ use Rattle.replica_core.specs.Calls.{Decided, Answers, Refuses, IsAnswer, IsRefu
 use Rattle.replica_core.specs.Commands.Effects.{Line, Refusal, calls}
 
 -- the call answered: the decided step is made, if there is one, and the line of the answer is printed
-pub done : {A F : Type 0} (line : A → Line) (refusal : F → Refusal) (decided : Decided A F) (answer : A) → IsAnswer decided answer →
+pub done : {A F : Type 0} (line : A → Line) (refusal : F → Refusal) (decided : Decided A F) (answer : A)
+    → IsAnswer decided answer →
     calls line refusal decided ≡ Ok (record { steps = option_to_list (step_in decided); lines = line answer ∷ [] })
 done line refusal (Refuses fault) answer is = absurd is
-done line refusal (Answers given step) answer is = ap (λ a. Ok (record { steps = option_to_list step; lines = line a ∷ [] })) (sym is)
+done line refusal (Answers given step) answer is =
+    ap (λ a. Ok (record { steps = option_to_list step; lines = line a ∷ [] })) (sym is)
 
 -- the call refused
-pub refused : {A F : Type 0} (line : A → Line) (refusal : F → Refusal) (decided : Decided A F) (fault : F) → IsRefusal decided fault →
+pub refused : {A F : Type 0} (line : A → Line) (refusal : F → Refusal) (decided : Decided A F) (fault : F)
+    → IsRefusal decided fault →
     calls line refusal decided ≡ Err (refusal fault)
 refused line refusal (Refuses given) fault is = ap (λ f. Err (refusal f)) (sym is)
 refused line refusal (Answers answer step) fault is = absurd is

@@ -11,8 +11,11 @@ use Rattle.translog.specs.declared.entry.Entry.{Entry}
 use Rattle.replica_state.specs.Held.{Lists, meaning_of}
 use Rattle.replica_core.specs.Commands.Documents.{all_effect, conflicts_effect, get_effect}
 use Rattle.replica_core.specs.Commands.Edits.{delete_effect, put_effect}
-use Rattle.replica_core.specs.Commands.Effects.{Conflict, Document as DocumentLine, Edit, Generation, Index, IndexDeleted, IndexMade, Known, NoDocument, Now, OfDatabase, OfIndex, OfReplica, Query, Told, Changed, prints}
-use Rattle.replica_core.specs.Commands.Indexes.{index_create_effect, index_delete_effect, index_list_effect, query_effect, range_effect}
+use Rattle.replica_core.specs.Commands.Effects.{Conflict, Document as DocumentLine, Edit, Generation, Index}
+use Rattle.replica_core.specs.Commands.Effects.{IndexDeleted, IndexMade, Known, NoDocument, Now, OfDatabase, OfIndex}
+use Rattle.replica_core.specs.Commands.Effects.{OfReplica, Query, Told, Changed, prints}
+use Rattle.replica_core.specs.Commands.Indexes.{index_create_effect, index_delete_effect, index_list_effect}
+use Rattle.replica_core.specs.Commands.Indexes.{query_effect, range_effect}
 use Rattle.replica_core.specs.Commands.Logs.{changes_effect, info_effect}
 use Rattle.translog.specs.Log.{FitsLog}
 use Rattle.replica_core.specs.declared.calls.documents.PutFault.TheVariants as put_fault
@@ -73,45 +76,56 @@ lists = record {
   name = codes "db";
   uid = codes "a";
   docs = (codes "d1", in_conflict) ∷ (codes "d2", deleted) ∷ (codes "d3", alone) ∷ [];
-  log = entry (codes "d1") (codes "T1") ∷ entry (codes "d1") (codes "T2") ∷ entry (codes "d2") (codes "T3") ∷ entry (codes "d3") (codes "T4") ∷ [];
+  log = entry (codes "d1") (codes "T1") ∷ entry (codes "d1") (codes "T2") ∷ entry (codes "d2") (codes "T3")
+      ∷ entry (codes "d3") (codes "T4") ∷ [];
   known = (codes "b", place 3 (codes "K")) ∷ [];
   told = (codes "c", place 2 (codes "T2")) ∷ [];
   indexes = (codes "i", codes "v" ∷ []) ∷ [];
 }
 
-get_conflicted : get_effect (meaning_of lists) (codes "d1") false ≡ prints (DocumentLine (codes "d1") b_member true ∷ [])
+get_conflicted : get_effect (meaning_of lists) (codes "d1") false
+    ≡ prints (DocumentLine (codes "d1") b_member true ∷ [])
 get_conflicted = refl
 
 get_deleted : get_effect (meaning_of lists) (codes "d2") false ≡ prints (NoDocument ∷ [])
 get_deleted = refl
 
-get_deleted_too : get_effect (meaning_of lists) (codes "d2") true ≡ prints (DocumentLine (codes "d2") gone_member false ∷ [])
+get_deleted_too : get_effect (meaning_of lists) (codes "d2") true
+    ≡ prints (DocumentLine (codes "d2") gone_member false ∷ [])
 get_deleted_too = refl
 
 get_nothing : get_effect (meaning_of lists) (codes "d9") true ≡ prints (NoDocument ∷ [])
 get_nothing = refl
 
-conflicts_of_two : conflicts_effect (meaning_of lists) (codes "d1") ≡ prints (Conflict b_member ∷ Conflict a_member ∷ [])
+conflicts_of_two : conflicts_effect (meaning_of lists) (codes "d1")
+    ≡ prints (Conflict b_member ∷ Conflict a_member ∷ [])
 conflicts_of_two = refl
 
 conflicts_of_one : conflicts_effect (meaning_of lists) (codes "d3") ≡ prints []
 conflicts_of_one = refl
 
-all_live : all_effect lists false ≡ prints (Generation 4 ∷ DocumentLine (codes "d1") b_member true ∷ DocumentLine (codes "d3") a_member false ∷ [])
+all_live : all_effect lists false ≡ prints
+    (Generation 4 ∷ DocumentLine (codes "d1") b_member true ∷ DocumentLine (codes "d3") a_member false ∷ [])
 all_live = refl
 
-changes_since_2 : changes_effect (meaning_of lists) 2 ≡ prints (Now (place 4 (codes "T4")) ∷ Changed (record { doc = codes "d2"; generation = 3; trans = codes "T3" }) ∷ Changed (record { doc = codes "d3"; generation = 4; trans = codes "T4" }) ∷ [])
+changes_since_2 : changes_effect (meaning_of lists) 2
+    ≡ prints (Now (place 4 (codes "T4")) ∷ Changed (record { doc = codes "d2"; generation = 3; trans = codes "T3" })
+    ∷ Changed (record { doc = codes "d3"; generation = 4; trans = codes "T4" }) ∷ [])
 changes_since_2 = refl
 
-info : info_effect lists ≡ prints (OfReplica (codes "a") ∷ OfDatabase (codes "db") ∷ Now (place 4 (codes "T4")) ∷ Known (codes "b") (place 3 (codes "K")) ∷ Told (codes "c") (place 2 (codes "T2")) ∷ [])
+info : info_effect lists ≡ prints
+    (OfReplica (codes "a") ∷ OfDatabase (codes "db") ∷ Now (place 4 (codes "T4"))
+    ∷ Known (codes "b") (place 3 (codes "K")) ∷ Told (codes "c") (place 2 (codes "T2")) ∷ [])
 info = refl
 
 -- ---- refusals, and what needs no step
 
-put_in_conflict : put_effect (meaning_of lists) 0 (codes "d1") (Some b1) (v (codes "x")) ≡ Err (Edit put_fault.Conflicted)
+put_in_conflict : put_effect (meaning_of lists) 0 (codes "d1") (Some b1) (v (codes "x"))
+    ≡ Err (Edit put_fault.Conflicted)
 put_in_conflict = refl
 
-put_another : put_effect (meaning_of lists) 0 (codes "d3") None (v (codes "x")) ≡ Err (Edit (put_fault.RevisionConflict a1))
+put_another : put_effect (meaning_of lists) 0 (codes "d3") None (v (codes "x"))
+    ≡ Err (Edit (put_fault.RevisionConflict a1))
 put_another = refl
 
 delete_again : delete_effect (meaning_of lists) 0 (codes "d2") a2 ≡ Err (Edit put_fault.AlreadyDeleted)
@@ -126,13 +140,15 @@ same_index = refl
 other_index : index_create_effect lists (codes "i") (codes "w" ∷ []) ≡ Err (OfIndex IndexTaken)
 other_index = refl
 
-new_index : index_create_effect lists (codes "j") (codes "v" ∷ []) ≡ Ok (record { steps = IndexCreated (codes "j") (codes "v" ∷ []) ∷ []; lines = IndexMade (codes "j") ∷ [] })
+new_index : index_create_effect lists (codes "j") (codes "v" ∷ [])
+    ≡ Ok (record { steps = IndexCreated (codes "j") (codes "v" ∷ []) ∷ []; lines = IndexMade (codes "j") ∷ [] })
 new_index = refl
 
 no_index : index_delete_effect lists (codes "j") ≡ Err (OfIndex IndexUnknown)
 no_index = refl
 
-index_goes : index_delete_effect lists (codes "i") ≡ Ok (record { steps = Deleted (codes "i") ∷ []; lines = IndexDeleted (codes "i") ∷ [] })
+index_goes : index_delete_effect lists (codes "i")
+    ≡ Ok (record { steps = Deleted (codes "i") ∷ []; lines = IndexDeleted (codes "i") ∷ [] })
 index_goes = refl
 
 indexes : index_list_effect lists ≡ prints (Index (codes "i") (codes "v" ∷ []) ∷ [])

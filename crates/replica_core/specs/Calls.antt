@@ -1,9 +1,11 @@
 -- A call on a replica: what it decides, and what it leaves.
-use Rattle.std.specs.Prelude.{◌≡◌, ℕ, ◌<◌, ◌≤◌, Bool, true, false, Option, Some, None, Result, Ok, Err, IfOk, IfErr, OnErr, IfNone, IfSome}
+use Rattle.std.specs.Prelude.{◌≡◌, ℕ, ◌<◌, ◌≤◌, Bool, true, false, Option, Some, None, Result, Ok, Err, IfOk, IfErr}
+use Rattle.std.specs.Prelude.{OnErr, IfNone, IfSome}
 use Rattle.std.specs.Result.{IsErrAnd}
 use Rattle.conflicts.specs.State.{State, Step}
 use Rattle.replica_state.specs.Held.{lists_of}
-use Rattle.replica_core.specs.Replica.{AddsOnly, Found, HasFailed, IsLeft, IsTooLong, Known, MayStand, after_step, is_disk, state_in}
+use Rattle.replica_core.specs.Replica.{AddsOnly, Found, HasFailed, IsLeft, IsTooLong, Known, MayStand, after_step}
+use Rattle.replica_core.specs.Replica.{is_disk, state_in}
 use Rattle.replica_core.specs.declared.fault.CommitFault.{CommitFault}
 
 -- ---- what a call decides, by the state and its operands
@@ -51,7 +53,9 @@ module _ {R : Type 0} (known : R → Known) (is_open : R → Type 0) (crash : R 
     -- where no step is decided, nothing happens to the replica
     pub still : IfNone (step_in decided) (new ≡ old)
     -- a refusal is the decided one, and a failure of the commit has its cause
-    pub cause : IfErr result (λ fault. IfFailed (failure fault) (HasFailed (known old) (known new) (step_in decided)) (IsRefusal decided fault))
+    pub cause : IfErr result
+        (λ fault. IfFailed (failure fault) (HasFailed (known old) (known new) (step_in decided))
+        (IsRefusal decided fault))
     -- a step that is too long for the image is not made
     pub too_long : IfSome (step_in decided) (λ x. (known old).limit < (known old).need x
         → IsErrAnd result (λ fault. IfFailed (failure fault) (IsTooLong (known old) x) ⊥))
@@ -59,6 +63,7 @@ module _ {R : Type 0} (known : R → Known) (is_open : R → Type 0) (crash : R 
     pub state : OnErr result (lists_of (known new).state ≡ lists_of (known old).state)
     pub left : IfErr result (λ fault. IsLeft (known old) (known new) (is_open new) (is_disk_failure (failure fault)))
     -- a crash leaves the old state, or the one after the step where it may have been written
-    pub any_moment : AddsOnly known crash old new (MayStand (state_in (known old)) (step_in decided) (may_have_written failure result))
+    pub any_moment : AddsOnly known crash old new
+        (MayStand (state_in (known old)) (step_in decided) (may_have_written failure result))
     pub limit : (known new).limit ≡ (known old).limit
     pub later : (known old).faults ≤ (known new).faults

@@ -49,7 +49,8 @@ abbrev pub delete_decides : ℕ → Text → Clock → State → Decided Clock P
 delete_decides seed doc rev s = accept_made put_refusal seed s doc (deleted (s.document doc) rev s.uid)
 
 abbrev pub resolve_decides : ℕ → Text → List Clock → Option Tree → State → Decided Clock ResolveDocFault
-resolve_decides seed doc named content s = accept_made resolve_refusal seed s doc (resolved (s.document doc) named content s.uid)
+resolve_decides seed doc named content s = accept_made resolve_refusal seed s doc
+    (resolved (s.document doc) named content s.uid)
 
 -- ---- positions
 

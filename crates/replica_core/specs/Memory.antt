@@ -1,4 +1,5 @@
--- What is known of a replica in memory: it needs no bytes, never fails but for memory, and leaves nothing after a crash.
+-- What is known of a replica in memory: it needs no bytes, never fails but for memory, and leaves nothing after a
+-- crash.
 use Rattle.std.specs.Prelude.{true}
 use Rattle.replica_core.specs.Replica.{Known}
 use Rattle.replica_core.specs.declared.memory.MemReplica.{MemReplica}

@@ -16,17 +16,20 @@ pub record IsUnchangedSince (log : List Entry) (generation : ℕ) (d : Text) : T
   pub there : list_any (λ e. same_id d e.doc) log ≡ true
   pub not_later : list_any (λ e. same_id d e.doc) (drop generation log) ≡ false
 
--- a revision that b reads is covered at a, if b has not changed the document since the place up to which a knows b's log
+-- a revision that b reads is covered at a, if b has not changed the document since the place up to which a knows b's
+-- log
 abbrev pub KnowsDocuments : State → State → Type 0
 KnowsDocuments a b =
-    (d : Text) (r : Clock) → IsUnchangedSince b.log (position_kept a Known b.uid).generation d → (b.document d).current ≡ Some r
+    (d : Text) (r : Clock) → IsUnchangedSince b.log (position_kept a Known b.uid).generation d
+    → (b.document d).current ≡ Some r
     → (m : Member) × In m (a.document d).members × (covers m.rev r ≡ true)
 
--- a revision that a reads has no older one in its place at b, if a has not changed the document since the place up to which
--- it told b
+-- a revision that a reads has no older one in its place at b, if a has not changed the document since the place up to
+-- which it told b
 abbrev pub ToldDocuments : State → State → Type 0
 ToldDocuments a b =
-    (d : Text) (r : Clock) → IsUnchangedSince a.log (position_kept b Told a.uid).generation d → (a.document d).current ≡ Some r
+    (d : Text) (r : Clock) → IsUnchangedSince a.log (position_kept b Told a.uid).generation d
+    → (a.document d).current ≡ Some r
     → (m : Member) × In m (b.document d).members × (dominates r m.rev ≡ false)
 
 -- PAIRED STATES, a being the source
@@ -40,4 +43,5 @@ pub record Paired (a b : State) : Type 0 where
   -- of each document that a has not changed since then, b has a member that is not older than a's current revision
   pub told : ToldDocuments a b
   -- equal revisions of a document have equal contents
-  pub contents : (d : Text) (m n : Member) → In m (a.document d).members → In n (b.document d).members → m.rev ≡ n.rev → m.content ≡ n.content
+  pub contents : (d : Text) (m n : Member) → In m (a.document d).members → In n (b.document d).members → m.rev ≡ n.rev
+      → m.content ≡ n.content

@@ -1,5 +1,6 @@
 -- A list of calls: what each decides, what they leave, and what a crash leaves of them.
-use Rattle.std.specs.Prelude.{◌≡◌, ℕ, ◌<◌, ◌≤◌, Bool, true, false, codes, if◌then◌else◌, is_ok, List, [], ◌∷◌, ◌++◌, option_to_list, Option, Some, None, Result, Ok, Err}
+use Rattle.std.specs.Prelude.{◌≡◌, ℕ, ◌<◌, ◌≤◌, Bool, true, false, codes, if◌then◌else◌, is_ok, List, [], ◌∷◌, ◌++◌}
+use Rattle.std.specs.Prelude.{option_to_list, Option, Some, None, Result, Ok, Err}
 use Rattle.std.specs.List.{flat_map, list_all}
 use Rattle.u1_base.specs.Causes.{Rose}
 use Rattle.vector_rev.specs.Counts.{Uid}
@@ -10,12 +11,14 @@ use Rattle.conflicts.specs.declared.accept.Accept.{Accept}
 use Rattle.conflicts.specs.declared.member.Member.{Member}
 use Rattle.replica_core.specs.Replica.{AddsOnly, Found, HasStep, Known, Stands, after_step, state_in}
 use Rattle.replica_core.specs.Calls.{Decided, Answers, Refuses, IsAnswer, IsRefusal, may_have_written, step_in}
-use Rattle.replica_core.specs.CallsDecide.{create_decides, delete_decides, delete_index_decides, move_decides, put_decides, resolve_decides, take_decides}
+use Rattle.replica_core.specs.CallsDecide.{create_decides, delete_decides, delete_index_decides, move_decides}
+use Rattle.replica_core.specs.CallsDecide.{put_decides, resolve_decides, take_decides}
 use Rattle.replica_core.specs.CallsFaults.{commit_fault_text}
 use Rattle.replica_core.specs.declared.fault.CommitFault.{CommitFault}
 use Rattle.replica_core.specs.declared.fault.CommitFault.TheVariants as commit
 use Rattle.replica_core.specs.declared.list.Call.{Call}
-use Rattle.replica_core.specs.declared.list.Call.TheVariants.{PutDoc, DeleteDoc, ResolveDoc, PutIfNewer, MovePosition, CreateIndex, DeleteIndex}
+use Rattle.replica_core.specs.declared.list.Call.TheVariants.{PutDoc, DeleteDoc, ResolveDoc, PutIfNewer, MovePosition}
+use Rattle.replica_core.specs.declared.list.Call.TheVariants.{CreateIndex, DeleteIndex}
 use Rattle.replica_core.specs.declared.list.CallFault.{CallFault}
 use Rattle.replica_core.specs.declared.list.CallFault.TheVariants.{Refused, Full, Disk, Memory}
 
@@ -84,7 +87,8 @@ abbrev pub steps_where : (Result (Unit {0}) CallFault → Bool) → State → Li
 steps_where says s [] ends = []
 steps_where says s (c ∷ cs) [] = []
 steps_where says s (c ∷ cs) (end ∷ ends) =
-    if says end then option_to_list (step_of_call s c) ++ steps_where says (after_call s c) cs ends else steps_where says s cs ends
+    if says end then option_to_list (step_of_call s c)
+    ++ steps_where says (after_call s c) cs ends else steps_where says s cs ends
 
 -- each call that succeeded has made its step
 abbrev pub steps_made : State → List Call → Ends → History
@@ -112,8 +116,10 @@ AndThen Memory ends P = P
 abbrev pub HaveEnded : Known → Known → State → List Call → Ends → Type 0
 HaveEnded old new s [] ends = ends ≡ []
 HaveEnded old new s (c ∷ cs) [] = ⊥
-HaveEnded old new s (c ∷ cs) (Ok done ∷ ends) = IsAnswer (call_decides c s) tt × HaveEnded old new (after_call s c) cs ends
-HaveEnded old new s (c ∷ cs) (Err fault ∷ ends) = EndsBy old new (call_decides c s) fault × AndThen fault ends (HaveEnded old new s cs ends)
+HaveEnded old new s (c ∷ cs) (Ok done ∷ ends) = IsAnswer (call_decides c s) tt
+    × HaveEnded old new (after_call s c) cs ends
+HaveEnded old new s (c ∷ cs) (Err fault ∷ ends) = EndsBy old new (call_decides c s) fault
+    × AndThen fault ends (HaveEnded old new s cs ends)
 
 -- what a crash on the way may leave: a state of which P holds with the first of the steps
 pub record AfterFirst (steps : History) (P : History → State → Type 0) (found : Found State) : Type 0 where
@@ -145,7 +151,8 @@ module _ {R : Type 0} (known : R → Known) (is_open : R → Type 0) (crash : R 
     -- the replica is open, unless a disk failed
     pub left : IsOpenIf (list_all stays_open ends) (is_open new) (known new)
     -- a crash on the way leaves the state after the first of the steps that were written
-    pub any_moment : AddsOnly known crash old new (StandsAfterFirst (state_in (known old)) (steps_written (state_in (known old)) calls ends))
+    pub any_moment : AddsOnly known crash old new
+        (StandsAfterFirst (state_in (known old)) (steps_written (state_in (known old)) calls ends))
     pub limit : (known new).limit ≡ (known old).limit
     pub later : (known old).faults ≤ (known new).faults
 
@@ -153,15 +160,16 @@ module _ {R : Type 0} (known : R → Known) (is_open : R → Type 0) (crash : R 
 
 -- each revision that the history accepted of a document is covered by a member
 abbrev pub AllKept : State → History → Type 0
-AllKept s h = (doc : Text) (a : Accept) → In a (flat_map (accepts_in doc) h) → (m : Member) × In m (s.document doc).members × (covers m.rev a.rev ≡ true)
+AllKept s h = (doc : Text) (a : Accept) → In a (flat_map (accepts_in doc) h) → (m : Member)
+    × In m (s.document doc).members × (covers m.rev a.rev ≡ true)
 
 -- a history goes on by these steps to this state, and no revision is lost that was ever accepted
 pub record Continues (name : Text) (uid : Uid) (h steps : History) (s : State) : Type 0 where
   pub stands : s ≡ state_of name uid (h ++ steps)
   pub kept : AllKept s (h ++ steps)
 
--- THE MAIN THEOREM for one replica: each history of the old state goes on by the steps that were made to the new state, and
--- by the first of those that were written to what a crash leaves, at whatever moment it comes
+-- THE MAIN THEOREM for one replica: each history of the old state goes on by the steps that were made to the new state,
+-- and by the first of those that were written to what a crash leaves, at whatever moment it comes
 module _ {R : Type 0} (known : R → Known) (crash : R → ℕ → Found State → Type 0) where
   pub record GoesOn (old new : R) (calls : List Call) (ends : Ends) : Type 0 where
     pub now : (name : Text) (uid : Uid) (h : History) → state_in (known old) ≡ state_of name uid h

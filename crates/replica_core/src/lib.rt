@@ -1,10 +1,10 @@
 //! A replica, whatever keeps it: the trait, a replica in memory, the calls that a program uses on
 //! one, and what its state answers.
 //!
-//! Each writing call decides by a definition over the state and its operands: a refusal, or an answer
-//! with at most one step. Its contract is one record (`IsDone`): the answer is the decided one, the
-//! state is the one after the decided step, each fault has its cause, and a crash leaves the old state
-//! or that one.
+//! Each writing call decides by a definition over the state and its operands: a refusal, or an
+//! answer with at most one step. Its contract is one record (`IsDone`): the answer is the decided
+//! one, the state is the one after the decided step, each fault has its cause, and a crash leaves
+//! the old state or that one.
 #![tactic(auto)]
 
 mod calls;

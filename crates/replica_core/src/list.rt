@@ -1,11 +1,14 @@
 //! A list of calls on a replica.
-ghost use Rattle.std.specs.Prelude.{◌≡◌, ◌+◌, ◌<◌, ◌≤◌, ◌++◌, ◌∷◌, [], Err, IfOk, OnErr, Ok, Some, map, not, vec_capacity, vec_len};
+ghost use Rattle.std.specs.Prelude.{◌≡◌, ◌+◌, ◌<◌, ◌≤◌, ◌++◌, ◌∷◌, [], Err, IfOk, OnErr, Ok, Some};
+ghost use Rattle.std.specs.Prelude.{map, not, vec_capacity, vec_len};
 ghost use Rattle.expr_parser.specs.FormOf.{form_of};
 ghost use Rattle.replica_core.specs.Replica.{state_in};
 ghost use Rattle.replica_core.specs.Calls.{IsDone};
 ghost use Rattle.replica_core.specs.CallsDecide.{create_decides};
-ghost use Rattle.replica_core.specs.CallsFaults.{index_failure, put_failure, resolve_failure, take_failure};
-ghost use Rattle.replica_core.specs.Runs.{GoesOn, HaveRun, bare, bare_end, call_decides, call_failure, call_fault, stays_open};
+ghost use Rattle.replica_core.specs.CallsFaults.{index_failure, put_failure, resolve_failure};
+ghost use Rattle.replica_core.specs.CallsFaults.{take_failure};
+ghost use Rattle.replica_core.specs.Runs.{GoesOn, HaveRun, bare, bare_end, call_decides};
+ghost use Rattle.replica_core.specs.Runs.{call_failure, call_fault, stays_open};
 
 use crate::{
     CommitFault, IndexFault, PutFault, Replica, ResolveDocFault, TakeFault, create_index,
@@ -94,9 +97,9 @@ pub type Ends = Vec<Result<(), CallFault>>;
 /// Makes each call in turn, whatever it answers, until a disk fails. The answer tells how each call
 /// ended.
 ///
-/// A call that succeeded has made its step, and no other has; but one in which a disk failed may have
-/// written its step. A crash on the way leaves the state after the first of these steps. Where memory
-/// runs out for the answer no call is made.
+/// A call that succeeded has made its step, and no other has; but one in which a disk failed may
+/// have written its step. A crash on the way leaves the state after the first of these steps. Where
+/// memory runs out for the answer no call is made.
 ///
 /// So a history of the replica goes on by these steps, and a member covers each revision that was
 /// ever accepted, at whatever moment a crash comes.

@@ -4,7 +4,8 @@ use replica_state::{State, Step};
 use std::alloc::Global;
 use u1_base::{DbName, ReplicaUid};
 
-/// A replica that keeps its state in memory. It is always open, and a commit fails only when memory runs out.
+/// A replica that keeps its state in memory. It is always open, and a commit fails only when memory
+/// runs out.
 #[derive(Drop)]
 pub struct MemReplica {
     state: State,

@@ -4,15 +4,17 @@ use replica_state::{State, Step};
 
 /// A replica: a state, and a place where its steps are kept.
 ///
-/// `known` is what contracts see of it, `is_open` what an open one keeps, and `crash` what opening it
-/// may find after a crash at a moment, which is counted from 0.
+/// `known` is what contracts see of it, `is_open` what an open one keeps, and `crash` what opening
+/// it may find after a crash at a moment, which is counted from 0.
 pub trait Replica {
     ghost use Rattle.std.specs.Prelude.{◌≡◌, ◌≤◌, ◌<◌, ℕ, Some, IfErr, OnErr, OnOk, true};
     ghost use Rattle.std.specs.Result.{IsErrAnd};
     ghost use Rattle.conflicts.specs.State.{Fits, State, after};
     ghost use Rattle.replica_state.specs.Held.{lists_of};
     ghost use Rattle.replica_state.specs.Steps.{step_of};
-    ghost use Rattle.replica_core.specs.Replica.{AddsOnly, Found, HasFailed, IsLeft, IsTooLong, Known, MayStand, Stands, is_disk, may_be_written, state_in};
+    ghost use Rattle.replica_core.specs.Replica.{AddsOnly, Found, HasFailed, IsLeft, IsTooLong};
+    ghost use Rattle.replica_core.specs.Replica.{Known, MayStand, Stands, is_disk, may_be_written};
+    ghost use Rattle.replica_core.specs.Replica.{state_in};
 
     ghost known: { Self → Known };
 
@@ -41,7 +43,8 @@ pub trait Replica {
             (HasFailed (known self.old) (known self.new) (Some (step_of step))) }
         ensures too_long { (known self.old).limit < (known self.old).need (step_of step)
             → IsErrAnd result (IsTooLong (known self.old) (step_of step)) }
-        ensures state { OnErr result (lists_of (known self.new).state ≡ lists_of (known self.old).state) }
+        ensures state { OnErr result
+            (lists_of (known self.new).state ≡ lists_of (known self.old).state) }
         ensures left { IfErr result (λ fault. IsLeft (known self.old) (known self.new)
             (is_open self.new) (is_disk fault)) }
         ensures any_moment { AddsOnly known crash self.old self.new

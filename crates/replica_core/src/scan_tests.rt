@@ -11,10 +11,12 @@ use u1_base::{Key, Text, Texts};
 
 const DOCS: u64 = 5_000;
 
-// The first document has this number. All numbers have five digits, so their order is that of the ids.
+// The first document has this number. All numbers have five digits, so their order is that of the
+// ids.
 const FIRST: u64 = 10_000;
 
-// A key has two of these words, and is numbered so that the order of the numbers is that of the keys.
+// A key has two of these words, and is numbered so that the order of the numbers is that of the
+// keys.
 const KEYS: u64 = 25;
 
 fn word(number: u64) -> &'static str {

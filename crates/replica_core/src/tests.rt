@@ -2,8 +2,8 @@
 use crate::stories::first_wrong;
 use std::test::Fail;
 
-// Edits; deletions, after which a document is read only where deleted ones are asked for, and no index answers it; and a
-// clock that is full.
+// Edits; deletions, after which a document is read only where deleted ones are asked for, and no
+// index answers it; and a clock that is full.
 const EDITS: &str = r#"put d1 a:1 {} => there is no such document
 put d1 - {"b":1,"a":"x"} => a:1
 get? d1 => a:1 {"a":"x","b":1}
@@ -46,10 +46,11 @@ get? d1 => a:9223372036854775807 {"v":1}
 changes? 0 => 1 #1 d1 1 #1
 "#;
 
-// A conflict is resolved, and while it stands the document has the keys of its current member. Part of a conflict is
-// resolved, and a part that does not have the greatest own counter is not. No merge where a member of another content has
-// a greater own counter. A deletion in conflict: the document is deleted where its current member is, whatever the other
-// one has. A dishonest peer: of two members joined the clock covers a third.
+// A conflict is resolved, and while it stands the document has the keys of its current member. Part
+// of a conflict is resolved, and a part that does not have the greatest own counter is not. No
+// merge where a member of another content has a greater own counter. A deletion in conflict: the
+// document is deleted where its current member is, whatever the other one has. A dishonest peer: of
+// two members joined the clock covers a third.
 const CONFLICTS: &str = r#"create i v => done
 put d1 - {"v":"a"} => a:1
 save d1 b:1 {"v":"b"} known/b/1/Tb => Conflicted b:1
@@ -97,7 +98,8 @@ conflicts? d1 => none
 get? d1 => a:1|c:2|d:2 {}
 "#;
 
-// The merge is current where the revision was asked for, and stands beside the current one where it was sent.
+// The merge is current where the revision was asked for, and stands beside the current one where it
+// was sent.
 const MERGES: &str = r#"save d1 b:1 {"v":"b"} known/b/1/Tb => Inserted b:1
 save d1 c:1 {"v":"c"} known/c/1/Tc => Conflicted c:1
 save d1 e:1 {"v":"b"} known/e/1/Te => Superseded a:1|b:1|e:1
@@ -108,8 +110,8 @@ sent d2 e:1 {"v":"b"} told/e/1/Te => Superseded a:1|b:1|e:1
 conflicts? d2 => c:1 {"v":"c"} a:1|b:1|e:1 {"v":"b"}
 "#;
 
-// What was not asked for is not kept in conflict, and the position moves alone. Where it stands there already, no step is
-// made.
+// What was not asked for is not kept in conflict, and the position moves alone. Where it stands
+// there already, no step is made.
 const RECEIPTS: &str = r#"sent d1 b:1 {"v":"b"} told/b/1/Tb => Inserted b:1
 sent d1 a:1 {"v":"a"} told/b/2/Tc => Conflicted -
 position? told b => 2 Tc
@@ -156,8 +158,8 @@ check? 1 #1 => fits
 check? 0 - => fits
 "#;
 
-// Indexes come and go. Documents go by their least key that is asked for, and then by id; each stands once. Keys of
-// numbers.
+// Indexes come and go. Documents go by their least key that is asked for, and then by id; each
+// stands once. Keys of numbers.
 const INDEXES: &str = r#"put d1 - {"n":"Ann","m":7} => a:1
 drop by_n => there is no such index
 create by_n lower(n) => done

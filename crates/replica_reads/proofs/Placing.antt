@@ -11,12 +11,14 @@ use Rattle.replica_state.specs.Named.{heading, name_of}
 use Rattle.replica_state.specs.declared.index.Index.{Index}
 
 -- the pairs of a chosen table are the chosen pairs
-pub chosen_pairs : (table : PosTable) (known told : Listed Place) → (chosen table known told).pairs ≡ chosen table known.pairs told.pairs
+pub chosen_pairs : (table : PosTable) (known told : Listed Place)
+    → (chosen table known told).pairs ≡ chosen table known.pairs told.pairs
 chosen_pairs Known known told = refl
 chosen_pairs Told known told = refl
 
 -- the name and the expressions of the index at a place
-pub named_at : (xs : List Index) (place : ℕ) → option_map name_of (slice_get xs place) ≡ slice_get (named (map heading xs)) place
+pub named_at : (xs : List Index) (place : ℕ)
+    → option_map name_of (slice_get xs place) ≡ slice_get (named (map heading xs)) place
 named_at [] place = refl
 named_at (x ∷ xs) zero = refl
 named_at (x ∷ xs) (suc place) = named_at xs place

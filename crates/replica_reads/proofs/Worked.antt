@@ -18,7 +18,8 @@ bad_second = refl
 too_few : pattern_in (codes "x" ∷ []) 2 ≡ Err WrongWidth
 too_few = refl
 
-good : pattern_in (codes "a" ∷ codes "b*" ∷ codes "*" ∷ []) 3 ≡ Ok (part_of (codes "a") ∷ part_of (codes "b*") ∷ part_of (codes "*") ∷ [])
+good : pattern_in (codes "a" ∷ codes "b*" ∷ codes "*" ∷ []) 3
+    ≡ Ok (part_of (codes "a") ∷ part_of (codes "b*") ∷ part_of (codes "*") ∷ [])
 good = refl
 
 -- ---- answers: d1 has two keys, d2 one, d3 none
@@ -27,7 +28,8 @@ abbrev key : Text → Key
 key word = word ∷ []
 
 abbrev three : Documents
-three = (codes "d1", key (codes "z") ∷ key (codes "b") ∷ []) ∷ (codes "d2", key (codes "a") ∷ []) ∷ (codes "d3", []) ∷ []
+three = (codes "d1", key (codes "z") ∷ key (codes "b") ∷ []) ∷ (codes "d2", key (codes "a") ∷ [])
+    ∷ (codes "d3", []) ∷ []
 
 by_least : answer_by (is_between None None) three ≡ codes "d2" ∷ codes "d1" ∷ []
 by_least = refl

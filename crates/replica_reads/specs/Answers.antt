@@ -46,10 +46,14 @@ keys_by documents = sorted_once key_cmp (flat_map (λ d. d.1) documents)
 pub record AnswersAreFilters : Type 0 where
   -- the answer has the documents with a wanted key and no others, by least wanted key and then by id, and is the one
   -- list that does
-  pub answer : (wanted : Key → Bool) (documents : Documents) → T (is_sorted id_cmp documents) → IsAnswerBy wanted documents (answer_by wanted documents)
-  pub one_answer : (wanted : Key → Bool) (documents : Documents) (ids : List (List ℕ)) → T (is_sorted id_cmp documents) → IsAnswerBy wanted documents ids → ids ≡ answer_by wanted documents
+  pub answer : (wanted : Key → Bool) (documents : Documents) → T (is_sorted id_cmp documents)
+      → IsAnswerBy wanted documents (answer_by wanted documents)
+  pub one_answer : (wanted : Key → Bool) (documents : Documents) (ids : List (List ℕ)) → T (is_sorted id_cmp documents)
+      → IsAnswerBy wanted documents ids → ids ≡ answer_by wanted documents
   -- the keys are those of the documents and no others, they rise, and they are the one list that does
   pub keys : (documents : Documents) → T (is_sorted id_cmp documents) → AreKeysBy documents (keys_by documents)
-  pub one_list : (documents : Documents) (keys : List Key) → T (is_sorted id_cmp documents) → AreKeysBy documents keys → keys ≡ keys_by documents
+  pub one_list : (documents : Documents) (keys : List Key) → T (is_sorted id_cmp documents) → AreKeysBy documents keys
+      → keys ≡ keys_by documents
   -- the keys of a document are those of its content; what is deleted or not there has none
-  pub contents : (exprs : List Text) (docs : Docs) (id : Text) → keys_at (keyed exprs docs) id ≡ keys_in exprs (content_of (document (find id_cmp id docs)))
+  pub contents : (exprs : List Text) (docs : Docs) (id : Text)
+      → keys_at (keyed exprs docs) id ≡ keys_in exprs (content_of (document (find id_cmp id docs)))

@@ -1,5 +1,6 @@
 -- What a state answers of its documents.
-use Rattle.std.specs.Prelude.{◌≡◌, Bool, true, false, ◌||◌, if◌then◌else◌, List, filter, map, is_some, T, Option, Some, None}
+use Rattle.std.specs.Prelude.{◌≡◌, Bool, true, false, ◌||◌, if◌then◌else◌, List, filter, map, is_some, T, Option, Some}
+use Rattle.std.specs.Prelude.{None}
 use Rattle.std.specs.FinMap.Entries.{find, is_sorted}
 use Rattle.std.specs.List.{AllPairs, list_any}
 use Rattle.std.specs.declared.cmp.Ordering.TheVariants.{Less}
@@ -30,6 +31,8 @@ IsInConflict d (Some kept) = (document (Some kept) ≡ d) × (is_conflicted d �
 -- over documents in the order of their ids
 pub record ListsDocuments : Type 0 where
   -- an id is listed exactly where something is got at it
-  pub members : (deleted : Bool) (docs : Docs) (id : Text) → T (is_sorted id_cmp docs) → list_any (same_id id) (ids_of deleted docs) ≡ is_some (got deleted (document (find id_cmp id docs)))
+  pub members : (deleted : Bool) (docs : Docs) (id : Text) → T (is_sorted id_cmp docs)
+      → list_any (same_id id) (ids_of deleted docs) ≡ is_some (got deleted (document (find id_cmp id docs)))
   -- the ids rise, so that each stands once
-  pub order : (deleted : Bool) (docs : Docs) → T (is_sorted id_cmp docs) → AllPairs (λ id later. id_cmp id later ≡ Less) (ids_of deleted docs)
+  pub order : (deleted : Bool) (docs : Docs) → T (is_sorted id_cmp docs)
+      → AllPairs (λ id later. id_cmp id later ≡ Less) (ids_of deleted docs)

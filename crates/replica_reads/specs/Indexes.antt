@@ -27,7 +27,8 @@ for_range width start end answers =
 -- ---- by the pairs of a table
 
 abbrev pub searched : Index → List Text → Result (List Text) QueryFault
-searched index values = for_pattern (pattern_in values (length index.exprs.texts)) (λ wanted. answer wanted index.table.pairs)
+searched index values = for_pattern (pattern_in values (length index.exprs.texts))
+    (λ wanted. answer wanted index.table.pairs)
 
 abbrev pub looked_up : Index → Option Key → Option Key → Result (List Text) QueryFault
 looked_up index start end = for_range (length index.exprs.texts) start end (λ wanted. answer wanted index.table.pairs)
@@ -36,7 +37,8 @@ looked_up index start end = for_range (length index.exprs.texts) start end (λ w
 
 -- THE ANSWER OF A QUERY with these values, of an index with these expressions over these documents
 abbrev pub queried : List Text → Docs → List Text → Result (List Text) QueryFault
-queried exprs docs values = for_pattern (pattern_in values (length exprs)) (λ wanted. answer_by wanted (keyed exprs docs))
+queried exprs docs values = for_pattern (pattern_in values (length exprs))
+    (λ wanted. answer_by wanted (keyed exprs docs))
 
 -- THE ANSWER OF A RANGE
 abbrev pub ranged : List Text → Docs → Option Key → Option Key → Result (List Text) QueryFault

@@ -13,7 +13,8 @@ use u1_base::{Memory, Position};
 pub struct Changed {
     /// The position after all entries of the log.
     pub at: Position,
-    /// Each document with an entry after the generation once, at its last entry, in the order of these entries.
+    /// Each document with an entry after the generation once, at its last entry, in the order of
+    /// these entries.
     pub changes: Changes,
 }
 

@@ -10,8 +10,8 @@ use replica_state::State;
 use std::alloc::Global;
 use u1_base::{DocId, Document, Ids, Memory};
 
-/// The current member of a document. None exactly where there is no document, or where it is deleted
-/// and deleted ones are not asked for.
+/// The current member of a document. None exactly where there is no document, or where it is
+/// deleted and deleted ones are not asked for.
 pub fn get_doc<'a>(state: &'a State, id: &DocId, deleted: bool) -> Option<&'a Member>
     ensures { option_copied result ≡ got deleted ((meaning state.now).document id.now) }
 {

@@ -7,7 +7,8 @@ use u1_base::Memory;
 /// Why a query or a range is refused. The width is tested first.
 #[derive(Clone, Copy, Debug, PartialEq, Eq)]
 pub enum QueryFault {
-    /// The values, or the texts of an end of the range, are more or fewer than the expressions of the index.
+    /// The values, or the texts of an end of the range, are more or fewer than the expressions of
+    /// the index.
     WrongWidth,
     /// The first value, counted from 0, that is not `*` though one before it is or ends in a star.
     BadGlob(u64),

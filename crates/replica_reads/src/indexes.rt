@@ -1,5 +1,6 @@
 //! The indexes of a state, and what they answer.
-ghost use Rattle.std.specs.Prelude.{◌≡◌, ◌+◌, ◌≤◌, IfOk, length, map, option_copied, option_map, slice_get};
+ghost use Rattle.std.specs.Prelude.{◌≡◌, ◌+◌, ◌≤◌, IfOk, length, map, option_copied, option_map};
+ghost use Rattle.std.specs.Prelude.{slice_get};
 ghost use Rattle.index_tables.specs.Looks.{FewLooks};
 ghost use Rattle.query_range.specs.Answers.{is_within, keys_of, wanted_of};
 ghost use Rattle.query_range.specs.Patterns.{meets, part_of};
@@ -7,7 +8,8 @@ ghost use Rattle.replica_state.specs.Held.{lists_of};
 ghost use Rattle.replica_state.specs.Keyed.{keyed};
 ghost use Rattle.replica_state.specs.Lent.{IsLent};
 ghost use Rattle.replica_reads.specs.Answers.{keys_by};
-ghost use Rattle.replica_reads.specs.Indexes.{Gives, OverDocuments, looked_up, queried, ranged, searched};
+ghost use Rattle.replica_reads.specs.Indexes.{Gives, OverDocuments, looked_up, queried, ranged};
+ghost use Rattle.replica_reads.specs.Indexes.{searched};
 ghost use Rattle.replica_reads.specs.Patterns.{has_width};
 
 use crate::QueryFault;
@@ -42,7 +44,8 @@ fn index_in(indexes: &[Index], place: u64) -> Option<&Index>
     indexes.get(place as usize)
 }
 
-/// The documents with a key that meets the values of a query, by their least such key and then by id.
+/// The documents with a key that meets the values of a query, by their least such key and then by
+/// id.
 ///
 /// It counts at most two steps for each bit of the length of the table, one for each of its pairs
 /// whose key meets the values, and one more.

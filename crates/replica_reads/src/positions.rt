@@ -16,8 +16,8 @@ pub fn position_of(state: &State, table: PosTable, uid: &ReplicaUid) -> Result<P
     }
 }
 
-/// The position at a place of the table, which counts from 0 in the order of uids. None exactly past
-/// the end.
+/// The position at a place of the table, which counts from 0 in the order of uids. None exactly
+/// past the end.
 pub fn kept_at(state: &State, table: PosTable, place: u64) -> Option<(&ReplicaUid, &Position)>
     ensures { option_map (λ kept. (kept.0.now, kept.1.now)) result
         ≡ slice_get (chosen table (lists_of state.now).known (lists_of state.now).told) place }

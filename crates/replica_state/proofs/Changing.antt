@@ -16,7 +16,9 @@ use Rattle.replica_state.specs.declared.index.Index.{Index}
 use Rattle.replica_state.specs.declared.prepared.KeyChange.{KeyChange}
 use Rattle.replica_state.proofs.DocumentKeys.{keys_at_keyed, put_keyed, table_wide}
 
-module _ (docs : Docs) (id : Text) (kept : Kept) (x : Index) (gone : List Key) (change : KeyChange) (left : List Entry) (t : IsTable docs x) (is : change ≡ key_change id (find id_cmp id docs) kept x.exprs.texts) (gone_is : gone ≡ change.gone) (left_is : left ≡ not_among (entries_of id gone) x.table.pairs) where
+module _ (docs : Docs) (id : Text) (kept : Kept) (x : Index) (gone : List Key) (change : KeyChange) (left : List Entry)
+    (t : IsTable docs x) (is : change ≡ key_change id (find id_cmp id docs) kept x.exprs.texts)
+    (gone_is : gone ≡ change.gone) (left_is : left ≡ not_among (entries_of id gone) x.table.pairs) where
   abbrev documents : Documents
   documents = keyed x.exprs.texts docs
 
@@ -32,9 +34,11 @@ module _ (docs : Docs) (id : Text) (kept : Kept) (x : Index) (gone : List Key) (
   pub change_fresh : AreNew left change.pairs
   change_fresh =
       subst (λ (es : List Entry). AreNew es change.pairs) (sym all_dropped)
-      (subst (λ (ps : List Entry). AreNew (dropped documents id x.table.pairs) ps) (sym pairs_are) (new_after documents x.table.pairs id t (keys_of_kept x.exprs.texts kept)))
+      (subst (λ (ps : List Entry). AreNew (dropped documents id x.table.pairs) ps) (sym pairs_are)
+      (new_after documents x.table.pairs id t (keys_of_kept x.exprs.texts kept)))
 
-  pub change_table : (new : List Entry) → HoldsBoth left change.pairs new → IsTableOf (keyed x.exprs.texts (put id_cmp id kept docs)) new
+  pub change_table : (new : List Entry) → HoldsBoth left change.pairs new
+      → IsTableOf (keyed x.exprs.texts (put id_cmp id kept docs)) new
   change_table new both =
       subst (λ (ds : Documents). IsTableOf ds new) (put_keyed x.exprs.texts docs id kept)
       (put_table documents x.table.pairs id t (keys_of_kept x.exprs.texts kept) new

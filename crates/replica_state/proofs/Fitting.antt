@@ -1,5 +1,6 @@
 -- The tests of what fits say what fits.
-use Rattle.std.specs.Prelude.{◌≡◌, ◌↔◌, Bool, true, false, not, ◌&&◌, IsTrue, IsSome, is_some, List, Option, Some, None, refl}
+use Rattle.std.specs.Prelude.{◌≡◌, ◌↔◌, Bool, true, false, not, ◌&&◌, IsTrue, IsSome, is_some, List, Option, Some, None}
+use Rattle.std.specs.Prelude.{refl}
 use Rattle.std.proofs.Common.{sym, ◌∙◌, ap}
 use Rattle.u1_base.specs.Places.{Place}
 use Rattle.translog.specs.Source.{GoesOn, passes}
@@ -42,15 +43,18 @@ goes b kept kept_too at same is = (
   λ h. is ∙ ap (λ (k : Place). passes k at) same ∙ (goes_on kept_too at).0 h,
 )
 
-chosen_pairs : (t : PosTable) (known told : Listed Place) → (chosen t known told).pairs ≡ chosen t known.pairs told.pairs
+chosen_pairs : (t : PosTable) (known told : Listed Place)
+    → (chosen t known told).pairs ≡ chosen t known.pairs told.pairs
 chosen_pairs Known known told = refl
 chosen_pairs Told known told = refl
 
 -- what is kept of a peer
-pub kept_at : (s : Held) (t : PosTable) (u : Uid) (o : Option Place) (l : Listed Place) → l ≡ chosen t s.known s.told → o ≡ find id_cmp u l.pairs → unwrap_or o nowhere ≡ unwrap_or ((meaning s).position t u) nowhere
+pub kept_at : (s : Held) (t : PosTable) (u : Uid) (o : Option Place) (l : Listed Place) → l ≡ chosen t s.known s.told
+    → o ≡ find id_cmp u l.pairs → unwrap_or o nowhere ≡ unwrap_or ((meaning s).position t u) nowhere
 kept_at s t u o l table found =
     ap (λ (p : Option Place). unwrap_or p nowhere)
-    (found ∙ ap (λ (k : Listed Place). find id_cmp u k.pairs) table ∙ ap (λ (ps : List (Uid × Place)). find id_cmp u ps) (chosen_pairs t s.known s.told))
+    (found ∙ ap (λ (k : Listed Place). find id_cmp u k.pairs) table
+    ∙ ap (λ (ps : List (Uid × Place)). find id_cmp u ps) (chosen_pairs t s.known s.told))
 
 lent_some : (s : Held) (n : Text) (o : Option Index) → IsLent s n o → is_some o ≡ is_some ((meaning s).index n)
 lent_some s n None h = sym (ap is_some h)
@@ -61,5 +65,6 @@ copied_some None = refl
 copied_some (Some x) = refl
 
 -- an index is lent exactly where there is one
-pub is_lent : (s : Held) (n : Text) (r : Option (Bor Index)) → IsLent s n (option_copied r) → is_some r ≡ is_some ((meaning s).index n)
+pub is_lent : (s : Held) (n : Text) (r : Option (Bor Index)) → IsLent s n (option_copied r)
+    → is_some r ≡ is_some ((meaning s).index n)
 is_lent s n r h = copied_some r ∙ lent_some s n (option_copied r) h

@@ -11,37 +11,55 @@ use Rattle.conflicts.specs.declared.accept.Accept.{Accept}
 use Rattle.replica_state.specs.Accepted.{IsDocumentAfter, IsSetPut}
 use Rattle.replica_state.specs.Keyed.{Docs}
 use Rattle.replica_state.specs.declared.prepared.Replacement.{Replacement}
-use Rattle.replica_state.specs.declared.prepared.Replacement.TheVariants.{Nothing, Document as NewSet, NewIndex, NoIndex}
+use Rattle.replica_state.specs.declared.prepared.Replacement.TheVariants.{Nothing, Document as NewSet, NewIndex}
+use Rattle.replica_state.specs.declared.prepared.Replacement.TheVariants.{NoIndex}
 use Rattle.std.specs.Prelude.{Result, Ok, Err, IfOk}
 
 -- where the acceptance changes nothing
-pub unchanged : (docs : Docs) (doc d : Text) (a : Accept) → document_after (document (find id_cmp doc docs)) a ≡ document (find id_cmp doc docs) → document (find id_cmp d docs) ≡ cond (same_id d doc) (document_after (document (find id_cmp d docs)) a) (document (find id_cmp d docs))
-unchanged docs doc d a same = elim (same_id d doc) as (λ (b : Bool). same_id d doc ≡ b → document (find id_cmp d docs) ≡ cond b (document_after (document (find id_cmp d docs)) a) (document (find id_cmp d docs))) [
-  | true ↦ λ e. ap (λ (i : Text). document (find id_cmp i docs)) (same_id_is d doc e) ∙ sym same ∙ ap (λ (i : Text). document_after (document (find id_cmp i docs)) a) (sym (same_id_is d doc e))
-  | false ↦ λ e. refl
-] refl
+pub unchanged : (docs : Docs) (doc d : Text) (a : Accept)
+    → document_after (document (find id_cmp doc docs)) a ≡ document (find id_cmp doc docs)
+    → document (find id_cmp d docs) ≡ cond (same_id d doc) (document_after (document (find id_cmp d docs)) a)
+    (document (find id_cmp d docs))
+unchanged docs doc d a same = elim (same_id d doc) as
+    (λ (b : Bool). same_id d doc ≡ b → document (find id_cmp d docs)
+    ≡ cond b (document_after (document (find id_cmp d docs)) a) (document (find id_cmp d docs))) [
+      | true ↦ λ e. ap (λ (i : Text). document (find id_cmp i docs)) (same_id_is d doc e) ∙ sym same
+          ∙ ap (λ (i : Text). document_after (document (find id_cmp i docs)) a) (sym (same_id_is d doc e))
+      | false ↦ λ e. refl
+    ] refl
 
 -- where it leaves a set
-pub changed : (docs : Docs) (doc id d : Text) (a : Accept) (set : Kept) → id ≡ doc → document (Some set) ≡ document_after (document (find id_cmp doc docs)) a → document (find id_cmp d (put id_cmp id set docs)) ≡ cond (same_id d doc) (document_after (document (find id_cmp d docs)) a) (document (find id_cmp d docs))
+pub changed : (docs : Docs) (doc id d : Text) (a : Accept) (set : Kept) → id ≡ doc
+    → document (Some set) ≡ document_after (document (find id_cmp doc docs)) a
+    → document (find id_cmp d (put id_cmp id set docs))
+    ≡ cond (same_id d doc) (document_after (document (find id_cmp d docs)) a) (document (find id_cmp d docs))
 changed docs doc id d a set same is =
     ap document (find-put id_cmp nat_list_cmp_total d id set docs)
     ∙ ap (λ (i : Text). document (cond (same_id d i) (Some set) (find id_cmp d docs))) same
-    ∙ elim (same_id d doc) as (λ (b : Bool). same_id d doc ≡ b → document (cond b (Some set) (find id_cmp d docs)) ≡ cond b (document_after (document (find id_cmp d docs)) a) (document (find id_cmp d docs))) [
+    ∙ elim (same_id d doc) as (λ (b : Bool). same_id d doc ≡ b
+    → document (cond b (Some set) (find id_cmp d docs))
+    ≡ cond b (document_after (document (find id_cmp d docs)) a) (document (find id_cmp d docs))) [
       | true ↦ λ e. is ∙ ap (λ (i : Text). document_after (document (find id_cmp i docs)) a) (sym (same_id_is d doc e))
       | false ↦ λ e. refl
     ] refl
 
 -- the same as a replacement
-put_after : (docs olds : Docs) (doc : Text) (a : Accept) (set : Kept) (o : Option Kept) (r : Replacement) → docs ≡ olds → o ≡ find id_cmp doc olds → document (Some set) ≡ document_after (document o) a → IsSetPut doc set r → IsDocumentAfter docs doc a r
+put_after : (docs olds : Docs) (doc : Text) (a : Accept) (set : Kept) (o : Option Kept) (r : Replacement) → docs ≡ olds
+    → o ≡ find id_cmp doc olds → document (Some set) ≡ document_after (document o) a → IsSetPut doc set r
+    → IsDocumentAfter docs doc a r
 put_after docs olds doc a set o Nothing same there is put = absurd put
 put_after docs olds doc a set o (NewSet id kept changes) same there is put = record {
   documents = λ d. changed docs doc id d a kept put.0
-      (ap (λ (k : Kept). document (Some k)) put.1 ∙ is ∙ ap (λ (p : Option Kept). document_after (document p) a) (there ∙ ap (λ (l : Docs). find id_cmp doc l) (sym same)));
+      (ap (λ (k : Kept). document (Some k)) put.1 ∙ is
+      ∙ ap (λ (p : Option Kept). document_after (document p) a)
+      (there ∙ ap (λ (l : Docs). find id_cmp doc l) (sym same)));
   indexes = λ names. refl;
 }
 put_after docs olds doc a set o (NewIndex index) same there is put = absurd put
 put_after docs olds doc a set o (NoIndex name) same there is put = absurd put
 
-pub ok_put : {E : Type 0} (r : Result Replacement E) (docs olds : Docs) (doc : Text) (a : Accept) (set : Kept) (o : Option Kept) → docs ≡ olds → o ≡ find id_cmp doc olds → document (Some set) ≡ document_after (document o) a → IfOk r (IsSetPut doc set) → IfOk r (IsDocumentAfter docs doc a)
+pub ok_put : {E : Type 0} (r : Result Replacement E) (docs olds : Docs) (doc : Text) (a : Accept) (set : Kept)
+    (o : Option Kept) → docs ≡ olds → o ≡ find id_cmp doc olds → document (Some set) ≡ document_after (document o) a
+    → IfOk r (IsSetPut doc set) → IfOk r (IsDocumentAfter docs doc a)
 ok_put (Ok r) docs olds doc a set o same there is put = put_after docs olds doc a set o r same there is put
 ok_put (Err e) docs olds doc a set o same there is put = put

@@ -14,7 +14,8 @@ use Rattle.replica_state.specs.declared.prepared.Replacement.TheVariants.{Nothin
 
 -- the document is the one after the acceptance, all others and the indexes stay
 pub record IsDocumentAfter (docs : Docs) (doc : Text) (a : Accept) (r : Replacement) : Type 0 where
-  pub documents : (d : Text) → document (find id_cmp d (docs_with r docs)) ≡ cond (same_id d doc) (document_after (document (find id_cmp d docs)) a) (document (find id_cmp d docs))
+  pub documents : (d : Text) → document (find id_cmp d (docs_with r docs))
+      ≡ cond (same_id d doc) (document_after (document (find id_cmp d docs)) a) (document (find id_cmp d docs))
   pub indexes : (names : Names) → names_with r names ≡ names
 
 -- it is the set, at this id

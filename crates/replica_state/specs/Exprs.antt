@@ -47,13 +47,16 @@ read_all (f ∷ fs) all =
     (read_all fs (All-tail IsExpr f fs all))
 
 -- the texts of some expressions
-abbrev pub texts_of : (forms : List Form) → list_all is_read forms ≡ true → 1 ≤ length forms → length forms ≤ most_exprs → IndexTexts
-texts_of forms read some few = record { texts = map canonical forms; spelled = (texts_of_exprs forms (all_read forms read) some few).0 }
+abbrev pub texts_of : (forms : List Form) → list_all is_read forms ≡ true → 1 ≤ length forms
+    → length forms ≤ most_exprs → IndexTexts
+texts_of forms read some few =
+    record { texts = map canonical forms; spelled = (texts_of_exprs forms (all_read forms read) some few).0 }
 
 -- they are stored as their texts
 pub same_texts : (x y : IndexTexts) → x.texts ≡ y.texts → x ≡ y
 same_texts x y e =
-    let both : ◌≡◌ {A = (ts : List (List ℕ)) × AreExprs ts} (x.texts, x.spelled) (y.texts, y.spelled) = Σ_prop_path (λ ts p q. Bool-set (are_exprs ts) true p q) e in
+    let both : ◌≡◌ {A = (ts : List (List ℕ)) × AreExprs ts} (x.texts, x.spelled) (y.texts, y.spelled) =
+    Σ_prop_path (λ ts p q. Bool-set (are_exprs ts) true p q) e in
     λ i. record { texts = (both i).0; spelled = (both i).1 }
 
 abbrev pub texts_code : Coded IndexTexts

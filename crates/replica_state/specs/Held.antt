@@ -107,14 +107,17 @@ heading_code =
     code_by (Text × (List Text × ℕ)) (coded× (coded_list coded_ℕ) (coded× (coded_list (coded_list coded_ℕ)) coded_ℕ))
     (λ x. (x.name, (x.exprs, x.room))) (λ p. record { name = p.0; exprs = p.1.0; room = p.1.1 }) (λ _. refl)
 
-pub same_collected : (x y : Collected) → ◌≡◌ {A = Listed Kept × (List Heading × ℕ)} (x.docs, (x.indexes, x.spare)) (y.docs, (y.indexes, y.spare)) → x ≡ y
+pub same_collected : (x y : Collected)
+    → ◌≡◌ {A = Listed Kept × (List Heading × ℕ)} (x.docs, (x.indexes, x.spare)) (y.docs, (y.indexes, y.spare)) → x ≡ y
 same_collected x y e =
-    let sorted : ◌≡◌ {A = (hs : List Heading) × T (is_sorted id_cmp (named hs))} (x.indexes, x.sorted) (y.indexes, y.sorted) = Σ_prop_path (λ hs. T_prop _) (λ i. (e i).1.0) in
+    let sorted : ◌≡◌ {A = (hs : List Heading) × T (is_sorted id_cmp (named hs))} (x.indexes, x.sorted)
+    (y.indexes, y.sorted) = Σ_prop_path (λ hs. T_prop _) (λ i. (e i).1.0) in
     λ i. record { docs = (e i).0; indexes = (sorted i).0; sorted = (sorted i).1; spare = (e i).1.1 }
 
 abbrev pub collected_code : Coded Collected
 collected_code =
-    coded_via (coded× (listed_code kept_code) (coded× (coded_list heading_code) coded_ℕ)) (λ c. (c.docs, (c.indexes, c.spare))) same_collected
+    coded_via (coded× (listed_code kept_code) (coded× (coded_list heading_code) coded_ℕ))
+    (λ c. (c.docs, (c.indexes, c.spare))) same_collected
 
 abbrev pub entry_code : Coded Entry
 entry_code =
@@ -129,7 +132,8 @@ log_code =
 abbrev pub held_code : Coded Held
 held_code =
     code_by ((Text × Uid) × (Collected × (Log × (Listed Place × Listed Place))))
-    (coded× (coded× (coded_list coded_ℕ) (coded_list coded_ℕ)) (coded× collected_code (coded× log_code (coded× (listed_code place_code) (listed_code place_code)))))
+    (coded× (coded× (coded_list coded_ℕ) (coded_list coded_ℕ))
+    (coded× collected_code (coded× log_code (coded× (listed_code place_code) (listed_code place_code)))))
     (λ s. ((s.name, s.uid), (s.collection, (s.log, (s.known, s.told)))))
     (λ p. record { name = p.0.0; uid = p.0.1; collection = p.1.0; log = p.1.1.0; known = p.1.1.1.0; told = p.1.1.1.1 })
     (λ _. refl)

@@ -1,5 +1,6 @@
 -- The list of indexes behind a state. Only private clauses speak of it.
-use Rattle.std.specs.Prelude.{ℕ, suc, ◌≤◌, Bool, false, not, cond, List, [], ◌∷◌, filter, map, length, T, Option, Some, None}
+use Rattle.std.specs.Prelude.{ℕ, suc, ◌≤◌, Bool, false, not, cond, List, [], ◌∷◌, filter, map, length, T, Option, Some}
+use Rattle.std.specs.Prelude.{None}
 use Rattle.std.specs.FinMap.Entries.{by_order, is_sorted}
 use Rattle.std.specs.Ordering.{is_lt}
 use Rattle.u1_base.specs.Ids.{id_cmp, same_id}

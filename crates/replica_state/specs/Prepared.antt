@@ -43,7 +43,8 @@ entries_with (Some entry) log = log ++ entry ∷ []
 -- the positions of a table with a move, where it is one of this table
 abbrev pub places_with : PosTable → Option Move → List (Uid × Place) → List (Uid × Place)
 places_with table None places = places
-places_with table (Some moved) places = cond (same_table table moved.table) (put id_cmp moved.uid moved.at places) places
+places_with table (Some moved) places = cond (same_table table moved.table)
+    (put id_cmp moved.uid moved.at places) places
 
 -- THE LISTS WITH THE PARTS that are prepared
 abbrev pub lists_with : Prepared → Lists → Lists
@@ -67,15 +68,16 @@ IsPartsOf s x p = meaning_of (lists_with p (lists_of s)) ≡ after (meaning s) (
 abbrev pub key_change : Text → Option Kept → Kept → List Text → KeyChange
 key_change id old new exprs = record { gone = keys_there exprs old; pairs = entries_of id (keys_of_kept exprs new) }
 
--- documents have room for one more, and the tables of the indexes for its pairs; the changes of the indexes are those of
--- this document
-pub record TakesDocument (docs : Listed Kept) (indexes : List Heading) (id : Text) (set : Kept) (changes : List KeyChange) : Type 0 where
+-- documents have room for one more, and the tables of the indexes for its pairs; the changes of the indexes are those
+-- of this document
+pub record TakesDocument (docs : Listed Kept) (indexes : List Heading) (id : Text) (set : Kept)
+    (changes : List KeyChange) : Type 0 where
   pub place : 1 ≤ docs.room
   pub changed : changes ≡ map (λ x. key_change id (find id_cmp id docs.pairs) set x.exprs) indexes
   pub room : All (λ x. length (keys_of_kept x.exprs set) ≤ x.room) indexes
 
--- documents and indexes, with so many places for further ones, can take what is to be replaced. The table of a new index
--- is that of these documents
+-- documents and indexes, with so many places for further ones, can take what is to be replaced. The table of a new
+-- index is that of these documents
 abbrev pub Takes : Listed Kept → List Heading → ℕ → Replacement → Type 0
 Takes docs indexes spare Nothing = Unit {0}
 Takes docs indexes spare (Document id set changes) = TakesDocument docs indexes id set changes.items

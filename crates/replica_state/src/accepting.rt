@@ -11,7 +11,8 @@ use std::alloc::Global;
 use u1_base::Memory;
 use vector_rev::Clock;
 
-/// The set after the acceptance. None where a member is newer than the accepted revision, so that nothing changes.
+/// The set after the acceptance. None where a member is newer than the accepted revision, so that
+/// nothing changes.
 pub(crate) fn set_after(
     alloc: Global,
     set: Option<&DocSet>,
@@ -27,7 +28,8 @@ pub(crate) fn set_after(
 }
 
 fn has_newer(set: Option<&DocSet>, rev: &Clock) -> bool
-    ensures { result ≡ list_any (λ m. dominates m.rev rev.now) (document (option_copied set.entry)).members }
+    ensures { result ≡ list_any (λ m. dominates m.rev rev.now)
+        (document (option_copied set.entry)).members }
 {
     match set {
         Some(set) => set.has_newer(rev),
@@ -37,9 +39,11 @@ fn has_newer(set: Option<&DocSet>, rev: &Clock) -> bool
 
 // The acceptance, marked current where it does not fit without the mark.
 fn fitting(set: Option<&DocSet>, accept: Accept) -> Accept
-    requires { list_any (λ m. dominates m.rev accept.rev) (document (option_copied set)).members ≡ false }
+    requires { list_any (λ m. dominates m.rev accept.rev)
+        (document (option_copied set)).members ≡ false }
     ensures fits { FitsDocument (document (option_copied set.entry)) result }
-    ensures same { document_after (document (option_copied set.entry)) result ≡ document_after (document (option_copied set.entry)) accept }
+    ensures same { document_after (document (option_copied set.entry)) result
+        ≡ document_after (document (option_copied set.entry)) accept }
 {
     if DocSet::fits(set, &accept) {
         return accept;

@@ -12,11 +12,13 @@ use crate::state::State;
 use translog::{Entry, Log};
 
 impl State {
-    /// Puts in what was prepared for a step: the state is the one after that step. It takes no memory.
+    /// Puts in what was prepared for a step: the state is the one after that step. It takes no
+    /// memory.
     pub fn apply(&mut self, prepared: Prepared)
         requires { IsReady self.old prepared }
         ensures lists { lists_of self.new ≡ lists_with prepared (lists_of self.old) }
-        ensures step { (x : Step) → IsPartsOf self.old x prepared → meaning self.new ≡ after (meaning self.old) (step_of x) }
+        ensures step { (x : Step) → IsPartsOf self.old x prepared
+            → meaning self.new ≡ after (meaning self.old) (step_of x) }
     {
         let Prepared {
             replacement,

@@ -25,7 +25,9 @@ fn prepare_index(
     new: &DocSet,
 ) -> Result<KeyChange, Memory>
     ensures same { bare index.new ≡ bare index.old }
-    ensures change { IfOk result (λ change. change ≡ key_change id.now (option_copied old.entry) new.now index.new.exprs.texts) }
+    ensures change { IfOk result
+        (λ change. change ≡ key_change id.now
+        (option_copied old.entry) new.now index.new.exprs.texts) }
     ensures room { OnOk result (HasRoom new.now index.new) }
 {
     let gone = keys_before(alloc, &index.exprs, old)?;
@@ -44,7 +46,10 @@ pub(crate) fn prepare_indexes(
     new: &DocSet,
 ) -> Result<Vec<KeyChange>, Memory>
     ensures same { map bare indexes.new.items ≡ map bare indexes.old.items }
-    ensures changes { IfOk result (λ changes. changes.items ≡ map (λ x. key_change id.now (option_copied old.entry) new.now x.exprs.texts) indexes.new.items) }
+    ensures changes { IfOk result
+        (λ changes. changes.items
+        ≡ map (λ x. key_change id.now (option_copied old.entry) new.now x.exprs.texts)
+        indexes.new.items) }
     ensures room { OnOk result (All (HasRoom new.now) indexes.new.items) }
 {
     let mut changes = Vec::with_capacity(alloc, indexes.len())?;
@@ -67,7 +72,8 @@ fn change_index(
     change: KeyChange,
 )
     requires tied { IsTable docs.now.pairs index.old }
-    requires change { change ≡ key_change id.now (find id_cmp id.now docs.now.pairs) set.now index.old.exprs.texts }
+    requires change { change ≡ key_change id.now
+        (find id_cmp id.now docs.now.pairs) set.now index.old.exprs.texts }
     requires room { HasRoom set.now index.old }
     ensures tied { IsTable (put id_cmp id.now set.now docs.now.pairs) index.new }
     ensures name { name_of index.new ≡ name_of index.old }
@@ -86,7 +92,9 @@ pub(crate) fn change_indexes(
     mut changes: Vec<KeyChange>,
 )
     requires tied { AreTables docs.now.pairs indexes.old.items }
-    requires changes { changes.items ≡ map (λ x. key_change id.now (find id_cmp id.now docs.now.pairs) set.now x.exprs.texts) indexes.old.items }
+    requires changes { changes.items
+        ≡ map (λ x. key_change id.now (find id_cmp id.now docs.now.pairs) set.now x.exprs.texts)
+        indexes.old.items }
     requires room { All (HasRoom set.now) indexes.old.items }
     ensures tied { AreTables (put id_cmp id.now set.now docs.now.pairs) indexes.new.items }
     ensures names { map name_of indexes.new.items ≡ map name_of indexes.old.items }

@@ -12,8 +12,8 @@ use std::alloc::Global;
 use std::marker::Model;
 use u1_base::{DocId, Document, IndexName, Memory};
 
-/// Documents and the indexes over them, in the order of their names. The table of each index holds just the pairs of a key
-/// and the id of a document with this key.
+/// Documents and the indexes over them, in the order of their names. The table of each index holds
+/// just the pairs of a key and the id of a document with this key.
 #[derive(Drop)]
 pub(crate) struct Collection {
     docs: Table<Document, DocSet>,
@@ -32,7 +32,13 @@ impl Model for Collection {
     ghost use Rattle.std.specs.Prelude.{map, ◌-◌, vec_capacity, vec_len};
     ghost use Rattle.replica_state.specs.Named.{heading};
 
-    ghost view = { λ s. record { docs = s.docs; indexes = map heading s.indexes.items; sorted = s.named; spare = vec_capacity s.indexes - vec_len s.indexes } };
+    ghost view = { λ s. record {
+      docs = s.docs;
+      indexes = map heading s.indexes.items;
+      sorted =
+          s.named;
+      spare = vec_capacity s.indexes - vec_len s.indexes;
+    } };
 }
 
 impl Collection {

@@ -37,7 +37,8 @@ impl IndexExprs {
     ghost use Rattle.expr_parser.specs.Limits.{most_exprs};
     ghost use Rattle.expr_parser.specs.Reading.{IsExpr, forms_in};
 
-    /// The expressions of an index. The condition is that there are one to eight, each of which was read.
+    /// The expressions of an index. The condition is that there are one to eight, each of which was
+    /// read.
     pub fn of(exprs: Exprs) -> IndexExprs
         requires read { All IsExpr (map form_of exprs) }
         requires some { 1 ≤ length exprs }

@@ -14,9 +14,10 @@ use translog::goes_on;
 use u1_base::{DocId, IndexName, Position};
 
 impl State {
-    /// Whether the step fits. An acceptance fits where no member is newer, it is marked current or leaves a current
-    /// member, and its move fits; a move, where it does not take the position back; the creation of an index, where there
-    /// is none of its name; its deletion, where there is one. `Gone` never fits. It takes no memory.
+    /// Whether the step fits. An acceptance fits where no member is newer, it is marked current or
+    /// leaves a current member, and its move fits; a move, where it does not take the position
+    /// back; the creation of an index, where there is none of its name; its deletion, where there
+    /// is one. `Gone` never fits. It takes no memory.
     pub fn fits(&self, step: &Step) -> bool
         ensures { IsTrue result ↔ Fits (meaning self.now) (step_of step.now) }
     {

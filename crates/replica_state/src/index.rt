@@ -6,8 +6,8 @@ use crate::exprs::IndexExprs;
 use index_tables::IndexTable;
 use u1_base::IndexName;
 
-/// An index over the documents of a state, seen as its name, its expressions and its table. Each key of the table has as
-/// many texts as there are expressions. Only a state makes one.
+/// An index over the documents of a state, seen as its name, its expressions and its table. Each
+/// key of the table has as many texts as there are expressions. Only a state makes one.
 #[derive(Drop)]
 pub struct Index {
     pub(crate) name: IndexName,

@@ -25,7 +25,8 @@ pub(crate) fn keys_of_set(alloc: Global, exprs: &IndexExprs, set: &DocSet) -> Re
 }
 
 fn keys_of_root(alloc: Global, exprs: &IndexExprs, root: &Json) -> Result<Keys, Memory>
-    ensures value { IfOk result (λ keys. keys ≡ keys_of (forms_in exprs.now.texts) (tree_of root.now)) }
+    ensures value { IfOk result
+        (λ keys. keys ≡ keys_of (forms_in exprs.now.texts) (tree_of root.now)) }
     ensures distinct { IfOk result (λ keys. AllPairs (λ key other. key ≢ other) keys) }
 {
     keys(alloc, exprs.as_slice(), root)

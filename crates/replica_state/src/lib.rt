@@ -1,9 +1,10 @@
-//! The state of a replica: its documents, its log, its positions, its indexes; and what one step does to it.
+//! The state of a replica: its documents, its log, its positions, its indexes; and what one step
+//! does to it.
 //!
-//! A contract sees a state as its sorted lists and the room in them; `meaning` leads from there to the state of a
-//! history. A step is prepared first, which takes all the memory that it needs and changes nothing, and then applied,
-//! which takes none. The table of each index is kept up to date by each step: that it holds just the pairs of the live
-//! documents is a fact of the type.
+//! A contract sees a state as its sorted lists and the room in them; `meaning` leads from there to
+//! the state of a history. A step is prepared first, which takes all the memory that it needs and
+//! changes nothing, and then applied, which takes none. The table of each index is kept up to date
+//! by each step: that it holds just the pairs of the live documents is a fact of the type.
 #![tactic(auto)]
 
 mod accepting;

@@ -18,7 +18,8 @@ pub(crate) fn reserve_place(
 ) -> Result<(), Memory>
     ensures known { known.new.pairs ≡ known.old.pairs }
     ensures told { told.new.pairs ≡ told.old.pairs }
-    ensures room { OnOk result (IfSome moved.now (λ m. 1 ≤ (chosen m.table known.new told.new).room)) }
+    ensures room { OnOk result
+        (IfSome moved.now (λ m. 1 ≤ (chosen m.table known.new told.new).room)) }
 {
     match moved {
         Some(moved) => reserve_in(known, told, moved.table),

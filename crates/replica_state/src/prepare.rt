@@ -14,8 +14,9 @@ use translog::Entry;
 use u1_base::{DocId, IndexName, Memory, TransId};
 
 impl State {
-    /// Makes the parts of the state after the step, and takes all the memory that the step needs. What the state stands for
-    /// does not change, at an error either. Every step may be prepared, also one that does not fit.
+    /// Makes the parts of the state after the step, and takes all the memory that the step needs.
+    /// What the state stands for does not change, at an error either. Every step may be prepared,
+    /// also one that does not fit.
     pub fn prepare(&mut self, step: Step) -> Result<Prepared, Memory>
         ensures lists { lists_of self.new ≡ lists_of self.old }
         ensures parts { IfOk result (IsPartsOf self.new step) }

@@ -5,7 +5,8 @@ use index_tables::Pairs;
 use translog::Entry;
 use u1_base::{DocId, IndexName, Keys};
 
-/// What is made ahead for a step of a state: the parts of the state after it. `State::apply` puts them in.
+/// What is made ahead for a step of a state: the parts of the state after it. `State::apply` puts
+/// them in.
 #[derive(Drop)]
 pub struct Prepared {
     pub(crate) replacement: Replacement,

@@ -31,7 +31,9 @@ pub(crate) fn new_document(
     ensures docs { docs.new.pairs ≡ docs.old.pairs }
     ensures same { map bare indexes.new.items ≡ map bare indexes.old.items }
     ensures after { IfOk result (IsDocumentAfter docs.new.pairs doc.now accept) }
-    ensures ready { IfOk result (Takes docs.new (map heading indexes.new.items) (vec_capacity indexes.new - vec_len indexes.new)) }
+    ensures ready { IfOk result
+        (Takes docs.new (map heading indexes.new.items)
+        (vec_capacity indexes.new - vec_len indexes.new)) }
 {
     match set_after(alloc, docs.get(doc), accept)? {
         Some(set) => new_set(alloc, docs, indexes, doc, set),
@@ -50,7 +52,9 @@ fn new_set(
     ensures docs { docs.new.pairs ≡ docs.old.pairs }
     ensures same { map bare indexes.new.items ≡ map bare indexes.old.items }
     ensures put { IfOk result (IsSetPut doc.now set) }
-    ensures ready { IfOk result (Takes docs.new (map heading indexes.new.items) (vec_capacity indexes.new - vec_len indexes.new)) }
+    ensures ready { IfOk result
+        (Takes docs.new (map heading indexes.new.items)
+        (vec_capacity indexes.new - vec_len indexes.new)) }
 {
     docs.reserve()?;
     let changes = prepare_indexes(alloc, indexes, doc, docs.get(doc), &set)?;
@@ -68,7 +72,9 @@ pub(crate) fn new_index(
 ) -> Result<Replacement, Memory>
     ensures same { indexes.new.items ≡ indexes.old.items }
     ensures after { IfOk result (IsIndexAfter name exprs.texts) }
-    ensures ready { IfOk result (Takes docs.now (map heading indexes.new.items) (vec_capacity indexes.new - vec_len indexes.new)) }
+    ensures ready { IfOk result
+        (Takes docs.now (map heading indexes.new.items)
+        (vec_capacity indexes.new - vec_len indexes.new)) }
 {
     indexes.reserve(1)?;
     let table = build(alloc, docs, &exprs)?;
@@ -83,10 +89,12 @@ pub(crate) fn replace(
     replacement: Replacement,
 )
     requires tied { AreTables docs.old.pairs indexes.old.items }
-    requires ready { Takes docs.old (map heading indexes.old.items) (vec_capacity indexes.old - vec_len indexes.old) replacement }
+    requires ready { Takes docs.old (map heading indexes.old.items)
+        (vec_capacity indexes.old - vec_len indexes.old) replacement }
     ensures tied { AreTables docs.new.pairs indexes.new.items }
     ensures docs { docs.new.pairs ≡ docs_with replacement docs.old.pairs }
-    ensures names { names_of indexes.new.items ≡ names_with replacement (names_of indexes.old.items) }
+    ensures names { names_of indexes.new.items
+        ≡ names_with replacement (names_of indexes.old.items) }
 {
     match replacement {
         Replacement::Nothing => {}
@@ -107,7 +115,9 @@ fn put_document(
 )
     requires tied { AreTables docs.old.pairs indexes.old.items }
     requires place { 1 ≤ docs.old.room }
-    requires changes { changes.items ≡ map (λ x. key_change id (find id_cmp id docs.old.pairs) set x.exprs.texts) indexes.old.items }
+    requires changes { changes.items
+        ≡ map (λ x. key_change id (find id_cmp id docs.old.pairs) set x.exprs.texts)
+        indexes.old.items }
     requires room { All (HasRoom set) indexes.old.items }
     ensures docs { docs.new.pairs ≡ put id_cmp id set docs.old.pairs }
     ensures tied { AreTables docs.new.pairs indexes.new.items }

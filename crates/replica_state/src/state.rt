@@ -9,8 +9,8 @@ use std::marker::Model;
 use translog::Log;
 use u1_base::{DbName, Document, IndexName, Position, Replica, ReplicaUid};
 
-/// The state of a replica, seen as its sorted lists and their room (`Held`). The table of each index holds just the pairs
-/// of a key and the id of a live document with this key.
+/// The state of a replica, seen as its sorted lists and their room (`Held`). The table of each
+/// index holds just the pairs of a key and the id of a live document with this key.
 #[derive(Drop)]
 pub struct State {
     pub(crate) name: DbName,
@@ -28,7 +28,15 @@ impl Model for State {
 
     ghost coded = { held_code };
 
-    ghost view = { λ s. record { name = s.name; uid = s.uid; collection = s.collection; log = s.log; known = s.known; told = s.told } };
+    ghost view = { λ s. record {
+      name = s.name;
+      uid = s.uid;
+      collection = s.collection;
+      log =
+          s.log;
+      known = s.known;
+      told = s.told;
+    } };
 }
 
 impl State {
@@ -93,8 +101,8 @@ impl State {
         }
     }
 
-    /// The indexes in the order of their names. The table of each one has just the pairs of a key and the id of a live
-    /// document with this key.
+    /// The indexes in the order of their names. The table of each one has just the pairs of a key
+    /// and the id of a live document with this key.
     pub fn indexes(&self) -> &[Index]
         ensures value { map heading result.now ≡ self.now.collection.indexes }
         ensures tied { AreTables self.now.collection.docs.pairs result.now }

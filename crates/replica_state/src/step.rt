@@ -6,7 +6,8 @@ use u1_base::{DocId, IndexName, TransId};
 /// One committed step of a replica.
 #[derive(Drop)]
 pub enum Step {
-    /// A revision of a document is accepted, under the id of its log entry, and a position moves with it.
+    /// A revision of a document is accepted, under the id of its log entry, and a position moves
+    /// with it.
     Accept {
         doc: DocId,
         accept: Accept,

@@ -1,4 +1,5 @@
-//! States told as stories: what each step leaves, whether it fits or not; and steps for which memory runs out.
+//! States told as stories: what each step leaves, whether it fits or not; and steps for which
+//! memory runs out.
 //!
 //! A line of a story is a step and whether it fits. A story ends with what the state is then.
 ghost use Rattle.std.specs.Prelude.{◌≡◌, ◌<◌, IfOk};
@@ -100,8 +101,8 @@ log d1 T1 d1 T2 d2 T3 d2 T4
 by_n(n) y/d1 z/d2
 "#;
 
-// Moves of two tables; one that goes back is made all the same. What was left out of a compacted history keeps its entry
-// and its move.
+// Moves of two tables; one that goes back is made all the same. What was left out of a compacted
+// history keeps its entry and its move.
 const MOVES: &str = r#"
 move known/b/3/T3 => fits
 move told/b/2/T2 => fits
@@ -121,7 +122,8 @@ known a/1/T1 b/9/T9
 told b/0/- c/5/T5
 "#;
 
-// Indexes stand in the order of their names. One of a taken name is replaced; one that is not there may be deleted.
+// Indexes stand in the order of their names. One of a taken name is replaced; one that is not there
+// may be deleted.
 const INDEXES: &str = r#"
 accept d1 a:1 {"n":"X y","m":7} current T1 - => fits
 index m n => fits
@@ -388,8 +390,8 @@ fn two(alloc: Global, text: &str, other: &str) -> Result<IndexExprs, Fail> {
 
 // ---- words of a state
 
-// What a state is: its documents with their members, the current one first; its log, its positions, and its indexes with
-// their pairs. What is empty has no line.
+// What a state is: its documents with their members, the current one first; its log, its positions,
+// and its indexes with their pairs. What is empty has no line.
 fn told(alloc: Global, state: &State) -> Result<String, Fail> {
     let mut words = format!(in alloc; "{} {}\n", state.name().as_str(), state.uid().as_str())?;
     push_docs(&mut words, state)?;

@@ -1,4 +1,5 @@
-//! Reading contents of about 45 bytes and writing each back as its canonical text, beside `serde_json`'s reading alone.
+//! Reading contents of about 45 bytes and writing each back as its canonical text, beside
+//! `serde_json`'s reading alone.
 use crate::report::{Fault, Report, elapsed, started};
 use content::Content;
 use serde_json::Value;

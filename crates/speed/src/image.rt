@@ -1,4 +1,5 @@
-//! Opening an image of entries on a disk in memory, beside a plain loop over the same bytes that copies each body.
+//! Opening an image of entries on a disk in memory, beside a plain loop over the same bytes that
+//! copies each body.
 use crate::report::{Fault, Report, elapsed, started};
 use disk_model::MemDisk;
 use journal::{Bodies, open_image};
@@ -33,7 +34,8 @@ pub fn measure(rt: &HostRuntime, size: u32) -> Result<Report, Fault> {
     })
 }
 
-// A disk that holds the image of so many entries, each with a body of about the size of a small document's.
+// A disk that holds the image of so many entries, each with a body of about the size of a small
+// document's.
 fn written(alloc: Global, size: u32) -> Result<MemDisk, Fault> {
     let mut image = Bytes::new(alloc);
     image.extend(HEADER)?;

@@ -1,4 +1,5 @@
-//! A table of an index for the workloads: documents under made ids, each with one key of a name and a number.
+//! A table of an index for the workloads: documents under made ids, each with one key of a name and
+//! a number.
 ghost use Rattle.std.specs.Prelude.{◌≡◌, true, All, length};
 
 use crate::report::Fault;

@@ -1,4 +1,5 @@
-//! The keys of contents of about 45 bytes for three expressions, beside `serde_json`'s reading of the same contents.
+//! The keys of contents of about 45 bytes for three expressions, beside `serde_json`'s reading of
+//! the same contents.
 use crate::report::{Fault, Report, elapsed, started};
 use content::Content;
 use expr_eval::keys;
@@ -6,7 +7,8 @@ use expr_parser::Expr;
 use serde_json::Value;
 use std::alloc::{AllocError, Global};
 
-/// Times the workload at this many contents. The result is the number of keys, two for each content.
+/// Times the workload at this many contents. The result is the number of keys, two for each
+/// content.
 pub fn measure(rt: &HostRuntime, size: u32) -> Result<Report, Fault> {
     let alloc = rt.alloc();
     let Ok(texts) = made(alloc, size) else {

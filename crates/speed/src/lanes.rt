@@ -6,7 +6,8 @@ use std::alloc::Global;
 // So many bytes are gone through in all, so that a short slice is measured too.
 const TOTAL: u32 = 64_000_000;
 
-/// Times the kernels over slices of this many bytes. The result is the sum of the places that were found.
+/// Times the kernels over slices of this many bytes. The result is the sum of the places that were
+/// found.
 pub fn measure(rt: &HostRuntime, size: u32) -> Result<Report, Fault> {
     if size < 2 {
         return Err(Fault::Words);

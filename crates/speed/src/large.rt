@@ -1,5 +1,6 @@
-//! A document of as many keys as one may have, put into the table of an index of many pairs, beside std's `BTreeMap` of
-//! the same pairs. On standard error a line each stands before the table is made, behind that, and behind the document.
+//! A document of as many keys as one may have, put into the table of an index of many pairs, beside
+//! std's `BTreeMap` of the same pairs. On standard error a line each stands before the table is
+//! made, behind that, and behind the document.
 use crate::pairs::{Change, Round, changed, documents, plain_pairs, put};
 use crate::report::{Fault, Report, elapsed, started};
 use index_tables::IndexTable;

@@ -1,8 +1,8 @@
 //! Measured workloads: `speed WORKLOAD SIZE`.
 //!
-//! Standard output gets one line, `WORKLOAD SIZE RESULT`, which is the same at every run. Standard error gets
-//! `WORKLOAD SIZE ours MICROSECONDS peer MICROSECONDS`, where the peer is the plainest thing that a user would take
-//! instead, timed in the same run.
+//! Standard output gets one line, `WORKLOAD SIZE RESULT`, which is the same at every run. Standard
+//! error gets `WORKLOAD SIZE ours MICROSECONDS peer MICROSECONDS`, where the peer is the plainest
+//! thing that a user would take instead, timed in the same run.
 #![tactic(auto)]
 
 mod changes;

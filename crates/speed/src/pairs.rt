@@ -1,4 +1,5 @@
-//! Documents put whole into the table of an index, and each then replaced, beside std's `BTreeMap` of the same pairs.
+//! Documents put whole into the table of an index, and each then replaced, beside std's `BTreeMap`
+//! of the same pairs.
 use crate::report::{Fault, Report, elapsed, started};
 use crate::set::KeySet;
 use index_tables::IndexTable;
@@ -12,7 +13,8 @@ const COUNTS: [u32; 3] = [1, 4, 24];
 // The greatest of them.
 const MOST: u32 = 24;
 
-/// The texts of a document's keys, one each, as they are at first or after the document was replaced.
+/// The texts of a document's keys, one each, as they are at first or after the document was
+/// replaced.
 #[derive(Clone, Copy)]
 pub struct Round {
     number: u32,
@@ -42,7 +44,8 @@ struct PlainChange {
     new: Vec<PlainPair>,
 }
 
-/// Times the table of about this many pairs. The result is the number of pairs that stand in it at the end.
+/// Times the table of about this many pairs. The result is the number of pairs that stand in it at
+/// the end.
 pub fn measure(rt: &HostRuntime, size: u32) -> Result<Report, Fault> {
     let alloc = rt.alloc();
     let changes = changes(alloc, size)?;
@@ -98,8 +101,8 @@ impl Round {
         }
     }
 
-    // The text at a place: it is drawn by the multiplication of Fibonacci hashing (Knuth). Where a document is
-    // replaced, every second key is another one.
+    // The text at a place: it is drawn by the multiplication of Fibonacci hashing (Knuth). Where a
+    // document is replaced, every second key is another one.
     fn text(self, alloc: Global, place: u32) -> Result<String, AllocError> {
         let pair = self.number.wrapping_mul(MOST).wrapping_add(place);
         let other = if self.replaced && place % 2 == 0 {
@@ -169,8 +172,8 @@ fn in_table(alloc: Global, changes: Vec<Change>) -> Result<u64, Fault> {
     Ok(table.length())
 }
 
-/// Puts the pairs of a document in the place of those that it had. Those that it gets are dropped first too, so that they
-/// are new ones.
+/// Puts the pairs of a document in the place of those that it had. Those that it gets are dropped
+/// first too, so that they are new ones.
 pub fn put(table: &mut IndexTable, change: Change) -> Result<(), Memory> {
     let Change { id, old, new } = change;
     table.drop_pairs(&id, old.as_slice());

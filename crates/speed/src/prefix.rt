@@ -35,7 +35,8 @@ impl Query {
     }
 }
 
-/// Times a query that finds one of 16 of this many documents. The result is the number of documents.
+/// Times a query that finds one of 16 of this many documents. The result is the number of
+/// documents.
 pub fn measure(rt: &HostRuntime, size: u32) -> Result<Report, Fault> {
     counted::<Brand>(rt, size, Query::OneOfSixteen, Blank::new(1))
 }

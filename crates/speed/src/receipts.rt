@@ -1,4 +1,5 @@
-//! Receipts of revisions that are apart from all members of a document, beside a plain comparison of the same clocks.
+//! Receipts of revisions that are apart from all members of a document, beside a plain comparison
+//! of the same clocks.
 use crate::report::{Fault, Report, elapsed, started};
 use conflicts::{Accept, DocSet, Making, Member, Outcome4, receive};
 use content::Content;
@@ -15,7 +16,8 @@ const LAST: u64 = REPLICAS - 1;
 // The entries of a clock as a user would compare them plainly.
 type Plain<'a> = Vec<(&'a str, u64)>;
 
-/// Times this many receipts over a document of 50 members. The result is the number of conflicts that are answered.
+/// Times this many receipts over a document of 50 members. The result is the number of conflicts
+/// that are answered.
 pub fn measure(rt: &HostRuntime, size: u32) -> Result<Report, Fault> {
     measured(rt, "receipts", size, 50)
 }

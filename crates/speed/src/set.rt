@@ -31,7 +31,8 @@ impl KeySet {
         self.keys
     }
 
-    /// Adds the pairs of the keys and an id to a table. Those that are there are dropped first, so that all are new.
+    /// Adds the pairs of the keys and an id to a table. Those that are there are dropped first, so
+    /// that all are new.
     pub fn add_to(self, table: &mut IndexTable, id: &DocId) -> Result<(), Memory> {
         table.drop_pairs(id, self.keys.as_slice());
         table.add(id, self.keys)

@@ -1,4 +1,5 @@
-//! Documents under made ids, put into the table in random order and then each looked up, beside std's `BTreeMap`.
+//! Documents under made ids, put into the table in random order and then each looked up, beside
+//! std's `BTreeMap`.
 use crate::report::{Fault, Report, elapsed, started};
 use doc_table::Table;
 use std::alloc::Global;

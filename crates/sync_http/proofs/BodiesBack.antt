@@ -8,9 +8,11 @@ use Rattle.u1_base.specs.declared.ids.Form.TheVariants.{Replica}
 use Rattle.u1_base.proofs.IdFacts.{in_id}
 use Rattle.sync_http.specs.Chained.{◌>>=◌}
 use Rattle.sync_http.specs.Positions.{IsPosition}
-use Rattle.sync_http.specs.Bodies.{IsInfo, told_of, told_in, told_tree, told_text, side_in, uid_in, info_of, info_in, info_tree, info_text}
+use Rattle.sync_http.specs.Bodies.{IsInfo, told_of, told_in, told_tree, told_text, side_in, uid_in, info_of, info_in}
+use Rattle.sync_http.specs.Bodies.{info_tree, info_text}
 use Rattle.sync_http.specs.declared.info.Info.{Info}
-use Rattle.sync_http.proofs.PositionsBack.{IsUtf8-id, IsUtf8-trans_text, FitsSigned-generation, value_of-tree, position_back}
+use Rattle.sync_http.proofs.PositionsBack.{IsUtf8-id, IsUtf8-trans_text, FitsSigned-generation, value_of-tree}
+use Rattle.sync_http.proofs.PositionsBack.{position_back}
 
 -- ---- a told position
 
@@ -67,8 +69,10 @@ info_of-tree : (info : Info) → IsInfo info → info_of (data_of (info_tree inf
 unfolding info_of info_tree side_in uid_in
 info_of-tree info h =
     let d = data_of (info_tree info) in
-    let target_at = position_back (codes "target_replica_generation") (codes "target_replica_transaction_id") d info.target_at h.target_at refl refl in
-    let source_at = position_back (codes "source_replica_generation") (codes "source_transaction_id") d info.source_at h.source_at refl refl in
+    let target_at = position_back (codes "target_replica_generation")
+    (codes "target_replica_transaction_id") d info.target_at h.target_at refl refl in
+    let source_at = position_back (codes "source_replica_generation")
+    (codes "source_transaction_id") d info.source_at h.source_at refl refl in
     rw (in_id Replica info.target h.target, target_at, in_id Replica info.source h.source, source_at) refl
 
 pub info_back : (info : Info) → IsInfo info → info_in (info_text info) ≡ Some info

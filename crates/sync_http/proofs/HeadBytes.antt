@@ -1,5 +1,7 @@
 -- The bytes of the heads that are written, and what is read of them.
-use Rattle.std.proofs.Common.{◌≡◌, ℕ, suc, ◌+◌, ◌^◌, ◌<◌, ◌≤◌, Bool, true, false, not, cond, eqb, ltb, ◌&&◌, List, [], ◌∷◌, ◌++◌, length, reverse, Some, IsUtf8, refl, sym, ap, ap₂, ◌∙◌, arith, decimal, take, drop, append_assoc}
+use Rattle.std.proofs.Common.{◌≡◌, ℕ, suc, ◌+◌, ◌^◌, ◌<◌, ◌≤◌, Bool, true, false, not, cond, eqb, ltb, ◌&&◌, List, []}
+use Rattle.std.proofs.Common.{◌∷◌, ◌++◌, length, reverse, Some, IsUtf8, refl, sym, ap, ap₂, ◌∙◌, arith, decimal, take}
+use Rattle.std.proofs.Common.{drop, append_assoc}
 use Rattle.std.specs.Prelude.{All}
 use Rattle.std.specs.List.{list_all, before_first, after_first, position_or_len, prefix_len}
 use Rattle.std.specs.Char.{is_ascii_digit}
@@ -10,7 +12,8 @@ use Rattle.std.proofs.lemmas.Fmt.{decimal_nonempty, digits_decimal, digits_value
 use Rattle.std.proofs.lemmas.List.{take_at, drop_at, length_push}
 use Rattle.std.proofs.lemmas.List.Elements.{All-nil, All-cons, All-head}
 use Rattle.std.proofs.lemmas.List.Folds.{list_all-append}
-use Rattle.httparse.specs.Grammar.{AllPass, IsField, IsToken, is_ows, is_token, is_token_byte, is_uri_byte, is_value_byte, skip_ows, trim_ows}
+use Rattle.httparse.specs.Grammar.{AllPass, IsField, IsToken, is_ows, is_token, is_token_byte, is_uri_byte}
+use Rattle.httparse.specs.Grammar.{is_value_byte, skip_ows, trim_ows}
 use Rattle.httparse.proofs.TrimLemmas.{AllPass-reverse, trim_ows_space}
 use Rattle.u1_base.specs.Ids.{is_allowed}
 use Rattle.u1_base.specs.declared.ids.Form.{Form}
@@ -33,12 +36,14 @@ IsToken-test s token =
     let parts = and_parts _ (list_all is_token_byte s) token in
     (ltb-true _ _ parts.0, AllPass-test is_token_byte s parts.1)
 
-pub weaker : (p q : ℕ → Bool) → ((b : ℕ) → p b ≡ true → q b ≡ true) → (xs : List ℕ) → list_all p xs ≡ true → list_all q xs ≡ true
+pub weaker : (p q : ℕ → Bool) → ((b : ℕ) → p b ≡ true → q b ≡ true) → (xs : List ℕ) → list_all p xs ≡ true
+    → list_all q xs ≡ true
 weaker p q h [] all = refl
 weaker p q h (x ∷ xs) all =
     let parts = and_parts (p x) (list_all p xs) all in and_from _ _ (h x parts.0) (weaker p q h xs parts.1)
 
-pub both_pass : (p : ℕ → Bool) (xs ys : List ℕ) → list_all p xs ≡ true → list_all p ys ≡ true → list_all p (xs ++ ys) ≡ true
+pub both_pass : (p : ℕ → Bool) (xs ys : List ℕ) → list_all p xs ≡ true → list_all p ys ≡ true
+    → list_all p (xs ++ ys) ≡ true
 both_pass p [] ys h g = g
 both_pass p (x ∷ xs) ys h g =
     let parts = and_parts (p x) (list_all p xs) h in and_from _ _ parts.0 (both_pass p xs ys parts.1 g)
@@ -63,7 +68,8 @@ no_slash Name b e = grind (arith, nat_tests, e)
 
 -- ---- fields
 
-pub IsField-field : (name value : List ℕ) → is_token name ≡ true → list_all is_value_byte value ≡ true → IsField (field name value)
+pub IsField-field : (name value : List ℕ) → is_token name ≡ true → list_all is_value_byte value ≡ true
+    → IsField (field name value)
 IsField-field name value token plain = record {
   name = IsToken-test name token;
   raw = AllPass-test is_value_byte (32 ∷ value) plain;
@@ -76,26 +82,31 @@ digits_pass n fits = digits_decimal own_numerals n fits
 
 skip_digits : (v : List ℕ) → AllPass is_ascii_digit v → skip_ows v ≡ v
 skip_digits [] all = refl
-skip_digits (b ∷ v) all = ap (λ t. cond t (skip_ows v) (b ∷ v)) (no_blank b (All-head (λ d. is_ascii_digit d ≡ true) b v all))
+skip_digits (b ∷ v) all = ap (λ t. cond t (skip_ows v) (b ∷ v))
+    (no_blank b (All-head (λ d. is_ascii_digit d ≡ true) b v all))
 
 -- the blank before a number is no part of the value
 pub trim_decimal : (n : ℕ) → n < 2 ^ 64 → trim_ows (32 ∷ decimal n) ≡ decimal n
 trim_decimal n fits =
     let all = AllPass-test is_ascii_digit (decimal n) (digits_pass n fits) in
-    trim_ows_space (decimal n) (skip_digits (decimal n) all) (skip_digits (reverse (decimal n)) (AllPass-reverse is_ascii_digit (decimal n) all))
+    trim_ows_space (decimal n) (skip_digits (decimal n) all)
+    (skip_digits (reverse (decimal n)) (AllPass-reverse is_ascii_digit (decimal n) all))
 
 pub number_in-decimal : (n : ℕ) → n < 2 ^ 63 → number_in (decimal n) ≡ Some n
 number_in-decimal n less =
     let fits : n < 2 ^ 64 = omega (arith, less) in
     let value = digits_value-decimal own_numerals n fits in
     number_at (decimal n) true
-    (and_from _ _ (and_from _ _ (le-leb 1 (length (decimal n)) (decimal_nonempty n fits)) (le-leb (length (decimal n)) 19 (length-decimal-le 19 n (omega arith) (omega (arith, less)) fits))) (digits_pass n fits))
+    (and_from _ _ (and_from _ _ (le-leb 1 (length (decimal n)) (decimal_nonempty n fits))
+    (le-leb (length (decimal n)) 19 (length-decimal-le 19 n (omega arith) (omega (arith, less)) fits)))
+    (digits_pass n fits))
     (ap (λ m. ltb m (2 ^ 63)) value ∙ lt-ltb n (2 ^ 63) less)
     ∙ ap Some value
 
 -- ---- slashes
 
-slash_at : (a r : List ℕ) → list_all (λ b. not (eqb b 47)) a ≡ true → position_or_len (λ b. eqb b 47) (a ++ 47 ∷ r) ≡ length a
+slash_at : (a r : List ℕ) → list_all (λ b. not (eqb b 47)) a ≡ true
+    → position_or_len (λ b. eqb b 47) (a ++ 47 ∷ r) ≡ length a
 slash_at [] r h = refl
 slash_at (b ∷ a) r h =
     let parts = and_parts (not (eqb b 47)) (list_all (λ x. not (eqb x 47)) a) h in
@@ -111,4 +122,5 @@ part_before a r h = ap (λ k. take k (a ++ 47 ∷ r)) (slash_at a r h) ∙ take_
 pub rest_behind : (a r : List ℕ) → list_all (λ b. not (eqb b 47)) a ≡ true → rest_of (a ++ 47 ∷ r) ≡ r
 rest_behind a r h =
     ap (λ k. drop (k + 1) (a ++ 47 ∷ r)) (slash_at a r h)
-    ∙ ap (drop (length a + 1)) (sym (append_assoc a (47 ∷ []) r)) ∙ drop_at (a ++ 47 ∷ []) r (length a + 1) (length_push a 47)
+    ∙ ap (drop (length a + 1)) (sym (append_assoc a (47 ∷ []) r))
+    ∙ drop_at (a ++ 47 ∷ []) r (length a + 1) (length_push a 47)

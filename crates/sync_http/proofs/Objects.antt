@@ -8,7 +8,8 @@ use Rattle.serde_json.proofs.Texts.{print-outline}
 use Rattle.content.specs.Tree.{Tree}
 use Rattle.content.specs.Canonical.{canonical, data_of}
 
-pub written : (t : Tree) (start bytes before : List ℕ) (old new : List Token) → bytes ≡ before ++ print new → before ≡ start → old ≡ []
+pub written : (t : Tree) (start bytes before : List ℕ) (old new : List Token) → bytes ≡ before ++ print new
+    → before ≡ start → old ≡ []
     → new ≡ old ++ json_tokens (outline (data_of t)) → bytes ≡ start ++ canonical t
 written t start bytes before old new is begins none tokens =
     is

@@ -1,5 +1,6 @@
 -- Each phrase that the `http` crate gives to a status is one of a reply's head.
-use Rattle.std.proofs.Common.{◌≡◌, ◌≤◌, ◌==◌, ◌&&◌, ℕ, Bool, nat_le, length, true, false, List, [], Option, Some, None, if◌then◌else◌, codes, unwrap_or, refl}
+use Rattle.std.proofs.Common.{◌≡◌, ◌≤◌, ◌==◌, ◌&&◌, ℕ, Bool, nat_le, length, true, false, List, [], Option, Some, None}
+use Rattle.std.proofs.Common.{if◌then◌else◌, codes, unwrap_or, refl}
 use Rattle.std.specs.List.{list_all}
 use Rattle.std.proofs.lemmas.Bool.{and_parts, leb-true}
 use Rattle.http.specs.StatusCode.{reason_phrase}
@@ -12,7 +13,8 @@ is_plain phrase = list_all is_value_byte phrase && nat_le (length phrase) 64
 abbrev IsPlain : Option (List ℕ) → Type 0
 IsPlain phrase = is_plain (unwrap_or phrase []) ≡ true
 
-either : (test : Bool) (phrase : List ℕ) (others : Option (List ℕ)) → is_plain phrase ≡ true → IsPlain others → IsPlain (if test then Some phrase else others)
+either : (test : Bool) (phrase : List ℕ) (others : Option (List ℕ)) → is_plain phrase ≡ true → IsPlain others
+    → IsPlain (if test then Some phrase else others)
 either true phrase others plain rest = plain
 either false phrase others plain rest = rest
 

@@ -1,5 +1,7 @@
 -- Ids are ASCII, and a position that was written is read as itself.
-use Rattle.std.proofs.Common.{◌≡◌, ◌↔◌, ℕ, ◌^◌, ◌<◌, ◌≤◌, pos, eqb, true, false, nat_lt, List, [], ◌∷◌, Option, Some, None, IsNone, IfSome, IsUtf8, FitsSigned, unwrap_or, true≢false, refl, sym, ap, ◌∙◌, subst, arith}
+use Rattle.std.proofs.Common.{◌≡◌, ◌↔◌, ℕ, ◌^◌, ◌<◌, ◌≤◌, pos, eqb, true, false, nat_lt, List, [], ◌∷◌, Option, Some}
+use Rattle.std.proofs.Common.{None, IsNone, IfSome, IsUtf8, FitsSigned, unwrap_or, true≢false, refl, sym, ap, ◌∙◌}
+use Rattle.std.proofs.Common.{subst, arith}
 use Rattle.std.specs.List.{list_all}
 use Rattle.std.specs.Int.{w64}
 use Rattle.std.proofs.lemmas.Bool.{and_parts, and_from, lt-ltb, ne_eqb}

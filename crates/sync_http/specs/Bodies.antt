@@ -57,7 +57,8 @@ side_in uid_name generation_name trans_name d = do
 
 unfoldable pub info_of : Data → Option Info
 info_of d = do
-  target ← side_in (codes "target_replica_uid") (codes "target_replica_generation") (codes "target_replica_transaction_id") d
+  target ← side_in (codes "target_replica_uid") (codes "target_replica_generation")
+      (codes "target_replica_transaction_id") d
   source ← side_in (codes "source_replica_uid") (codes "source_replica_generation") (codes "source_transaction_id") d
   Some (record { target = target.0; target_at = target.1; source = source.0; source_at = source.1 })
 

@@ -1,5 +1,6 @@
 -- What the header fields of a message say.
-use Rattle.std.specs.Prelude.{ℕ, ◌^◌, ◌&&◌, Bool, nat_le, nat_lt, not, if◌then◌else◌, List, [], ◌∷◌, length, map, filter, codes, Option, Some, None, option_map}
+use Rattle.std.specs.Prelude.{ℕ, ◌^◌, ◌&&◌, Bool, nat_le, nat_lt, not, if◌then◌else◌, List, [], ◌∷◌, length, map}
+use Rattle.std.specs.Prelude.{filter, codes, Option, Some, None, option_map}
 use Rattle.std.specs.List.{list_all}
 use Rattle.std.specs.Str.{str_eq_ignore_ascii_case}
 use Rattle.std.specs.Str.Parse.{digits_value}
@@ -12,7 +13,8 @@ Pair = List ℕ × List ℕ
 -- the values of the fields of this name; names are compared without regard to ASCII case
 abbrev pub values_named : List ℕ → List Pair → List (List ℕ)
 values_named name [] = []
-values_named name (p ∷ ps) = if str_eq_ignore_ascii_case p.0 name then p.1 ∷ values_named name ps else values_named name ps
+values_named name (p ∷ ps) = if str_eq_ignore_ascii_case p.0 name then p.1
+    ∷ values_named name ps else values_named name ps
 
 -- 1 to 19 decimal digits
 abbrev pub is_numeral : List ℕ → Bool

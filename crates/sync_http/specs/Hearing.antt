@@ -8,7 +8,8 @@ use Rattle.sync_http.specs.declared.heads.Heard.TheVariants.{NotYet, Head}
 use Rattle.sync_http.specs.declared.heads.RequestHead.{RequestHead}
 use Rattle.sync_http.specs.declared.heads.ReplyHead.{ReplyHead}
 use Rattle.sync_http.specs.declared.fault.WireFault.{WireFault}
-use Rattle.sync_http.specs.declared.fault.WireFault.TheVariants.{TooLarge, BadHead, BadPath, BadMethod, Chunked, NoLength, Memory}
+use Rattle.sync_http.specs.declared.fault.WireFault.TheVariants.{TooLarge, BadHead, BadPath, BadMethod, Chunked}
+use Rattle.sync_http.specs.declared.fault.WireFault.TheVariants.{NoLength, Memory}
 
 -- the value that a whole head says, or why it says none
 abbrev pub Said : Type 0 → Type 0
@@ -74,9 +75,10 @@ abbrev pub unfinished : {T : Type 0} → List ℕ → Result (Heard T) WireFault
 unfinished bytes = if nat_lt (length bytes) most_bytes then Ok NotYet else Err TooLarge
 
 -- what is answered to bytes of which this is known: what a whole head at their front says (with its length), that it is
--- still open, or that there is none. The cases exclude each other, but where a target is still unfinished: of that it may
--- be seen only later that no head can come of it
-abbrev pub Hears : {T : Type 0} → (Result T WireFault → ℕ → Type 0) → (List ℕ → Type 0) → (List ℕ → Type 0) → List ℕ → Result (Heard T) WireFault → Type 0
+-- still open, or that there is none. The cases exclude each other, but where a target is still unfinished: of that it
+-- may be seen only later that no head can come of it
+abbrev pub Hears : {T : Type 0} → (Result T WireFault → ℕ → Type 0) → (List ℕ → Type 0) → (List ℕ → Type 0) → List ℕ
+    → Result (Heard T) WireFault → Type 0
 Hears says is_open is_none bytes (Ok NotYet) = (length bytes < most_bytes) × is_open bytes
 Hears says is_open is_none bytes (Ok (Head head n)) = says (Ok head) n
 Hears says is_open is_none bytes (Err TooLarge) = (most_bytes ≤ length bytes) × is_open (front bytes)

@@ -37,9 +37,11 @@ pub record CanReply (head : ReplyHead) : Type 0 where
 -- the bytes of a head that was written begin with it and no other, whatever follows
 pub record HeadsReadBack : Type 0 where
   pub request : (to : Address) (head : RequestHead) (more : List ℕ) → CanAsk to head
-      → SaysRequest (print_request (request_written to head) ++ more) (Ok head) (length (print_request (request_written to head)))
+      → SaysRequest (print_request (request_written to head) ++ more) (Ok head)
+      (length (print_request (request_written to head)))
   pub reply : (head : ReplyHead) (stream : Bool) (more : List ℕ) → CanReply head
-      → SaysReply (print_response (reply_written head stream) ++ more) (Ok head) (length (print_response (reply_written head stream)))
+      → SaysReply (print_response (reply_written head stream) ++ more) (Ok head)
+      (length (print_response (reply_written head stream)))
 
 -- ---- bodies
 

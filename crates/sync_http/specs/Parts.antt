@@ -1,7 +1,8 @@
 -- Words of private clauses: what is answered of the parts of a head.
 use Rattle.std.specs.Prelude.{◌≡◌, Result, Ok, Err}
 use Rattle.sync_http.specs.declared.fault.WireFault.{WireFault}
-use Rattle.sync_http.specs.declared.fault.WireFault.TheVariants.{TooLarge, BadHead, BadPath, BadMethod, Chunked, NoLength, Memory}
+use Rattle.sync_http.specs.declared.fault.WireFault.TheVariants.{TooLarge, BadHead, BadPath, BadMethod, Chunked}
+use Rattle.sync_http.specs.declared.fault.WireFault.TheVariants.{NoLength, Memory}
 
 -- this is answered of a whole head, or memory ran out
 abbrev pub Answers : {T : Type 0} → Result T WireFault → Result T WireFault → Type 0

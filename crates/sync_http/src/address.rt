@@ -14,10 +14,12 @@ use thiserror::Error;
 use u1_base::{DbName, IdFault, Memory, Text};
 use url::{ParseError, Url};
 
-/// The address of a database: an `http` URL (URL Standard) with a host and one path segment, the database's name.
+/// The address of a database: an `http` URL (URL Standard) with a host and one path segment, the
+/// database's name.
 #[derive(Debug, Drop)]
 pub struct Address {
-    /// As the URL Standard writes it: a domain in lower case, or an IP address; of version 6 in brackets.
+    /// As the URL Standard writes it: a domain in lower case, or an IP address; of version 6 in
+    /// brackets.
     pub host: Text,
     /// 80 where the text names none.
     pub port: u16,
@@ -44,8 +46,9 @@ impl From<Memory> for AddressFault {
     }
 }
 
-/// Reads an address with the `url` crate: what the URL Standard's parser makes of the text is taken, odd spellings
-/// included. A user name, a password, a query and a fragment are refused, an empty query or fragment too.
+/// Reads an address with the `url` crate: what the URL Standard's parser makes of the text is
+/// taken, odd spellings included. A user name, a password, a query and a fragment are refused, an
+/// empty query or fragment too.
 pub fn read_address(alloc: Global, text: &str) -> Result<Address, AddressFault>
     ensures ok { IfOk result (λ address. address_in text.now ≡ Some address) }
     ensures bad { result ≡ Err Bad → address_in text.now ≡ None }

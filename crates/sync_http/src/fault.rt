@@ -9,7 +9,8 @@ pub enum WireFault {
     /// The first 16,384 bytes hold no whole head.
     #[error("the head is too large")]
     TooLarge,
-    /// No head of HTTP/1.0 or HTTP/1.1, more than 64 headers, or a Content-Length that stands twice or is no number.
+    /// No head of HTTP/1.0 or HTTP/1.1, more than 64 headers, or a Content-Length that stands twice
+    /// or is no number.
     #[error("not an HTTP head")]
     BadHead,
     /// The target is not `/DATABASE/sync-from/UID`.

@@ -5,7 +5,8 @@ ghost use Rattle.std.specs.List.{list_all};
 ghost use Rattle.std.specs.Char.{is_ascii_digit};
 ghost use Rattle.std.specs.Str.Parse.{digits_value};
 ghost use Rattle.httparse.specs.Spans.{IsHeaderWithin, header_bytes, span_bytes};
-ghost use Rattle.sync_http.specs.Fields.{content_length, is_encoded, is_length, is_numeral, length_of, number_in, values_named};
+ghost use Rattle.sync_http.specs.Fields.{content_length, is_encoded, is_length, is_numeral};
+ghost use Rattle.sync_http.specs.Fields.{length_of, number_in, values_named};
 ghost use Rattle.sync_http.specs.Found.{AreFound, one_more};
 
 use httparse::spans::{HeaderSpan, Span};
@@ -22,8 +23,8 @@ pub enum Found {
     Often,
 }
 
-/// The number that Content-Length says. The inner None is a missing field; the outer one a field that stands twice or
-/// is no number.
+/// The number that Content-Length says. The inner None is a missing field; the outer one a field
+/// that stands twice or is no number.
 pub(crate) fn content_length(bytes: &[u8], headers: &[HeaderSpan]) -> Option<Option<u64>>
     requires { All (IsHeaderWithin (length bytes.now)) headers.now }
     ensures { result ≡ content_length (map (header_bytes bytes.now) headers.now) }
@@ -52,7 +53,8 @@ pub(crate) fn is_encoded(bytes: &[u8], headers: &[HeaderSpan]) -> bool
 
 fn find_named(bytes: &[u8], headers: &[HeaderSpan], name: &[u8]) -> Found
     requires { All (IsHeaderWithin (length bytes.now)) headers.now }
-    ensures { AreFound bytes.now (values_named name.now (map (header_bytes bytes.now) headers.now)) result }
+    ensures { AreFound bytes.now
+        (values_named name.now (map (header_bytes bytes.now) headers.now)) result }
 {
     let mut found = Found::Missing;
     for header in headers {

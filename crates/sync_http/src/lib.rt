@@ -1,8 +1,8 @@
-//! What two replicas say to each other over HTTP/1.1 beside the stream of documents: the heads of requests and
-//! replies, the small bodies that tell positions, and the address of a database.
+//! What two replicas say to each other over HTTP/1.1 beside the stream of documents: the heads of
+//! requests and replies, the small bodies that tell positions, and the address of a database.
 //!
-//! Heads, bodies and addresses are values: a reader says which value the bytes are, or why they are none. What is written
-//! is read as itself.
+//! Heads, bodies and addresses are values: a reader says which value the bytes are, or why they are
+//! none. What is written is read as itself.
 #![tactic(auto)]
 
 mod address;

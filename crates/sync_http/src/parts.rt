@@ -4,14 +4,16 @@ ghost use Rattle.serde_json.specs.View.{view};
 ghost use Rattle.content.specs.Faults.{value_of};
 ghost use Rattle.u1_base.specs.Ids.{id_in};
 ghost use Rattle.u1_base.specs.declared.ids.Form.TheVariants.{Transaction};
-ghost use Rattle.sync_http.specs.Positions.{generation_in, is_text_or_null, place_at, position_in, text_id_in, trans_text};
+ghost use Rattle.sync_http.specs.Positions.{generation_in, is_text_or_null, place_at, position_in};
+ghost use Rattle.sync_http.specs.Positions.{text_id_in, trans_text};
 
 use serde_json::Value;
 use std::alloc::Global;
 use u1_base::limits::GREATEST_COUNT;
 use u1_base::{IdFault, Memory, Position, TransId};
 
-/// The value that the whole of the bytes is (JSON by RFC 8259, as `serde_json` reads it), if it is one.
+/// The value that the whole of the bytes is (JSON by RFC 8259, as `serde_json` reads it), if it is
+/// one.
 pub fn value_in(alloc: Global, bytes: &[u8]) -> Result<Option<Value>, Memory>
     ensures { IfOk result (λ v. option_map view v ≡ value_of bytes.now) }
 {
@@ -25,8 +27,8 @@ pub fn value_in(alloc: Global, bytes: &[u8]) -> Result<Option<Value>, Memory>
     }
 }
 
-/// The position that two members of an object say: a generation below 2^63, and the id of its transaction. At
-/// generation 0 any string or null stands for no transaction.
+/// The position that two members of an object say: a generation below 2^63, and the id of its
+/// transaction. At generation 0 any string or null stands for no transaction.
 #[tactic(auto, unfolding(crate::specs::Positions::position_in))]
 pub fn position_in(
     alloc: Global,
@@ -34,7 +36,8 @@ pub fn position_in(
     generation_name: &str,
     trans_name: &str,
 ) -> Result<Option<Position>, Memory>
-    ensures { IfOk result (λ p. p ≡ position_in generation_name.now trans_name.now (view value.now)) }
+    ensures { IfOk result (λ p. p ≡ position_in generation_name.now trans_name.now
+        (view value.now)) }
 {
     let Some(member) = value.get(generation_name) else {
         return Ok(None);

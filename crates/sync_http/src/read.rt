@@ -2,7 +2,8 @@
 ghost use Rattle.std.specs.Prelude.{◌≡◌, ◌⊎◌, ℕ, Err, IfErr, IsUtf8, map, take};
 ghost use Rattle.httparse.specs.Spans.{IsRequestWithin, IsResponseWithin, header_bytes, span_bytes};
 ghost use Rattle.sync_http.specs.Heads.{body_after, reply_said, request_said, verb_in};
-ghost use Rattle.sync_http.specs.Hearing.{HearsReply, HearsRequest, IsReplyFault, Said, SaysReply, SaysRequest, front, heard, unfinished};
+ghost use Rattle.sync_http.specs.Hearing.{HearsReply, HearsRequest, IsReplyFault, Said, SaysReply};
+ghost use Rattle.sync_http.specs.Hearing.{SaysRequest, front, heard, unfinished};
 ghost use Rattle.sync_http.specs.Parts.{Answers};
 ghost use Rattle.sync_http.specs.declared.fault.WireFault.TheVariants.{Memory};
 ghost use Rattle.sync_http.specs.declared.heads.ReplyHead.{ReplyHead as ReplyHeadValue};
@@ -18,8 +19,8 @@ use httparse::spans::{
 use std::alloc::Global;
 use u1_base::limits::{MOST_HEAD_BYTES, MOST_HEADERS};
 
-/// Reads the head of a request from the first bytes of a connection (RFC 9112). Only the method, the target,
-/// Content-Length and Transfer-Encoding matter.
+/// Reads the head of a request from the first bytes of a connection (RFC 9112). Only the method,
+/// the target, Content-Length and Transfer-Encoding matter.
 pub fn read_request(alloc: Global, bytes: &[u8]) -> Result<Heard<RequestHead>, WireFault>
     ensures hears { HearsRequest bytes.now result }
     ensures whole { (said : Said RequestHeadValue) (n : ℕ) → SaysRequest bytes.now said n
@@ -129,7 +130,8 @@ fn body_after(verb: Verb, length: Option<u64>) -> Option<u64>
 /// Reads the head of a reply from the first bytes that came back. It takes no memory.
 pub fn read_reply(bytes: &[u8]) -> Result<Heard<ReplyHead>, WireFault>
     ensures hears { HearsReply bytes.now result }
-    ensures whole { (said : Said ReplyHeadValue) (n : ℕ) → SaysReply bytes.now said n → result ≡ heard said n }
+    ensures whole { (said : Said ReplyHeadValue) (n : ℕ) → SaysReply bytes.now said n
+        → result ≡ heard said n }
     ensures kinds { IfErr result IsReplyFault }
 {
     let front = front_of(bytes);
@@ -151,7 +153,8 @@ fn reply_at(
     spans: ResponseSpans,
 ) -> Result<ReplyHead, WireFault>
     requires { IsResponseWithin bytes.now headers.now spans }
-    ensures says { Answers (reply_said (map (header_bytes bytes.now) (take spans.headers headers.now)) spans.code) result }
+    ensures says { Answers (reply_said
+        (map (header_bytes bytes.now) (take spans.headers headers.now)) spans.code) result }
     ensures kinds { IfErr result IsReplyFault }
 {
     let fields = &headers[..spans.headers];

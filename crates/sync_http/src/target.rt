@@ -44,7 +44,8 @@ pub(crate) fn target_at(alloc: Global, bytes: &[u8]) -> Result<Option<Target>, M
 }
 
 fn target_named(alloc: Global, db: &str, uid: &str) -> Result<Option<Target>, Memory>
-    ensures { IfOk result (λ target. target ≡ target_with (id_in Name db.now) (id_in Replica uid.now)) }
+    ensures { IfOk result (λ target. target
+        ≡ target_with (id_in Name db.now) (id_in Replica uid.now)) }
 {
     let Some(db) = name_of(alloc, db)? else {
         return Ok(None);

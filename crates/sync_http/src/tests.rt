@@ -224,11 +224,15 @@ fn writes_requests(rt: HostRuntime) -> Result<(), Fail> {
     );
     assert_eq!(rt;
         request(alloc, Verb::Put, 12)?.as_slice(),
-        b"PUT /db/sync-from/a HTTP/1.1\r\nHost: h:8080\r\nConnection: close\r\nContent-Type: application/json\r\nContent-Length: 12\r\n\r\n".as_slice()
+        b"PUT /db/sync-from/a HTTP/1.1\r\nHost: h:8080\r\nConnection: close\r\nContent-Type: applic\
+          ation/json\r\nContent-Length: 12\r\n\r\n"
+            .as_slice()
     );
     assert_eq!(rt;
         request(alloc, Verb::Post, 148)?.as_slice(),
-        b"POST /db/sync-from/a HTTP/1.1\r\nHost: h:8080\r\nConnection: close\r\nContent-Type: application/x-u1db-sync-stream\r\nContent-Length: 148\r\n\r\n".as_slice()
+        b"POST /db/sync-from/a HTTP/1.1\r\nHost: h:8080\r\nConnection: close\r\nContent-Type: appli\
+          cation/x-u1db-sync-stream\r\nContent-Length: 148\r\n\r\n"
+            .as_slice()
     );
     Ok(())
 }
@@ -253,11 +257,15 @@ fn answer(alloc: Global) -> Result<Vec<u8>, Fail> {
 fn writes_replies(rt: HostRuntime) -> Result<(), Fail> {
     assert_eq!(rt;
         refusal(rt.alloc())?.as_slice(),
-        b"HTTP/1.1 507 Insufficient Storage\r\nContent-Type: application/json\r\nContent-Length: 22\r\nConnection: close\r\n\r\n".as_slice()
+        b"HTTP/1.1 507 Insufficient Storage\r\nContent-Type: application/json\r\nContent-Length: 22\
+          \r\nConnection: close\r\n\r\n"
+            .as_slice()
     );
     assert_eq!(rt;
         answer(rt.alloc())?.as_slice(),
-        b"HTTP/1.1 200 OK\r\nContent-Type: application/x-u1db-sync-stream\r\nContent-Length: 148\r\nConnection: close\r\n\r\n".as_slice()
+        b"HTTP/1.1 200 OK\r\nContent-Type: application/x-u1db-sync-stream\r\nContent-Length: 148\r\
+          \nConnection: close\r\n\r\n"
+            .as_slice()
     );
     Ok(())
 }

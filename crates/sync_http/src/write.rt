@@ -1,9 +1,12 @@
 //! Heads are written in one spelling.
-ghost use Rattle.std.specs.Prelude.{◌≡◌, ◌^◌, ◌<◌, [], ◌∷◌, ◌++◌, IfOk, IsSome, OnOk, decimal, string_bytes, unwrap_or};
+ghost use Rattle.std.specs.Prelude.{◌≡◌, ◌^◌, ◌<◌, [], ◌∷◌, ◌++◌, IfOk, IsSome, OnOk, decimal};
+ghost use Rattle.std.specs.Prelude.{string_bytes, unwrap_or};
 ghost use Rattle.std.specs.List.{flat_map};
 ghost use Rattle.http.specs.StatusCode.{IsStatusCode, reason_phrase};
 ghost use Rattle.httparse.specs.Grammar.{print_field, print_request, print_response, print_version};
-ghost use Rattle.sync_http.specs.Written.{field, host_text, length_field, reply_written, request_body_fields, request_written, target_text, type_field, type_of, verb_text};
+ghost use Rattle.sync_http.specs.Written.{field, host_text, length_field, reply_written};
+ghost use Rattle.sync_http.specs.Written.{request_body_fields, request_written, target_text};
+ghost use Rattle.sync_http.specs.Written.{type_field, type_of, verb_text};
 ghost use Rattle.sync_http.specs.declared.heads.Verb.TheVariants.{Get};
 
 use crate::{Address, ReplyHead, RequestHead, Verb};
@@ -62,7 +65,8 @@ fn host_text(alloc: Global, host: &str, port: u16) -> Result<String, Memory>
 
 // The line `METHOD TARGET HTTP/1.1`.
 fn push_start(out: &mut Bytes, method: &str, target: &str) -> Result<(), Memory>
-    ensures { OnOk result (out.new ≡ out.old ++ method.now ++ (32 ∷ target.now) ++ (32 ∷ print_version 1) ++ 13 ∷ 10 ∷ []) }
+    ensures { OnOk result (out.new ≡ out.old ++ method.now ++ (32 ∷ target.now)
+        ++ (32 ∷ print_version 1) ++ 13 ∷ 10 ∷ []) }
 {
     out.extend(method.as_bytes())?;
     out.extend(b" ")?;
@@ -80,7 +84,8 @@ fn push_field(out: &mut Bytes, name: &str, value: &str) -> Result<(), Memory>
 }
 
 fn push_request_body(alloc: Global, out: &mut Bytes, verb: Verb, length: u64) -> Result<(), Memory>
-    ensures { OnOk result (out.new ≡ out.old ++ flat_map print_field (request_body_fields verb length)) }
+    ensures { OnOk result (out.new ≡ out.old
+        ++ flat_map print_field (request_body_fields verb length)) }
 {
     match verb {
         Verb::Get => Ok(()),
@@ -97,7 +102,8 @@ fn push_request_body(alloc: Global, out: &mut Bytes, verb: Verb, length: u64) ->
 
 // The type and the length of a body.
 fn push_body(alloc: Global, out: &mut Bytes, kind: &str, length: u64) -> Result<(), Memory>
-    ensures { OnOk result (out.new ≡ out.old ++ print_field (type_field kind.now) ++ print_field (length_field length)) }
+    ensures { OnOk result (out.new ≡ out.old ++ print_field (type_field kind.now)
+        ++ print_field (length_field length)) }
 {
     let number = format!(in alloc; "{length}")?;
     push_field(out, "Content-Type", kind)?;
@@ -131,7 +137,8 @@ fn type_of(stream: bool) -> &'static str
 fn push_status(alloc: Global, out: &mut Bytes, status: u16) -> Result<(), Memory>
     requires code { IsStatusCode status }
     requires phrase { IsSome (reason_phrase status) }
-    ensures { OnOk result (out.new ≡ out.old ++ print_version 1 ++ (32 ∷ decimal status) ++ (32 ∷ unwrap_or (reason_phrase status) []) ++ 13 ∷ 10 ∷ []) }
+    ensures { OnOk result (out.new ≡ out.old ++ print_version 1 ++ (32 ∷ decimal status)
+        ++ (32 ∷ unwrap_or (reason_phrase status) []) ++ 13 ∷ 10 ∷ []) }
 {
     let number = format!(in alloc; "{status}")?;
     out.extend(b"HTTP/1.1 ")?;

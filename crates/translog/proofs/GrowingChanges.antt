@@ -1,5 +1,6 @@
 -- How the changes since a generation grow with one more entry.
-use Rattle.std.proofs.Common.{◌≡◌, ℕ, suc, ◌+◌, ◌≤◌, Bool, true, false, cond, not, ◌&&◌, ◌||◌, List, [], ◌∷◌, ◌++◌, length, drop, refl, ◌∙◌, ap, ap₂, arith, ltb, lt-ltb}
+use Rattle.std.proofs.Common.{◌≡◌, ℕ, suc, ◌+◌, ◌≤◌, Bool, true, false, cond, not, ◌&&◌, ◌||◌, List, [], ◌∷◌, ◌++◌}
+use Rattle.std.proofs.Common.{length, drop, refl, ◌∙◌, ap, ap₂, arith, ltb, lt-ltb}
 use Rattle.std.specs.Prelude.{filter}
 use Rattle.std.specs.List.{list_any}
 use Rattle.std.proofs.lemmas.List.{drop-append-le, drop_all}
@@ -12,7 +13,8 @@ use Rattle.translog.specs.declared.entry.Change.{Change}
 use Rattle.translog.specs.Entries.{change_at, numbered, is_last, changes_since}
 
 -- the change that comes is the last one
-numbered-push : (es : List Entry) (e : Entry) (n m : ℕ) → m ≡ n + length es → numbered n (es ++ e ∷ []) ≡ numbered n es ++ change_at e m ∷ []
+numbered-push : (es : List Entry) (e : Entry) (n m : ℕ) → m ≡ n + length es
+    → numbered n (es ++ e ∷ []) ≡ numbered n es ++ change_at e m ∷ []
 numbered-push [] e n m is = ap (λ k. change_at e k ∷ []) (zero_more n m is)
   where
     zero_more : (a b : ℕ) → b ≡ a + 0 → a ≡ b
@@ -20,7 +22,8 @@ numbered-push [] e n m is = ap (λ k. change_at e k ∷ []) (zero_more n m is)
 numbered-push (x ∷ es) e n m is = ap (λ cs. change_at x n ∷ cs) (numbered-push es e (suc n) m (omega arith))
 
 -- an entry that was there is still the last one of its document, unless the new one has that document
-is_last-push : (es : List Entry) (e : Entry) (c : Change) → c.generation ≤ length es → is_last (es ++ e ∷ []) c ≡ (is_last es c && not (same_id e.doc c.doc))
+is_last-push : (es : List Entry) (e : Entry) (c : Change) → c.generation ≤ length es
+    → is_last (es ++ e ∷ []) c ≡ (is_last es c && not (same_id e.doc c.doc))
 is_last-push es e c low =
     ap (λ fs. not (list_any (λ f. same_id c.doc f.doc) fs)) (drop-append-le c.generation es (e ∷ []) low)
     ∙ ap not (list_any-append (λ f. same_id c.doc f.doc) (drop c.generation es) (e ∷ []))
@@ -50,14 +53,17 @@ kept es e g n (f ∷ fs) low =
     stays : Change → Bool
     stays c = not (same_id e.doc c.doc)
 
-    one : (a b : Bool) → rest ≡ filter stays former → cond (a && (b && stays (change_at f n))) (change_at f n ∷ rest) rest ≡ filter stays (cond (a && b) (change_at f n ∷ former) former)
+    one : (a b : Bool) → rest ≡ filter stays former
+        → cond (a && (b && stays (change_at f n))) (change_at f n ∷ rest) rest
+        ≡ filter stays (cond (a && b) (change_at f n ∷ former) former)
     one false b same = same
     one true false same = same
     one true true same = ap (λ cs. cond (stays (change_at f n)) (change_at f n ∷ cs) cs) same
 
 -- the new one is a change since the generation, and the last one of its document
 comes : (es : List Entry) (e : Entry) (g : ℕ) → g ≤ length es →
-    filter (λ c. ltb g c.generation && is_last (es ++ e ∷ []) c) (change_at e (length es + 1) ∷ []) ≡ change_at e (length es + 1) ∷ []
+    filter (λ c. ltb g c.generation && is_last (es ++ e ∷ []) c) (change_at e (length es + 1) ∷ [])
+    ≡ change_at e (length es + 1) ∷ []
 comes es e g low =
     ap₂ (λ a b. cond (a && b) (change_at e (length es + 1) ∷ []) [])
     (lt-ltb g (length es + 1) (omega (arith, low)))
@@ -67,8 +73,12 @@ comes es e g low =
     long [] = omega arith
     long (x ∷ xs) = omega (arith, long xs)
 
-pub changes_grow : (es : List Entry) (e : Entry) (g : ℕ) → g ≤ length es → changes_since (es ++ e ∷ []) g ≡ filter (λ c. not (same_id e.doc c.doc)) (changes_since es g) ++ change_at e (length es + 1) ∷ []
+pub changes_grow : (es : List Entry) (e : Entry) (g : ℕ) → g ≤ length es
+    → changes_since (es ++ e ∷ []) g ≡ filter (λ c. not (same_id e.doc c.doc)) (changes_since es g)
+    ++ change_at e (length es + 1) ∷ []
 changes_grow es e g low =
-    ap (filter (λ c. ltb g c.generation && is_last (es ++ e ∷ []) c)) (numbered-push es e 1 (length es + 1) (omega arith))
-    ∙ filter-append (λ c. ltb g c.generation && is_last (es ++ e ∷ []) c) (numbered 1 es) (change_at e (length es + 1) ∷ [])
+    ap (filter (λ c. ltb g c.generation && is_last (es ++ e ∷ []) c))
+    (numbered-push es e 1 (length es + 1) (omega arith))
+    ∙ filter-append (λ c. ltb g c.generation && is_last (es ++ e ∷ []) c) (numbered 1 es)
+    (change_at e (length es + 1) ∷ [])
     ∙ ap₂ (λ (cs ds : List Change). cs ++ ds) (kept es e g 1 es (omega arith)) (comes es e g low)

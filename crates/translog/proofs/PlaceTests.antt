@@ -1,5 +1,6 @@
 -- Each test of places says what its relation says.
-use Rattle.std.proofs.Common.{◌≡◌, ◌↔◌, ℕ, ◌⊎◌, inl, inr, Bool, true, false, ◌||◌, eqb, ltb, List, length, Option, refl, sym, ◌∙◌, ap, subst, arith, eqb-true, eq-eqb, leb-true, le-leb, ltb-true, lt-ltb}
+use Rattle.std.proofs.Common.{◌≡◌, ◌↔◌, ℕ, ◌⊎◌, inl, inr, Bool, true, false, ◌||◌, eqb, ltb, List, length, Option, refl}
+use Rattle.std.proofs.Common.{sym, ◌∙◌, ap, subst, arith, eqb-true, eq-eqb, leb-true, le-leb, ltb-true, lt-ltb}
 use Rattle.std.specs.Prelude.{nat_eq}
 use Rattle.std.proofs.lemmas.Bool.{cases_lt}
 use Rattle.std.specs.Option.{option_eq}
@@ -45,7 +46,8 @@ end_fits es = inr (omega arith, refl)
 
 trans_same : (a b : Option (List ℕ)) → a ≡ b → option_eq (pointwise nat_eq) a b ≡ true
 trans_same a b same =
-    subst (λ (o : Option (List ℕ)). option_eq (pointwise nat_eq) a o ≡ true) same ((options_equiv nat_list_eq_equiv).refl a)
+    subst (λ (o : Option (List ℕ)). option_eq (pointwise nat_eq) a o ≡ true) same
+    ((options_equiv nat_list_eq_equiv).refl a)
 
 fits_true : (es : List Entry) (p : Place) → FitsLog es p → fits_log es p ≡ true
 fits_true es p (inl start) = left_is (eqb p.generation 0) _ (eq-eqb p.generation 0 start)
@@ -57,7 +59,10 @@ true_fits : (es : List Entry) (p : Place) → fits_log es p ≡ true → FitsLog
 true_fits es p h =
     elim (either (eqb p.generation 0) _ h) [
       | inl start ↦ inl (eqb-true p.generation 0 start)
-      | inr at ↦ inr (leb-true p.generation (length es) (first _ _ at), same_trans (trans_at es p.generation) p.trans (second _ _ at))
+      | inr at ↦ inr (
+        leb-true p.generation (length es) (first _ _ at),
+        same_trans (trans_at es p.generation) p.trans (second _ _ at),
+      )
     ]
 
 pub fits : (es : List Entry) (p : Place) → FitsLog es p ↔ (fits_log es p ≡ true)
@@ -117,6 +122,9 @@ goes_back kept to = (back_false, false_back)
           | inl later ↦ absurd (not_both (passes kept to) ((goes_on kept to).0 (inl later)) h)
           | inr low ↦ elim (cases_lt to.generation kept.generation) [
             | inl before ↦ inl before
-            | inr high ↦ inr (omega (arith, low, high), λ same. absurd (not_both (passes kept to) ((goes_on kept to).0 (inr (omega (arith, low, high), same))) h))
+            | inr high ↦ inr (
+              omega (arith, low, high),
+              λ same. absurd (not_both (passes kept to) ((goes_on kept to).0 (inr (omega (arith, low, high), same))) h),
+            )
           ]
         ]

@@ -1,7 +1,8 @@
-//! The transaction log of a replica: it grows at its end, tells what changed since a generation, and checks the
-//! positions that peers tell of it.
+//! The transaction log of a replica: it grows at its end, tells what changed since a generation,
+//! and checks the positions that peers tell of it.
 //!
-//! A contract sees a log as the list of its entries, oldest first, and the number of entries that it has room for.
+//! A contract sees a log as the list of its entries, oldest first, and the number of entries that
+//! it has room for.
 #![tactic(auto)]
 
 mod check;

@@ -1,5 +1,6 @@
 //! The log: its entries, its room, its places.
-ghost use Rattle.std.specs.Prelude.{◌≡◌, ◌+◌, ◌-◌, ◌^◌, ◌<◌, ◌≤◌, ◌⊎◌, ◌↔◌, [], ◌∷◌, ◌++◌, IfOk, IsNone, OnErr, OnOk, length, option_copied};
+ghost use Rattle.std.specs.Prelude.{◌≡◌, ◌+◌, ◌-◌, ◌^◌, ◌<◌, ◌≤◌, ◌⊎◌, ◌↔◌, [], ◌∷◌, ◌++◌, IfOk};
+ghost use Rattle.std.specs.Prelude.{IsNone, OnErr, OnOk, length, option_copied};
 ghost use Rattle.translog.specs.Entries.{trans_at};
 ghost use Rattle.translog.specs.Log.{end_of};
 

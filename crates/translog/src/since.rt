@@ -7,7 +7,8 @@ use std::collections::BTreeSet;
 use u1_base::Memory;
 
 impl Log {
-    /// Each document with an entry after the generation once, at its last entry, in the order of these entries.
+    /// Each document with an entry after the generation once, at its last entry, in the order of
+    /// these entries.
     pub fn changed_since(&self, generation: u64) -> Result<Changes, Memory>
         ensures { IfOk result (λ changes. changes ≡ changes_since self.now.entries generation) }
     {
@@ -30,7 +31,8 @@ impl Log {
 
 // Adds the entry's change at the end. At an error the list is as it was.
 fn push_change(changes: &mut Vec<Change>, entry: &Entry, generation: u64) -> Result<(), Memory>
-    ensures { OnOk result (changes.new.items ≡ changes.old.items ++ change_at entry.now generation ∷ []) }
+    ensures { OnOk result (changes.new.items ≡ changes.old.items
+        ++ change_at entry.now generation ∷ []) }
 {
     changes.push(Change {
         doc: entry.doc.copy()?,

@@ -1,4 +1,5 @@
-//! The worked logs: what changed, positions that fit and that do not, and each call that allocates once.
+//! The worked logs: what changed, positions that fit and that do not, and each call that allocates
+//! once.
 use crate::{Change, Check, Entry, Log, goes_on};
 use std::alloc::Global;
 use std::test::Fail;

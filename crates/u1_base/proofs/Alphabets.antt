@@ -5,11 +5,13 @@ use Rattle.std.specs.List.{list_all, position_from}
 use Rattle.std.proofs.lemmas.Iterator.Adapters.{position_from-zero}
 
 -- one byte more: a byte that the search passed is in the alphabet
-passed : (b : Bool) (i : ℕ) (found : Option ℕ) (all : Bool) → cond (not b) (Some i) found ≡ None → (found ≡ None → all ≡ true) → (b && all) ≡ true
+passed : (b : Bool) (i : ℕ) (found : Option ℕ) (all : Bool) → cond (not b) (Some i) found ≡ None
+    → (found ≡ None → all ≡ true) → (b && all) ≡ true
 passed true i found all none later = later none
 passed false i found all none later = absurd (cc none)
 
-all_from_position : (p : ℕ → Bool) (xs : List ℕ) (i : ℕ) → position_from (λ x. not (p x)) i xs ≡ None → list_all p xs ≡ true
+all_from_position : (p : ℕ → Bool) (xs : List ℕ) (i : ℕ) → position_from (λ x. not (p x)) i xs ≡ None
+    → list_all p xs ≡ true
 all_from_position p [] i none = refl
 all_from_position p (x ∷ xs) i none = passed (p x) i _ _ none (all_from_position p xs (i + 1))
 
@@ -17,7 +19,8 @@ all_from_position p (x ∷ xs) i none = passed (p x) i _ _ none (all_from_positi
 pub list_all-position : (p : ℕ → Bool) (xs : List ℕ) → position (λ x. not (p x)) xs ≡ None → list_all p xs ≡ true
 list_all-position p xs none = all_from_position p xs 0 (sym (position_from-zero (λ x. not (p x)) xs) ∙ none)
 
-stopped : (b : Bool) (i : ℕ) (found : Option ℕ) (all : Bool) → (b && all) ≡ true → (all ≡ true → found ≡ None) → cond (not b) (Some i) found ≡ None
+stopped : (b : Bool) (i : ℕ) (found : Option ℕ) (all : Bool) → (b && all) ≡ true → (all ≡ true → found ≡ None)
+    → cond (not b) (Some i) found ≡ None
 stopped true i found all each later = later each
 stopped false i found all each later = absurd (cc each)
 

@@ -1,5 +1,6 @@
 -- A made id is an id of every form.
-use Rattle.std.proofs.Common.{◌≡◌, ℕ, zero, suc, ◌<◌, ◌≤◌, Bool, true, List, [], ◌∷◌, refl, arith, length, length-append}
+use Rattle.std.proofs.Common.{◌≡◌, ℕ, zero, suc, ◌<◌, ◌≤◌, Bool, true, List, [], ◌∷◌, refl, arith, length}
+use Rattle.std.proofs.Common.{length-append}
 use Rattle.std.specs.List.{list_all}
 use Rattle.std.proofs.lemmas.List.Folds.{list_all-append}
 use Rattle.std.proofs.lemmas.Bool.Decides.{nat_tests}
@@ -37,7 +38,8 @@ length-simple_text xs = length-by_index 32 (λ k. hex_digit lower (nibble xs k))
 
 simple_text_allowed : (form : Form) (xs : List ℕ) → list_all (is_allowed form) (simple_text lower xs) ≡ true
 simple_text_allowed form xs =
-    list_all-by_index (is_allowed form) 32 (λ k. hex_digit lower (nibble xs k)) (λ k. hex_is_allowed form (nibble xs k) (nibble-small xs k))
+    list_all-by_index (is_allowed form) 32 (λ k. hex_digit lower (nibble xs k))
+    (λ k. hex_is_allowed form (nibble xs k) (nibble-small xs k))
 
 length-prefix_of : (kind : IdKind) → length (prefix_of kind) ≡ 2
 length-prefix_of kind_of.Doc = refl
@@ -67,12 +69,18 @@ at_least_64 form_of.Name = omega arith
 -- a made id has 34 bytes
 pub length-new_id_text : (seed : ℕ) (kind : IdKind) (number : ℕ) → length (new_id_text seed kind number) ≡ 34
 unfolding new_id_text identifier_text
-length-new_id_text seed kind number = rw (length-append (prefix_of kind) _, length-prefix_of kind, length-simple_text _) refl
+length-new_id_text seed kind number =
+    rw (length-append (prefix_of kind) _, length-prefix_of kind, length-simple_text _) refl
 
-new_id_text_allowed : (form : Form) (seed : ℕ) (kind : IdKind) (number : ℕ) → list_all (is_allowed form) (new_id_text seed kind number) ≡ true
+new_id_text_allowed : (form : Form) (seed : ℕ) (kind : IdKind) (number : ℕ)
+    → list_all (is_allowed form) (new_id_text seed kind number) ≡ true
 unfolding new_id_text identifier_text
 new_id_text_allowed form seed kind number =
-    rw (list_all-append (is_allowed form) (prefix_of kind) _, prefix_of_allowed form kind, simple_text_allowed form _) refl
+    rw (
+      list_all-append (is_allowed form) (prefix_of kind) _,
+      prefix_of_allowed form kind,
+      simple_text_allowed form _,
+    ) refl
 
 -- a made id is an id, whatever the form
 pub IsId-new_id_text : (form : Form) (seed : ℕ) (kind : IdKind) (number : ℕ) → IsId form (new_id_text seed kind number)

@@ -6,8 +6,8 @@ use std::sync::ledger::{Blank, Book, Ledger, Share};
 
 /// A counter of no bytes, seen as a number; `L` names what is counted.
 ///
-/// It is two tokens of a ledger, so that only `tick` can raise it. Who wants to count takes `L: Ledger` as a
-/// type parameter and is called at `Brand`.
+/// It is two tokens of a ledger, so that only `tick` can raise it. Who wants to count takes `L:
+/// Ledger` as a type parameter and is called at `Brand`.
 #[derive(Drop)]
 pub struct Steps<L: Ledger> {
     book: Book<L>,

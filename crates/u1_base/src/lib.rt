@@ -1,7 +1,7 @@
 //! The small types that every layer shares: texts, lists, ids, positions, keys and counters.
 //!
-//! A contract sees each of them as one plain value: a text and an id as the list of its bytes, a list as its
-//! items, a counter as a number. What it costs, as capacity and allocator, is hidden.
+//! A contract sees each of them as one plain value: a text and an id as the list of its bytes, a
+//! list as its items, a counter as a number. What it costs, as capacity and allocator, is hidden.
 #![tactic(auto)]
 
 mod counting;

@@ -17,10 +17,12 @@ pub enum IdKind {
     Replica,
 }
 
-/// The id of this kind and number under the seed: `D-`, `T-` or `R-` and 32 lower hexadecimal digits.
+/// The id of this kind and number under the seed: `D-`, `T-` or `R-` and 32 lower hexadecimal
+/// digits.
 ///
-/// The digits are those of the name-based identifier (UUID version 5, RFC 9562) of the text `WORD:NUMBER` in
-/// the namespace of the seed's 16 bytes, the highest first. One seed, kind and number always give one id.
+/// The digits are those of the name-based identifier (UUID version 5, RFC 9562) of the text
+/// `WORD:NUMBER` in the namespace of the seed's 16 bytes, the highest first. One seed, kind and
+/// number always give one id.
 #[tactic(auto, unfolding(crate::specs::NewId::new_id_text))]
 pub fn new_id(alloc: Global, seed: u128, kind: IdKind, number: u64) -> Result<Text, Memory>
     ensures { IfOk result (λ text. text ≡ new_id_text seed kind number) }

@@ -1,4 +1,5 @@
-//! The worked rows of ids, made ids as another program makes them, and each call that allocates once.
+//! The worked rows of ids, made ids as another program makes them, and each call that allocates
+//! once.
 use crate::{
     Bytes, Database, Document, FormOf, Id, IdFault, IdKind, Index, Key, Memory, Position, Replica,
     Text, Texts, TransId, Transaction, new_id, u16_at, u32_at, u64_at,

@@ -12,8 +12,8 @@ use std::rc::{Rc, RcStr};
 
 /// A UTF-8 text, seen as its bytes. Texts are ordered by bytes.
 ///
-/// A text of at most 14 bytes takes no memory beside the value. A longer one lies on the heap, once for
-/// all its copies.
+/// A text of at most 14 bytes takes no memory beside the value. A longer one lies on the heap, once
+/// for all its copies.
 pub struct Text {
     storage: Storage,
 }

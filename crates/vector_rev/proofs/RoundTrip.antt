@@ -1,5 +1,7 @@
 -- The text of a clock reads as that clock and no other.
-use Rattle.std.proofs.Common.{◌≡◌, ◌≢◌, ℕ, zero, suc, ◌+◌, ◌≤◌, Bool, true, false, cond, Option, Some, None, Result, Ok, Err, ◌&&◌, T, List, [], ◌∷◌, length, take, map, refl, sym, ◌∙◌, ap, ap₂, subst, arith, true≢false}
+use Rattle.std.proofs.Common.{◌≡◌, ◌≢◌, ℕ, zero, suc, ◌+◌, ◌≤◌, Bool, true, false, cond, Option, Some, None, Result, Ok}
+use Rattle.std.proofs.Common.{Err, ◌&&◌, T, List, [], ◌∷◌, length, take, map, refl, sym, ◌∙◌, ap, ap₂, subst, arith}
+use Rattle.std.proofs.Common.{true≢false}
 use Rattle.std.specs.List.{list_all}
 use Rattle.std.specs.Ordering.{is_lt}
 use Rattle.std.specs.FinMap.Entries.{is_sorted, below_all}
@@ -10,12 +12,14 @@ use Rattle.u1_base.specs.Ids.{id_cmp}
 use Rattle.vector_rev.proofs.Truths.{both, first, second, T_true}
 use Rattle.vector_rev.specs.Clock.{Clock, is_entry, is_clock, clock_if, clock_of}
 use Rattle.vector_rev.specs.Stored.{same_record}
-use Rattle.vector_rev.specs.ClockText.{clock_text, entries_text, entry_text, entry_of, parts_of, is_entry_text, IsTextFault, ReadsClock, clock_in}
+use Rattle.vector_rev.specs.ClockText.{clock_text, entries_text, entry_text, entry_of, parts_of, is_entry_text}
+use Rattle.vector_rev.specs.ClockText.{IsTextFault, ReadsClock, clock_in}
 use Rattle.vector_rev.specs.declared.read.ClockFault.{ClockFault}
 use Rattle.vector_rev.specs.declared.read.ClockFault.TheVariants as fault
 use Rattle.vector_rev.proofs.ClockLaws.{entries_of, some_entry, few_entries}
 use Rattle.vector_rev.proofs.Reading.{ReadsText, fails-position}
-use Rattle.vector_rev.proofs.Spelling.{parts_of-entries_text, is_entry_text-entry_text, entry_of-entry_text, entries_text-parts}
+use Rattle.vector_rev.proofs.Spelling.{parts_of-entries_text, is_entry_text-entry_text, entry_of-entry_text}
+use Rattle.vector_rev.proofs.Spelling.{entries_text-parts}
 
 parts_at : (es : Entries) → 1 ≤ length es → list_all is_entry es ≡ true → parts_of (entries_text es) ≡ map entry_text es
 parts_at [] some h = absurd (omega arith)
@@ -41,7 +45,8 @@ below_take u (suc k) (e ∷ es) h = both _ _ (first _ _ h) (below_take u k es (s
 sorted_take : (k : ℕ) (es : Entries) → T (is_sorted id_cmp es) → T (is_sorted id_cmp (take k es))
 sorted_take zero es h = tt
 sorted_take (suc k) [] h = tt
-sorted_take (suc k) (e ∷ es) h = both _ _ (below_take e.0 k es (first _ _ h)) (sorted_take k es (second (below_all id_cmp e.0 es) _ h))
+sorted_take (suc k) (e ∷ es) h = both _ _ (below_take e.0 k es (first _ _ h))
+    (sorted_take k es (second (below_all id_cmp e.0 es) _ h))
 
 parts_of_clock : (x : Clock) → parts_of (clock_text x) ≡ map entry_text x.entries
 parts_of_clock x = parts_at x.entries (some_entry x) (T_true _ (entries_of x))
@@ -54,20 +59,32 @@ entries_of_clock x = ap (map entry_of) (parts_of_clock x) ∙ read_back x.entrie
 
 -- the text of a clock has no fault
 pub clock_text_no_fault : (x : Clock) (f : ClockFault) → IsTextFault (clock_text x) f → f ≡ fault.Memory
-clock_text_no_fault x fault.Empty h = absurd (true≢false (sym (ap (λ t. list_all is_entry_text (parts_of t)) (sym h) ∙ good_clock x)))
-clock_text_no_fault x fault.TooMany h = absurd (omega (arith, h, ap (λ (ps : List (List ℕ)). length ps) (parts_of_clock x), length-map x.entries entry_text, few_entries x))
-clock_text_no_fault x (fault.BadEntry i) h = absurd (true≢false (sym (good_clock x) ∙ fails-position is_entry_text (parts_of (clock_text x)) i h.2))
+clock_text_no_fault x fault.Empty h =
+    absurd (true≢false (sym (ap (λ t. list_all is_entry_text (parts_of t)) (sym h) ∙ good_clock x)))
+clock_text_no_fault x fault.TooMany h =
+    absurd (omega (
+      arith,
+      h,
+      ap (λ (ps : List (List ℕ)). length ps) (parts_of_clock x),
+      length-map x.entries entry_text,
+      few_entries x,
+    ))
+clock_text_no_fault x (fault.BadEntry i) h =
+    absurd (true≢false (sym (good_clock x) ∙ fails-position is_entry_text (parts_of (clock_text x)) i h.2))
 clock_text_no_fault x (fault.NotSorted i) h =
-    absurd (true≢false (sym (T_true _ (sorted_take (i + 1) x.entries (first _ _ x.well))) ∙ ap (λ es. is_sorted id_cmp (take (i + 1) es)) (sym (entries_of_clock x)) ∙ h.3.unsorted))
+    absurd (true≢false (sym (T_true _ (sorted_take (i + 1) x.entries (first _ _ x.well)))
+    ∙ ap (λ es. is_sorted id_cmp (take (i + 1) es)) (sym (entries_of_clock x)) ∙ h.3.unsorted))
 clock_text_no_fault x fault.Memory h = refl
 
 -- clocks with one text are one clock
 pub clock_text_apart : (x y : Clock) → clock_text x ≡ clock_text y → x ≡ y
-clock_text_apart x y e = same_record x y (sym (entries_of_clock x) ∙ ap (λ t. map entry_of (parts_of t)) e ∙ entries_of_clock y)
+clock_text_apart x y e = same_record x y (sym (entries_of_clock x) ∙ ap (λ t. map entry_of (parts_of t)) e
+    ∙ entries_of_clock y)
 
 -- ---- reading as a function
 
-clock_if-is : (x : Clock) (es : Entries) (b : Bool) (kept : is_clock es ≡ b) → es ≡ x.entries → clock_if es b kept ≡ Some x
+clock_if-is : (x : Clock) (es : Entries) (b : Bool) (kept : is_clock es ≡ b) → es ≡ x.entries
+    → clock_if es b kept ≡ Some x
 clock_if-is x es true kept same = ap Some (same_record _ x same)
 clock_if-is x es false kept same = absurd (true≢false (sym (T_true _ x.well) ∙ ap is_clock (sym same) ∙ kept))
 
@@ -75,7 +92,8 @@ clock_if-is x es false kept same = absurd (true≢false (sym (T_true _ x.well) �
 pub clock_of-entries : (x : Clock) (es : Entries) → es ≡ x.entries → clock_of es ≡ Some x
 clock_of-entries x es same = clock_if-is x es (is_clock es) refl same
 
-clock_if-entries : (x : Clock) (es : Entries) (b : Bool) (kept : is_clock es ≡ b) → clock_if es b kept ≡ Some x → es ≡ x.entries
+clock_if-entries : (x : Clock) (es : Entries) (b : Bool) (kept : is_clock es ≡ b) → clock_if es b kept ≡ Some x
+    → es ≡ x.entries
 clock_if-entries x es true kept h = ap (λ (o : Option Clock). entries_in o) h
   where
     entries_in : Option Clock → Entries
@@ -104,8 +122,11 @@ reads_back x =
 -- and what reads as a clock is its text
 pub reads_only : (text : List ℕ) (x : Clock) → clock_in text ≡ Some x → text ≡ clock_text x
 reads_only text x h =
-    elim (list_all is_entry_text (parts_of text)) as (λ b. list_all is_entry_text (parts_of text) ≡ b → cond b (clock_of (map entry_of (parts_of text))) None ≡ Some x → text ≡ clock_text x) [
-      | true ↦ λ good some. entries_text-parts text x.entries good (sym (entries-clock_of x (map entry_of (parts_of text)) some))
+    elim (list_all is_entry_text (parts_of text)) as
+    (λ b. list_all is_entry_text (parts_of text) ≡ b → cond b (clock_of (map entry_of (parts_of text))) None ≡ Some x
+    → text ≡ clock_text x) [
+      | true ↦ λ good some. entries_text-parts text x.entries good
+          (sym (entries-clock_of x (map entry_of (parts_of text)) some))
       | false ↦ λ _ some. absurd (cc some)
     ] refl h
 
@@ -114,7 +135,8 @@ pub fault_reads_none : (text : List ℕ) (f : ClockFault) → f ≢ fault.Memory
 fault_reads_none text f other is =
     elim (clock_in text) as (λ o. clock_in text ≡ o → o ≡ None) [
       | None ↦ λ _. refl
-      | Some x ↦ λ some. absurd (other (clock_text_no_fault x f (subst (λ (t : List ℕ). IsTextFault t f) (reads_only text x some) is)))
+      | Some x ↦ λ some. absurd
+          (other (clock_text_no_fault x f (subst (λ (t : List ℕ). IsTextFault t f) (reads_only text x some) is)))
     ] refl
 
 -- what the reader found out, said of the reading function

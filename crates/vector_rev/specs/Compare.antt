@@ -27,7 +27,8 @@ same x y = pointwise same_entry x.entries y.entries
 
 -- they have the laws of an equality
 pub same_entry_equals : IsEquivalence same_entry
-same_entry_equals = and_equiv (on_equiv (λ (e : Uid × ℕ). e.0) nat_list_eq_equiv) (on_equiv (λ (e : Uid × ℕ). e.1) nat_eq_equiv)
+same_entry_equals = and_equiv (on_equiv (λ (e : Uid × ℕ). e.0) nat_list_eq_equiv)
+    (on_equiv (λ (e : Uid × ℕ). e.1) nat_eq_equiv)
 
 pub same_equals : IsEquivalence same
 same_equals = on_equiv (λ (x : Clock). x.entries) (lists_equiv same_entry_equals)

@@ -1,5 +1,6 @@
 -- The clocks that are made of others: by counters, and when there is none.
-use Rattle.std.specs.Prelude.{◌≡◌, ◌≢◌, ℕ, ◌+◌, ◌<◌, ◌≤◌, max, ◌⊎◌, length, filter, is_none, List, codes, Result, Ok, Err}
+use Rattle.std.specs.Prelude.{◌≡◌, ◌≢◌, ℕ, ◌+◌, ◌<◌, ◌≤◌, max, ◌⊎◌, length, filter, is_none, List, codes, Result, Ok}
+use Rattle.std.specs.Prelude.{Err}
 use Rattle.std.specs.FinMap.Entries.{find}
 use Rattle.u1_base.specs.declared.limits.TheConstants.{GREATEST_COUNT, MOST_CLOCK_ENTRIES}
 use Rattle.vector_rev.specs.Counts.{Uid}

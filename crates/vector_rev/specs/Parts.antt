@@ -1,6 +1,7 @@
 -- Private to the reader and the writer: what is read of one part of a text and of all parts, and how one more entry is
 -- written.
-use Rattle.std.specs.Prelude.{◌≡◌, ℕ, ◌==◌, false, not, IsTrue, List, ◌∷◌, map, position, Option, Some, None, Result, Ok, Err, if◌then◌else◌}
+use Rattle.std.specs.Prelude.{◌≡◌, ℕ, ◌==◌, false, not, IsTrue, List, ◌∷◌, map, position, Option, Some, None, Result}
+use Rattle.std.specs.Prelude.{Ok, Err, if◌then◌else◌}
 use Rattle.std.specs.List.{list_all}
 use Rattle.vector_rev.specs.Counts.{Uid, Entries}
 use Rattle.u1_base.specs.Ids.{is_id}

@@ -9,7 +9,8 @@ use std::alloc::Global;
 use std::marker::Model;
 use u1_base::{Items, Memory, ReplicaUid};
 
-/// A vector clock: the counters of 1 to 64 replicas, seen as its entries in the order of their uids' bytes.
+/// A vector clock: the counters of 1 to 64 replicas, seen as its entries in the order of their
+/// uids' bytes.
 #[derive(Debug, Drop)]
 pub struct Clock {
     pub(crate) entries: Vec<ClockEntry>,

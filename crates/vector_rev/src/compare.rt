@@ -10,7 +10,8 @@ use std::cmp::Ordering;
 #[derive(Clone, Copy, Debug, PartialEq, Eq)]
 pub enum Order {
     Equal,
-    /// The clock is newer than the other one: it is another one, and no counter of that one is greater.
+    /// The clock is newer than the other one: it is another one, and no counter of that one is
+    /// greater.
     Newer,
     /// The other one is newer.
     Older,
@@ -85,7 +86,8 @@ impl Eq for ClockEntry {
     ghost laws = { same_entry_equals };
 }
 
-// Whether the left entries cover the right ones, and the right ones the left, in one walk along both.
+// Whether the left entries cover the right ones, and the right ones the left, in one walk along
+// both.
 fn compare(left: &[ClockEntry], right: &[ClockEntry]) -> (bool, bool)
     requires left { T (is_clock left.now) }
     requires right { T (is_clock right.now) }

@@ -89,7 +89,8 @@ impl Clock {
         self.join_into(other.copy()?)
     }
 
-    /// The join with a clock that is consumed. It takes memory for the entries alone that are new to that clock.
+    /// The join with a clock that is consumed. It takes memory for the entries alone that are new
+    /// to that clock.
     pub fn join_into(&self, all: Clock) -> Result<Clock, JoinFault>
         ensures counters { Joins self.now all result }
         ensures value { IfOk result (λ z. z.entries ≡ join self.now.entries all.entries) }
@@ -111,7 +112,8 @@ impl Clock {
             .raise(own)
     }
 
-    /// The clock itself, with the own counter raised by one. It takes memory for an own entry alone that is new.
+    /// The clock itself, with the own counter raised by one. It takes memory for an own entry alone
+    /// that is new.
     pub fn raise(self, own: &ReplicaUid) -> Result<Clock, NextFault>
         ensures counters { Raises self own.now result }
         ensures value { IfOk result (λ z. z.entries ≡ raised self.entries own.now) }

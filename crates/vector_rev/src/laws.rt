@@ -1,7 +1,8 @@
 //! What holds of all clocks, each as the contract of a function that does nothing.
 ghost use Rattle.vector_rev.specs.Clock.{Clock};
 ghost use Rattle.vector_rev.specs.Counts.{Uid};
-ghost use Rattle.vector_rev.specs.Laws.{CountersDecide, CoveringIsAnOrder, JoinIsLeast, NextIsNewer, ReadingTellsClocks, TextsTellClocks};
+ghost use Rattle.vector_rev.specs.Laws.{CountersDecide, CoveringIsAnOrder, JoinIsLeast};
+ghost use Rattle.vector_rev.specs.Laws.{NextIsNewer, ReadingTellsClocks, TextsTellClocks};
 ghost use Rattle.vector_rev.specs.Made.{IsJoin, IsNext};
 
 /// Covering is a partial order, and each comparison has one answer.

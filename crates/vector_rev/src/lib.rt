@@ -1,7 +1,8 @@
-//! Vector clocks (Fidge, Mattern), the revisions of documents: they are read, written, compared, joined and raised.
+//! Vector clocks (Fidge, Mattern), the revisions of documents: they are read, written, compared,
+//! joined and raised.
 //!
-//! A contract sees a clock as one value: its entries in the order of their uids, with the proof that they are a
-//! clock. What it says is the counter of each uid.
+//! A contract sees a clock as one value: its entries in the order of their uids, with the proof
+//! that they are a clock. What it says is the counter of each uid.
 #![tactic(auto)]
 
 mod clock;

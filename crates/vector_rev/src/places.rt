@@ -9,8 +9,9 @@ use crate::ClockEntry;
 use std::cmp::Ordering;
 use u1_base::{Memory, ReplicaUid};
 
-// Puts each of the others in its place, of each uid the greater counter. At an error some of them may have been put.
-// The others go from the last to the first, so that the places go down: that is one walk along both lists.
+// Puts each of the others in its place, of each uid the greater counter. At an error some of them
+// may have been put. The others go from the last to the first, so that the places go down: that is
+// one walk along both lists.
 pub(crate) fn put_each(entries: &mut Vec<ClockEntry>, others: &[ClockEntry]) -> Result<(), Memory>
     requires order { T (is_sorted id_cmp entries.old.items) }
     requires others { T (is_sorted id_cmp others.now) }
@@ -26,8 +27,8 @@ pub(crate) fn put_each(entries: &mut Vec<ClockEntry>, others: &[ClockEntry]) -> 
     Ok(())
 }
 
-// Puts the counter at the uid, unless a greater one is there, and answers the place of the uid. The entries from
-// `end` on are above the uid. At an error the entries are as they were.
+// Puts the counter at the uid, unless a greater one is there, and answers the place of the uid. The
+// entries from `end` on are above the uid. At an error the entries are as they were.
 pub(crate) fn put_greater(
     entries: &mut Vec<ClockEntry>,
     end: usize,
@@ -36,7 +37,9 @@ pub(crate) fn put_greater(
 ) -> Result<usize, Memory>
     requires order { T (is_sorted id_cmp entries.old.items) }
     requires above { IsAbove uid.now entries.old.items end }
-    ensures entries { OnOk result (entries.new.items ≡ put id_cmp uid.now (max counter (count_in entries.old.items uid.now)) entries.old.items) }
+    ensures entries { OnOk result
+        (entries.new.items ≡ put id_cmp uid.now
+        (max counter (count_in entries.old.items uid.now)) entries.old.items) }
     ensures place { IfOk result (λ place. StandsAt uid.now entries.new.items place) }
 {
     match place_of(entries.as_slice(), end, uid) {
@@ -54,7 +57,8 @@ pub(crate) fn put_greater(
 // Where the uid stands, or else where it would stand, searched from `end` down.
 fn place_of(entries: &[ClockEntry], end: usize, uid: &ReplicaUid) -> Result<usize, usize>
     requires { IsAbove uid.now entries.now end }
-    ensures { MatchResult result (λ place. StandsAt uid.now entries.now place) (λ place. FitsAt uid.now entries.now place) }
+    ensures { MatchResult result (λ place. StandsAt uid.now entries.now place)
+        (λ place. FitsAt uid.now entries.now place) }
 {
     let mut place = end;
     while place > 0 {

@@ -1,9 +1,12 @@
 //! Clocks from texts and from lists of entries, and the text of a clock.
-ghost use Rattle.std.specs.Prelude.{◌≡◌, ◌++◌, ◌==◌, false, IfOk, IsTrue, MatchOption, OnOk, T, count_by, not, position, Some, string_bytes};
+ghost use Rattle.std.specs.Prelude.{◌≡◌, ◌++◌, ◌==◌, false, IfOk, IsTrue, MatchOption, OnOk, T};
+ghost use Rattle.std.specs.Prelude.{count_by, not, position, Some, string_bytes};
 ghost use Rattle.std.specs.Char.{is_ascii_digit};
 ghost use Rattle.std.specs.Str.Parse.{digits_value};
 ghost use Rattle.vector_rev.specs.Clock.{is_entry, is_limited};
-ghost use Rattle.vector_rev.specs.ClockText.{IsFirstUnsorted, OrdersEntries, ReadsClock, TakesEntries, clock_text, entry_text, is_counter, is_numeral, parts_of};
+ghost use Rattle.vector_rev.specs.ClockText.{IsFirstUnsorted, OrdersEntries, ReadsClock};
+ghost use Rattle.vector_rev.specs.ClockText.{TakesEntries, clock_text, entry_text, is_counter};
+ghost use Rattle.vector_rev.specs.ClockText.{is_numeral, parts_of};
 ghost use Rattle.std.specs.FinMap.Entries.{is_sorted};
 ghost use Rattle.std.specs.List.{list_all};
 ghost use Rattle.u1_base.specs.Ids.{id_cmp};
@@ -18,8 +21,8 @@ use std::fmt;
 use u1_base::limits::{GREATEST_COUNT, MOST_CLOCK_ENTRIES};
 use u1_base::{IdFault, Memory, ReplicaUid, Text};
 
-/// Why a text, or a list of entries, is no clock. Entries are counted from 0, and the faults are tested in this
-/// order.
+/// Why a text, or a list of entries, is no clock. Entries are counted from 0, and the faults are
+/// tested in this order.
 #[derive(Clone, Copy, Debug, PartialEq, Eq)]
 pub enum ClockFault {
     /// There is no entry.
@@ -70,7 +73,8 @@ impl From<Memory> for ClockFault {
 }
 
 impl Clock {
-    /// Reads a clock from the whole of the text: entries `UID:COUNTER` in the order of their uids, joined by `|`.
+    /// Reads a clock from the whole of the text: entries `UID:COUNTER` in the order of their uids,
+    /// joined by `|`.
     pub fn read(alloc: Global, text: &str) -> Result<Clock, ClockFault>
         ensures { ReadsClock text.now result }
     {
@@ -127,7 +131,8 @@ impl Clock {
     }
 }
 
-// Adds the entry at place i at the end, behind a bar where it is not the first. At an error a front of that was added.
+// Adds the entry at place i at the end, behind a bar where it is not the first. At an error a front
+// of that was added.
 fn push_separated(text: &mut String, i: usize, entry: &ClockEntry) -> Result<(), Memory>
     ensures { OnOk result (string_bytes text.new ≡ string_bytes text.old ++ separated i entry.now) }
 {

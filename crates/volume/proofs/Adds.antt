@@ -1,5 +1,6 @@
 -- A body is added to the image that the root names.
-use Rattle.std.proofs.Common.{◌≡◌, ◌≢◌, ◌⊎◌, ⊎_elim, inl, inr, ℕ, List, [], ◌∷◌, ◌++◌, Result, Ok, Err, OnOk, sym, subst}
+use Rattle.std.proofs.Common.{◌≡◌, ◌≢◌, ◌⊎◌, ⊎_elim, inl, inr, ℕ, List, [], ◌∷◌, ◌++◌, Result, Ok, Err, OnOk, sym}
+use Rattle.std.proofs.Common.{subst}
 use Rattle.disk_model.specs.Device.{File}
 use Rattle.disks.specs.declared.name.DiskName.{DiskName}
 use Rattle.disks.specs.declared.name.DiskName.TheVariants.{Root}
@@ -17,24 +18,31 @@ use Rattle.volume.proofs.Finding.{found_standing}
 use Rattle.volume.proofs.Standing.{root_left, still_names, not_root}
 
 -- while the body is added
-pub adds_run : (body : List ℕ) (journal : Extent) (side : DiskName) (format : ℕ) (head : Head) (bodies : List (List ℕ)) (old new : Devices) → side ≢ Root
+pub adds_run : (body : List ℕ) (journal : Extent) (side : DiskName) (format : ℕ) (head : Head) (bodies : List (List ℕ))
+    (old new : Devices) → side ≢ Root
     → IsStore journal side format head bodies old.files
     → LeavesTogether old new (ChangedOnly side (ReadsWithOrWithout body format head bodies) (now_of old.files))
-    → LeavesTogether old new (λ files. (found_of files ≡ Stands side format head bodies) ⊎ (found_of files ≡ Stands side format head (bodies ++ body ∷ [])))
+    → LeavesTogether old new (λ files. (found_of files ≡ Stands side format head bodies)
+    ⊎ (found_of files ≡ Stands side format head (bodies ++ body ∷ [])))
 adds_run body journal side format head bodies old new ne s run =
     weaker old new (ChangedOnly side (ReadsWithOrWithout body format head bodies) (now_of old.files))
-    (λ files. (found_of files ≡ Stands side format head bodies) ⊎ (found_of files ≡ Stands side format head (bodies ++ body ∷ []))) run
+    (λ files. (found_of files ≡ Stands side format head bodies)
+    ⊎ (found_of files ≡ Stands side format head (bodies ++ body ∷ []))) run
     (λ images c.
-    let root : images.root ≡ s.names.byte ∷ [] = root_left side old.files.root images.root s.names (c.elsewhere Root (not_root side ne)) in
+    let root : images.root ≡ s.names.byte ∷ [] =
+    root_left side old.files.root images.root s.names (c.elsewhere Root (not_root side ne)) in
     ⊎_elim
     (λ without. inl (found_standing images side s.names.byte format head bodies root s.names.lowest without))
-    (λ with_it. inr (found_standing images side s.names.byte format head (bodies ++ body ∷ []) root s.names.lowest with_it))
+    (λ with_it. inr (found_standing images side s.names.byte format head
+    (bodies ++ body ∷ []) root s.names.lowest with_it))
     c.there)
 
 -- the body was added
-pub one_more : {T E : Type 0} (result : Result T E) (body : List ℕ) (side : DiskName) (journal next : Extent) (old new : Trio File) (before after : File) → side ≢ Root
+pub one_more : {T E : Type 0} (result : Result T E) (body : List ℕ) (side : DiskName) (journal next : Extent)
+    (old new : Trio File) (before after : File) → side ≢ Root
     → SameElsewhere side old new → before ≡ pick side old → after ≡ pick side new
-    → OnOk result (HoldsOneMore body journal next before after) → OnOk result (StandsOneMore body side journal next old new)
+    → OnOk result (HoldsOneMore body journal next before after)
+    → OnOk result (StandsOneMore body side journal next old new)
 one_more (Err e) body side journal next old new before after ne same was is more = tt
 one_more (Ok x) body side journal next old new before after ne same was is more =
     λ format head bodies s. record {

@@ -19,7 +19,8 @@ pub found_blank : (files : Trio (List ℕ)) → files.root ≡ [] → found_of f
 found_blank files e = ap (λ (root : List ℕ). found_by root files) e
 
 -- a root that has a second byte
-pub found_long : (files : Trio (List ℕ)) (byte second : ℕ) (rest : List ℕ) → files.root ≡ byte ∷ second ∷ rest → found_of files ≡ Damaged Root 1
+pub found_long : (files : Trio (List ℕ)) (byte second : ℕ) (rest : List ℕ) → files.root ≡ byte ∷ second ∷ rest
+    → found_of files ≡ Damaged Root 1
 found_long files byte second rest e = ap (λ (root : List ℕ). found_by root files) e
 
 -- a root of one byte, which names this image
@@ -28,8 +29,10 @@ pub found_named : (files : Trio (List ℕ)) (side : DiskName) (byte : ℕ) → f
 found_named files side byte e names =
     ap (λ (root : List ℕ). found_by root files) e ∙ ap (λ (n : DiskName). found_in n (read_image (pick n files))) names
 
-pub found_standing : (files : Trio (List ℕ)) (side : DiskName) (byte format : ℕ) (head : Head) (bodies : List (List ℕ)) → files.root ≡ byte ∷ []
-    → chosen byte ≡ side → ReadsAs format head bodies (pick side files) → found_of files ≡ Stands side format head bodies
+pub found_standing : (files : Trio (List ℕ)) (side : DiskName) (byte format : ℕ) (head : Head) (bodies : List (List ℕ))
+    → files.root ≡ byte ∷ []
+    → chosen byte ≡ side → ReadsAs format head bodies (pick side files)
+    → found_of files ≡ Stands side format head bodies
 found_standing files side byte format head bodies e names reads =
     found_named files side byte e names ∙ ap (found_in side) (reads_found (pick side files) format head bodies reads)
 
@@ -39,13 +42,15 @@ found_damaged files side byte place e names damaged =
     found_named files side byte e names ∙ ap (found_in side) (damaged_found (pick side files) place damaged)
 
 -- what the named image reads as says what is found
-by_reading : (files : Trio (List ℕ)) (byte : ℕ) (r : Reading) → files.root ≡ byte ∷ [] → Finds (pick (chosen byte) files) r → IsFound files (found_in (chosen byte) r)
+by_reading : (files : Trio (List ℕ)) (byte : ℕ) (r : Reading) → files.root ≡ byte ∷ []
+    → Finds (pick (chosen byte) files) r → IsFound files (found_in (chosen byte) r)
 by_reading files byte (Broken place) e finds = inr (byte, e, refl, finds)
 by_reading files byte (Reads format head bodies) e finds = (byte, e, refl, finds)
 
 by_bytes : (files : Trio (List ℕ)) (root : List ℕ) → files.root ≡ root → IsFound files (found_by root files)
 by_bytes files [] e = e
-by_bytes files (byte ∷ []) e = by_reading files byte (read_image (pick (chosen byte) files)) e (found (pick (chosen byte) files))
+by_bytes files (byte ∷ []) e = by_reading files byte (read_image (pick (chosen byte) files)) e
+    (found (pick (chosen byte) files))
 by_bytes files (byte ∷ second ∷ rest) e = inl (refl, refl, (byte, second, rest, e))
 
 -- what is found says what the files are
@@ -57,7 +62,8 @@ pub is_found : (files : Trio (List ℕ)) (what : Found) → IsFound files what �
 is_found files Blank e = found_blank files e
 is_found files (Damaged disk place) i =
     ⊎_elim
-    (λ long. found_long files long.2.0 long.2.1 long.2.2 long.2.3 ∙ ap (λ (n : DiskName). Damaged n 1) (sym long.0) ∙ ap (Damaged disk) (sym long.1))
+    (λ long. found_long files long.2.0 long.2.1 long.2.2 long.2.3 ∙ ap (λ (n : DiskName). Damaged n 1) (sym long.0)
+    ∙ ap (Damaged disk) (sym long.1))
     (λ one. found_damaged files disk one.0 place one.1 one.2 one.3)
     i
 is_found files (Stands side format head bodies) i = found_standing files side i.0 format head bodies i.1 i.2 i.3

@@ -1,6 +1,7 @@
 -- The root was read, and then the image that it names.
 use Rattle.std.specs.Prelude.{IsTrue}
-use Rattle.std.proofs.Common.{◌≡◌, ◌≢◌, ⊎_elim, ℕ, ◌<◌, ◌≤◌, Bool, true, false, List, [], ◌∷◌, length, Some, None, Result, Ok, Err, IfOk, refl, sym, ◌∙◌, ap, subst, arith}
+use Rattle.std.proofs.Common.{◌≡◌, ◌≢◌, ⊎_elim, ℕ, ◌<◌, ◌≤◌, Bool, true, false, List, [], ◌∷◌, length, Some, None}
+use Rattle.std.proofs.Common.{Result, Ok, Err, IfOk, refl, sym, ◌∙◌, ap, subst, arith}
 use Rattle.disk_model.specs.Device.{File, IsSettled}
 use Rattle.disk_model.specs.Front.{front_of}
 use Rattle.disk_model.specs.declared.synced.Front.{Front}
@@ -25,7 +26,8 @@ use Rattle.volume.proofs.Standing.{still_names, not_root}
 use Rattle.volume.proofs.Roots.{never_root}
 
 -- where one disk reads as before and the others are what they were, all three read as before
-pub same_reads : (name : DiskName) (old new : Trio File) → (pick name new).seen ≡ (pick name old).seen → SameElsewhere name old new → seen_of new ≡ seen_of old
+pub same_reads : (name : DiskName) (old new : Trio File) → (pick name new).seen ≡ (pick name old).seen
+    → SameElsewhere name old new → seen_of new ≡ seen_of old
 same_reads name old new one rest =
     same_trio (seen_of new) (seen_of old) (λ n.
     pick_each (λ (f : File). f.seen) n new
@@ -36,12 +38,14 @@ same_reads name old new one rest =
     ∙ sym (pick_each (λ (f : File). f.seen) n old))
 
 -- one look
-pub looks : (name : DiskName) (old new : Devices) → (pick name new.files).seen ≡ (pick name old.files).seen → SameElsewhere name old.files new.files
+pub looks : (name : DiskName) (old new : Devices) → (pick name new.files).seen ≡ (pick name old.files).seen
+    → SameElsewhere name old.files new.files
     → LeavesTogether old new (AreCrashImages (now_of old.files)) → OnlyLooks old new
 looks name old new one rest run = record { seen = same_reads name old.files new.files one rest; leaves = run }
 
 -- where all three read as before, one does
-pub one_read : (name : DiskName) (old new : Trio File) → seen_of new ≡ seen_of old → (pick name new).seen ≡ pick name (seen_of old)
+pub one_read : (name : DiskName) (old new : Trio File) → seen_of new ≡ seen_of old
+    → (pick name new).seen ≡ pick name (seen_of old)
 one_read name old new same =
     sym (pick_each (λ (f : File). f.seen) name new) ∙ ap (λ (t : Trio (List ℕ)). pick name t) same
 
@@ -53,7 +57,8 @@ looks_on old mid new first then = record {
 }
 
 -- how a file that is not empty begins
-front_some : (bytes : List ℕ) (front : Front) → front_of bytes ≡ Some front → (rest : List ℕ) × (bytes ≡ front.first ∷ rest) × (front.length ≡ length bytes)
+front_some : (bytes : List ℕ) (front : Front) → front_of bytes ≡ Some front → (rest : List ℕ)
+    × (bytes ≡ front.first ∷ rest) × (front.length ≡ length bytes)
 front_some [] front e = absurd (cc e)
 front_some (byte ∷ rest) front e =
     let parts : front ≡ record { first = byte; length = length (byte ∷ rest) } = cc e in
@@ -77,19 +82,22 @@ not_blank [] front e n = absurd (cc e)
 not_blank (byte ∷ rest) front e n = absurd (cc n)
 
 -- a root of one byte
-pub one_names : (root : List ℕ) (front : Front) (side : DiskName) → front_of root ≡ Some front → front.length ≤ 1 → chosen front.first ≡ side → RootNames root (Ok side)
+pub one_names : (root : List ℕ) (front : Front) (side : DiskName) → front_of root ≡ Some front → front.length ≤ 1
+    → chosen front.first ≡ side → RootNames root (Ok side)
 one_names root front side e short names =
     let is = front_some root front e in
     let none : is.0 ≡ [] = nothing_more is.0 (omega (arith, short, is.2, ap length is.1)) in
     (front.first, is.1 ∙ ap (λ (rest : List ℕ). front.first ∷ rest) none, names)
 
 -- a root of more
-two_bytes : (root : List ℕ) → 1 < length root → (byte : ℕ) × (second : ℕ) × (rest : List ℕ) × (root ≡ byte ∷ second ∷ rest)
+two_bytes : (root : List ℕ) → 1 < length root → (byte : ℕ) × (second : ℕ) × (rest : List ℕ)
+    × (root ≡ byte ∷ second ∷ rest)
 two_bytes [] h = absurd (omega (arith, h))
 two_bytes (byte ∷ []) h = absurd (omega (arith, h))
 two_bytes (byte ∷ second ∷ rest) h = (byte, second, rest, refl)
 
-pub long_names : (root : List ℕ) (front : Front) → front_of root ≡ Some front → 1 < front.length → RootNames root (Err (fault.Damaged Root 1))
+pub long_names : (root : List ℕ) (front : Front) → front_of root ≡ Some front → 1 < front.length
+    → RootNames root (Err (fault.Damaged Root 1))
 long_names root front e long = (refl, refl, two_bytes root (omega (arith, long, (front_some root front e).2)))
 
 pub some_long : (root : List ℕ) × RootNames root (Err (fault.Damaged Root 1))
@@ -99,17 +107,20 @@ pub some_one : (byte : ℕ) (side : DiskName) → chosen byte ≡ side → (root
 some_one byte side names = (byte ∷ [], (byte, refl, names))
 
 -- what a root names is an image
-pub names_image : (root : List ℕ) (result : Result DiskName StoreFault) → RootNames root result → IfOk result (λ side. side ≢ Root)
+pub names_image : (root : List ℕ) (result : Result DiskName StoreFault) → RootNames root result
+    → IfOk result (λ side. side ≢ Root)
 names_image root (Ok side) n = never_root n.0 side n.2
 names_image root (Err why) n = tt
 
 -- a root that lies on its disk names it
-pub root_names : (root : File) (result : Result DiskName StoreFault) → RootNames root.seen result → IsSettled root → IfOk result (λ side. Names side root)
+pub root_names : (root : File) (result : Result DiskName StoreFault) → RootNames root.seen result → IsSettled root
+    → IfOk result (λ side. Names side root)
 root_names root (Ok side) n settled = record { byte = n.0; lowest = n.2; seen = n.1; durable = settled }
 root_names root (Err why) n settled = tt
 
 -- a word that is told has a witness whether or not it is told: what the disk holds, or what would give the answer
-pub witnessed : {A : Type 0} (tells : Bool) (told other : A) (P : A → Type 0) → (IsTrue tells → P told) → P other → (x : A) × (IsTrue tells → x ≡ told) × P x
+pub witnessed : {A : Type 0} (tells : Bool) (told other : A) (P : A → Type 0) → (IsTrue tells → P told) → P other
+    → (x : A) × (IsTrue tells → x ≡ told) × P x
 witnessed true told other P p q = (told, (λ t. refl), p refl)
 witnessed false told other P p q = (other, (λ t. absurd (cc t)), q)
 
@@ -123,8 +134,10 @@ pick_read Left root stored ne = refl
 pick_read Right root stored ne = refl
 
 -- what follows from the bytes of the root and of its image holds of three files, which are those that are told
-pub read_files : (tells : Bool) (told : Trio (List ℕ)) (root stored : List ℕ) (side : DiskName) (byte : ℕ) (P : Trio (List ℕ) → Type 0)
-    → (IsTrue tells → root ≡ told.root) → (IsTrue tells → stored ≡ pick side told) → root ≡ byte ∷ [] → chosen byte ≡ side
+pub read_files : (tells : Bool) (told : Trio (List ℕ)) (root stored : List ℕ) (side : DiskName) (byte : ℕ)
+    (P : Trio (List ℕ) → Type 0)
+    → (IsTrue tells → root ≡ told.root) → (IsTrue tells → stored ≡ pick side told) → root ≡ byte ∷ []
+    → chosen byte ≡ side
     → ((files : Trio (List ℕ)) → files.root ≡ byte ∷ [] → pick side files ≡ stored → P files)
     → (files : Trio (List ℕ)) × (IsTrue tells → files ≡ told) × P files
 read_files tells told root stored side byte P root_is stored_is one names then =
@@ -133,14 +146,17 @@ read_files tells told root stored side byte P root_is stored_is one names then =
     (then (read_of root stored) one (pick_read side root stored (never_root byte side names)))
 
 -- a root that names no image
-root_fault : (root : List ℕ) (files : Trio (List ℕ)) (why : StoreFault) → files.root ≡ root → RootNames root (Err why) → OpensStore files (Err why)
+root_fault : (root : List ℕ) (files : Trio (List ℕ)) (why : StoreFault) → files.root ≡ root → RootNames root (Err why)
+    → OpensStore files (Err why)
 root_fault root files fault.Blank e n = found_blank files (e ∙ n)
 root_fault root files (fault.Damaged disk place) e n =
-    found_long files n.2.0 n.2.1 n.2.2 (e ∙ n.2.3) ∙ ap (λ (d : DiskName). Damaged d 1) (sym n.0) ∙ ap (Damaged disk) (sym n.1)
+    found_long files n.2.0 n.2.1 n.2.2 (e ∙ n.2.3) ∙ ap (λ (d : DiskName). Damaged d 1) (sym n.0)
+    ∙ ap (Damaged disk) (sym n.1)
 root_fault root files fault.Disk e n = tt
 root_fault root files fault.Memory e n = tt
 
-pub read_root : (tells : Bool) (told : Trio (List ℕ)) (root : List ℕ) (why : StoreFault) → (IsTrue tells → root ≡ told.root) → RootNames root (Err why)
+pub read_root : (tells : Bool) (told : Trio (List ℕ)) (root : List ℕ) (why : StoreFault)
+    → (IsTrue tells → root ≡ told.root) → RootNames root (Err why)
     → (files : Trio (List ℕ)) × (IsTrue tells → files ≡ told) × OpensStore files (Err why)
 read_root tells told root why is n =
     witnessed tells told (read_of root root) (λ files. OpensStore files (Err why))
@@ -148,8 +164,10 @@ read_root tells told root why is n =
     (root_fault root (read_of root root) why refl n)
 
 -- the root names this side, and its image was opened
-pub opened_store : (journal : Extent) (side : DiskName) (format : ℕ) (head : Head) (bodies : List (List ℕ)) (mid new : Trio File) → side ≢ Root
-    → Names side mid.root → SameElsewhere side mid new → Holds journal format head bodies (pick side new) → IsStore journal side format head bodies new
+pub opened_store : (journal : Extent) (side : DiskName) (format : ℕ) (head : Head) (bodies : List (List ℕ))
+    (mid new : Trio File) → side ≢ Root
+    → Names side mid.root → SameElsewhere side mid new → Holds journal format head bodies (pick side new)
+    → IsStore journal side format head bodies new
 opened_store journal side format head bodies mid new ne n same h = record {
   names = still_names side side mid new same (not_root side ne) n;
   image = h;

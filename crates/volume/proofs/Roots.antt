@@ -1,5 +1,6 @@
 -- The byte of the root while it is written: whatever a crash leaves of it names one of the two images.
-use Rattle.std.proofs.Common.{◌≡◌, ◌≢◌, ◌⊎◌, ⊎_elim, inl, inr, ℕ, ◌≤◌, ◌%◌, ◌==◌, Bool, true, false, cond, List, [], ◌∷◌, Result, Ok, Err, OnOk, length, get_or, refl, ◌∙◌, arith}
+use Rattle.std.proofs.Common.{◌≡◌, ◌≢◌, ◌⊎◌, ⊎_elim, inl, inr, ℕ, ◌≤◌, ◌%◌, ◌==◌, Bool, true, false, cond, List, []}
+use Rattle.std.proofs.Common.{◌∷◌, Result, Ok, Err, OnOk, length, get_or, refl, ◌∙◌, arith}
 use Rattle.disk_model.specs.Disk.{Torn, overwritten}
 use Rattle.disk_model.specs.Device.{File, IsSettled}
 use Rattle.disks.specs.declared.name.DiskName.{DiskName}
@@ -37,8 +38,10 @@ byte_written (b ∷ []) byte h = refl
 byte_written (b ∷ c ∷ rest) byte h = absurd (omega (arith, h))
 
 -- the byte was written and synced
-pub named : {T E : Type 0} (result : Result T E) (side : DiskName) (byte : ℕ) (old new : File) → chosen byte ≡ side → length old.seen ≤ 1
-    → OnOk result (new.seen ≡ overwritten old.seen 0 (byte ∷ [])) → OnOk result (IsSettled new) → OnOk result (Names side new)
+pub named : {T E : Type 0} (result : Result T E) (side : DiskName) (byte : ℕ) (old new : File) → chosen byte ≡ side
+    → length old.seen ≤ 1
+    → OnOk result (new.seen ≡ overwritten old.seen 0 (byte ∷ [])) → OnOk result (IsSettled new)
+    → OnOk result (Names side new)
 named (Err e) side byte old new lowest short written durable = tt
 named (Ok x) side byte old new lowest short written durable = record {
   byte = byte;
@@ -59,7 +62,8 @@ named_one false Left Right a b c = inr refl
 named_one true Right Left a b c = inr refl
 named_one false Right Left a b c = inl refl
 
-pub one_of_two : (byte : ℕ) (side other : DiskName) → side ≢ Root → other ≢ Root → side ≢ other → (chosen byte ≡ side) ⊎ (chosen byte ≡ other)
+pub one_of_two : (byte : ℕ) (side other : DiskName) → side ≢ Root → other ≢ Root → side ≢ other → (chosen byte ≡ side)
+    ⊎ (chosen byte ≡ other)
 one_of_two byte side other a b c = named_one (byte % 2 == 0) side other a b c
 
 -- the root is not an image
@@ -71,7 +75,8 @@ never_root byte side names e = not_named (byte % 2 == 0) (names ∙ e)
     not_named false e = absurd (cc e)
 
 -- whichever of two whole images a byte names, it is found
-pub either_found : (files : Trio (List ℕ)) (byte : ℕ) (side other : DiskName) (f g : ℕ) (h k : Head) (bs cs : List (List ℕ)) → files.root ≡ byte ∷ []
+pub either_found : (files : Trio (List ℕ)) (byte : ℕ) (side other : DiskName) (f g : ℕ) (h k : Head)
+    (bs cs : List (List ℕ)) → files.root ≡ byte ∷ []
     → side ≢ Root → other ≢ Root → side ≢ other → ReadsAs f h bs (pick side files) → ReadsAs g k cs (pick other files)
     → (found_of files ≡ Stands side f h bs) ⊎ (found_of files ≡ Stands other g k cs)
 either_found files byte side other f g h k bs cs e a b c one two =

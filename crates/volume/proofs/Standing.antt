@@ -19,14 +19,18 @@ use Rattle.volume.proofs.Finding.{found_standing}
 
 -- a crash leaves of a settled file just what a read gives
 pub settled_file : (file : File) (image : List ℕ) → IsSettled file → IsCrashImage file.now image → image ≡ file.seen
-settled_file file image settled i = only_settled file.seen image (subst (λ (u : Unsynced). IsCrashImage u image) settled i)
+settled_file file image settled i = only_settled file.seen image
+    (subst (λ (u : Unsynced). IsCrashImage u image) settled i)
 
 -- what a crash may leave of one of three files
-pub of_one : (files : Trio File) (name : DiskName) (image : List ℕ) → IsCrashImage (pick name (now_of files)) image → IsCrashImage (pick name files).now image
-of_one files name image i = subst (λ (u : Unsynced). IsCrashImage u image) (pick_each (λ (f : File). f.now) name files) i
+pub of_one : (files : Trio File) (name : DiskName) (image : List ℕ) → IsCrashImage (pick name (now_of files)) image
+    → IsCrashImage (pick name files).now image
+of_one files name image i = subst (λ (u : Unsynced). IsCrashImage u image)
+    (pick_each (λ (f : File). f.now) name files) i
 
 -- a crash leaves the byte of the root
-pub root_left : (side : DiskName) (root : File) (image : List ℕ) (n : Names side root) → IsCrashImage root.now image → image ≡ n.byte ∷ []
+pub root_left : (side : DiskName) (root : File) (image : List ℕ) (n : Names side root) → IsCrashImage root.now image
+    → image ≡ n.byte ∷ []
 root_left side root image n i = settled_file root image n.durable i ∙ n.seen
 
 -- and the image of the journal
@@ -36,13 +40,16 @@ image_left journal format head bodies file image h i =
     subst (ReadsAs format head bodies) (sym (settled_file file image h.durable i)) h.reads
 
 -- one image of a store is left whole
-pub side_left : (journal : Extent) (side : DiskName) (format : ℕ) (head : Head) (bodies : List (List ℕ)) (files : Trio File) (images : Trio (List ℕ))
+pub side_left : (journal : Extent) (side : DiskName) (format : ℕ) (head : Head) (bodies : List (List ℕ))
+    (files : Trio File) (images : Trio (List ℕ))
     → Holds journal format head bodies (pick side files) → IsCrashImage (pick side (now_of files)) (pick side images)
     → ReadsAs format head bodies (pick side images)
 side_left journal side format head bodies files images h i =
-    image_left journal format head bodies (pick side files) (pick side images) h (of_one files side (pick side images) i)
+    image_left journal format head bodies (pick side files) (pick side images) h
+    (of_one files side (pick side images) i)
 
-pub store_stands : (journal : Extent) (side : DiskName) (format : ℕ) (head : Head) (bodies : List (List ℕ)) (files : Trio File)
+pub store_stands : (journal : Extent) (side : DiskName) (format : ℕ) (head : Head) (bodies : List (List ℕ))
+    (files : Trio File)
     → IsStore journal side format head bodies files → StoreStands journal side format head bodies files
 store_stands journal side format head bodies files s = record {
   read = found_standing (seen_of files) side s.names.byte format head bodies s.names.seen s.names.lowest
@@ -54,11 +61,15 @@ store_stands journal side format head bodies files s = record {
 }
 
 -- the files of two names are another's where these two are the same
-pub still_holds : (journal : Extent) (format : ℕ) (head : Head) (bodies : List (List ℕ)) (name other : DiskName) (old new : Trio File)
-    → SameElsewhere name old new → other ≢ name → Holds journal format head bodies (pick other old) → Holds journal format head bodies (pick other new)
-still_holds journal format head bodies name other old new same ne h = subst (Holds journal format head bodies) (sym (same other ne)) h
+pub still_holds : (journal : Extent) (format : ℕ) (head : Head) (bodies : List (List ℕ)) (name other : DiskName)
+    (old new : Trio File)
+    → SameElsewhere name old new → other ≢ name → Holds journal format head bodies (pick other old)
+    → Holds journal format head bodies (pick other new)
+still_holds journal format head bodies name other old new same ne h =
+    subst (Holds journal format head bodies) (sym (same other ne)) h
 
-pub still_names : (side name : DiskName) (old new : Trio File) → SameElsewhere name old new → Root ≢ name → Names side old.root → Names side new.root
+pub still_names : (side name : DiskName) (old new : Trio File) → SameElsewhere name old new → Root ≢ name
+    → Names side old.root → Names side new.root
 still_names side name old new same ne n = subst (Names side) (sym (same Root ne)) n
 
 -- another disk than the root
@@ -69,4 +80,5 @@ not_root name ne e = ne (sym e)
 pub written_whole : {T E : Type 0} (result : Result T E) (bytes : List ℕ) (file there : File) → file ≡ there
     → OnOk result (file.seen ≡ bytes) → OnOk result (IsSettled file) → OnOk result (IsWhole bytes there)
 written_whole (Err e) bytes file there is written durable = tt
-written_whole (Ok x) bytes file there is written durable = subst (IsWhole bytes) is (record { seen = written; durable = durable })
+written_whole (Ok x) bytes file there is written durable =
+    subst (IsWhole bytes) is (record { seen = written; durable = durable })

@@ -53,4 +53,5 @@ LeavesOldOrNew side spelled old new =
     (head : Head) (bodies : List (List ℕ)) → Spells head bodies spelled
     → (journal : Extent) (from : DiskName) (format : ℕ) (former : Head) (rows : List (List ℕ)) → from ≢ side
     → IsStore journal from format former rows old.files
-    → LeavesTogether old new (λ files. (found_of files ≡ Stands from format former rows) ⊎ (found_of files ≡ Stands side 2 head bodies))
+    → LeavesTogether old new (λ files. (found_of files ≡ Stands from format former rows)
+    ⊎ (found_of files ≡ Stands side 2 head bodies))

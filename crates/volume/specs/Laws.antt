@@ -13,9 +13,11 @@ use Rattle.volume.specs.Store.{chosen, Found, found_of, IsStore}
 use Rattle.volume.specs.Store.Found.{Blank, Damaged, Stands}
 
 -- what stands is found, by the reads and after a crash, whatever the other image holds
-pub record StoreStands (journal : Extent) (side : DiskName) (format : ℕ) (head : Head) (bodies : List (List ℕ)) (files : Trio File) : Type 0 where
+pub record StoreStands (journal : Extent) (side : DiskName) (format : ℕ) (head : Head) (bodies : List (List ℕ))
+    (files : Trio File) : Type 0 where
   pub read : found_of (seen_of files) ≡ Stands side format head bodies
-  pub left : (images : Trio (List ℕ)) → AreCrashImages (now_of files) images → found_of images ≡ Stands side format head bodies
+  pub left : (images : Trio (List ℕ)) → AreCrashImages (now_of files) images
+      → found_of images ≡ Stands side format head bodies
 
 abbrev pub StoresStand : Type 0
 StoresStand =

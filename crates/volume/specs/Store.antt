@@ -15,8 +15,8 @@ use Rattle.journal.specs.Reader.Reading.{Damaged as Broken, Stands as Reads}
 abbrev pub chosen : ℕ → DiskName
 chosen byte = if byte % 2 == 0 then Left else Right
 
--- What is found of a store: no database; damage of one of the files, at a place; or an image that stands, with its side,
--- its format, its head and its bodies.
+-- What is found of a store: no database; damage of one of the files, at a place; or an image that stands, with its
+-- side, its format, its head and its bodies.
 pub data Found : Type 0 where
   Blank : Found
   Damaged : DiskName → ℕ → Found
@@ -46,7 +46,8 @@ pub record Names (side : DiskName) (root : File) : Type 0 where
 
 -- The store stands on the disks: the root names this side, and the image there is that of the journal, which a crash
 -- leaves as it is. The other image may hold anything.
-pub record IsStore (journal : Extent) (side : DiskName) (format : ℕ) (head : Head) (bodies : List (List ℕ)) (files : Trio File) : Type 0 where
+pub record IsStore (journal : Extent) (side : DiskName) (format : ℕ) (head : Head) (bodies : List (List ℕ))
+    (files : Trio File) : Type 0 where
   pub names : Names side files.root
   pub image : Holds journal format head bodies (pick side files)
 

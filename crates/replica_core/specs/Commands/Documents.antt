@@ -7,12 +7,14 @@ use Rattle.conflicts.specs.Document.{Document as DocumentState, in_order, is_con
 use Rattle.conflicts.specs.State.{State, Text}
 use Rattle.conflicts.specs.declared.member.Member.{Member}
 use Rattle.replica_state.specs.Held.{Lists, meaning_of}
-use Rattle.replica_core.specs.Commands.Effects.{Effect, Refusal, Conflict, Document, Generation, Line, NoDocument, prints}
+use Rattle.replica_core.specs.Commands.Effects.{Effect, Refusal, Conflict, Document, Generation, Line, NoDocument}
+use Rattle.replica_core.specs.Commands.Effects.{prints}
 use Rattle.replica_reads.specs.Documents.{got, ids_of}
 
 -- the line of a document, if it is listed
 abbrev pub document_line : State → Bool → Text → Option Line
-document_line s deleted id = option_map (λ m. Document id m (is_conflicted (s.document id))) (got deleted (s.document id))
+document_line s deleted id = option_map (λ m. Document id m (is_conflicted (s.document id)))
+    (got deleted (s.document id))
 
 -- the lines of the documents with these ids
 abbrev pub document_lines : State → Bool → List Text → List Line

@@ -1,5 +1,5 @@
--- The commands that write documents: create, put, delete, resolve and resolve-deleted. Each makes one call, and prints the
--- revision that it made.
+-- The commands that write documents: create, put, delete, resolve and resolve-deleted. Each makes one call, and prints
+-- the revision that it made.
 use Rattle.std.specs.Prelude.{ℕ, ◌+◌, List, length, Option, Some, None, Result, unwrap_or}
 use Rattle.content.specs.Tree.{Tree}
 use Rattle.u1_base.specs.NewId.{new_id_text}

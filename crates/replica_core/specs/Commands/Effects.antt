@@ -1,5 +1,5 @@
--- What a command comes to: it is refused, or it makes steps and prints lines. The lines are given as values; how each one
--- is spelled is told where it is printed.
+-- What a command comes to: it is refused, or it makes steps and prints lines. The lines are given as values; how each
+-- one is spelled is told where it is printed.
 use Rattle.std.specs.Prelude.{ℕ, Bool, List, [], ◌∷◌, option_to_list, Result, Ok, Err}
 use Rattle.index_tables.specs.Order.{Key}
 use Rattle.translog.specs.declared.entry.Change.{Change}
@@ -14,8 +14,8 @@ use Rattle.replica_core.specs.declared.calls.documents.PutFault.{PutFault}
 use Rattle.replica_core.specs.declared.calls.indexes.IndexFault.{IndexFault}
 use Rattle.replica_core.specs.declared.calls.resolutions.ResolveDocFault.{ResolveDocFault}
 
--- why a command is refused, as the call or the reading refuses that it makes. No definition gives a failure: a step that is
--- too long, a disk's fault, or that memory runs out
+-- why a command is refused, as the call or the reading refuses that it makes. No definition gives a failure: a step
+-- that is too long, a disk's fault, or that memory runs out
 pub data Refusal : Type 0 where
   Edit : PutFault → Refusal
   Resolve : ResolveDocFault → Refusal

@@ -6,7 +6,8 @@ use Rattle.replica_state.specs.Held.{Lists, meaning_of}
 use Rattle.replica_state.specs.Keyed.{keyed}
 use Rattle.replica_core.specs.Commands.Documents.{document_lines}
 use Rattle.replica_core.specs.CallsDecide.{create_decides, delete_index_decides}
-use Rattle.replica_core.specs.Commands.Effects.{Effect, Index, IndexDeleted, IndexMade, Keyed, OfIndex, Query, Refusal, calls, prints}
+use Rattle.replica_core.specs.Commands.Effects.{Effect, Index, IndexDeleted, IndexMade, Keyed, OfIndex, Query, Refusal}
+use Rattle.replica_core.specs.Commands.Effects.{calls, prints}
 use Rattle.replica_core.specs.declared.calls.indexes.IndexFault.TheVariants.{IndexUnknown}
 use Rattle.replica_reads.specs.Answers.{keys_by}
 use Rattle.replica_reads.specs.Indexes.{queried, ranged}
@@ -36,7 +37,8 @@ of_index None effect = Err (OfIndex IndexUnknown)
 of_index (Some exprs) effect = effect exprs
 
 abbrev pub query_effect : Lists → Text → List Text → Result Effect Refusal
-query_effect l name values = of_index ((meaning_of l).index name) (λ exprs. answer_effect l (queried exprs l.docs values))
+query_effect l name values = of_index ((meaning_of l).index name)
+    (λ exprs. answer_effect l (queried exprs l.docs values))
 
 -- range: an end that is left out bounds nothing
 abbrev pub range_effect : Lists → Text → Option Key → Option Key → Result Effect Refusal

@@ -27,7 +27,8 @@ pub(crate) fn accept_made<R: Replica>(
     requires ready { R.is_open replica.old }
     requires fits { FitsDocument ((state_in (R.known replica.old)).document id.now) accept }
     ensures { IsDone R.known R.is_open R.crash commit_failure
-        (Answers accept.rev (Some (accept_next seed (state_in (R.known replica.old)) id.now accept None)))
+        (Answers accept.rev (Some
+        (accept_next seed (state_in (R.known replica.old)) id.now accept None)))
         replica.old replica.new result }
 {
     let rev = accept.rev.copy()?;
@@ -44,7 +45,8 @@ pub(crate) fn next_entry(
     accept: Accept,
     moved: Option<Move>,
 ) -> Result<Step, Memory>
-    ensures { IfOk result (λ step. step_of step ≡ accept_next seed (meaning state.now) id.now accept moved) }
+    ensures { IfOk result (λ step. step_of step
+        ≡ accept_next seed (meaning state.now) id.now accept moved) }
 {
     let generation = state.log().generation() + 1;
     let trans = TransId::made(alloc, seed, IdKind::Trans, generation)?;

@@ -18,7 +18,8 @@ pub(crate) fn commit_for<R: Replica, A: Drop>(
 ) -> Result<A, CommitFault>
     requires ready { R.is_open replica.old }
     requires fits { IfSome step (λ x. Fits (state_in (R.known replica.old)) (step_of x)) }
-    ensures { IsDone R.known R.is_open R.crash commit_failure (Answers answer (option_map step_of step)) replica.old replica.new result }
+    ensures { IsDone R.known R.is_open R.crash commit_failure
+        (Answers answer (option_map step_of step)) replica.old replica.new result }
 {
     match step {
         Some(step) => {

@@ -26,7 +26,8 @@ pub enum PutFault {
     NoDocument,
     /// The document has more than one member.
     Conflicted,
-    /// The given revision is the current one, and another one was named, or none although the document is live.
+    /// The given revision is the current one, and another one was named, or none although the
+    /// document is live.
     RevisionConflict(Clock),
     /// The current member has no content already.
     AlreadyDeleted,
@@ -117,8 +118,9 @@ impl From<CommitFault> for PutFault {
     }
 }
 
-/// Gives the document a content, and answers its new revision. `rev` names the revision that the edit changes; an edit that
-/// makes a document, or that gives a deleted one a content again, may name none.
+/// Gives the document a content, and answers its new revision. `rev` names the revision that the
+/// edit changes; an edit that makes a document, or that gives a deleted one a content again, may
+/// name none.
 ///
 /// The transaction id of the log's entry is made of the seed and the generation.
 pub fn put_doc<R: Replica>(
@@ -131,7 +133,8 @@ pub fn put_doc<R: Replica>(
 ) -> Result<Clock, PutFault>
     requires { R.is_open replica.old }
     ensures { IsDone R.known R.is_open R.crash put_failure
-        (put_decides seed id.now (option_copied rev.entry) content.now (state_in (R.known replica.old)))
+        (put_decides seed id.now (option_copied rev.entry) content.now
+        (state_in (R.known replica.old)))
         replica.old replica.new result }
 {
     let edit = edit_of(alloc, replica.state(), id, rev, content)?;
@@ -164,7 +167,8 @@ fn edit_of(
     content: &Content,
 ) -> Result<Accept, EditFault>
     ensures made { (result ≡ Err EditFault.Memory)
-        ⊎ (result ≡ edited ((meaning state.now).document id.now) (option_copied rev.entry) content.now state.now.uid) }
+        ⊎ (result ≡ edited ((meaning state.now).document id.now)
+        (option_copied rev.entry) content.now state.now.uid) }
     ensures fits { IfOk result (FitsDocument ((meaning state.now).document id.now)) }
 {
     law_makings();

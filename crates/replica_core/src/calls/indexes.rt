@@ -1,5 +1,6 @@
 //! Indexes that are created and deleted.
-ghost use Rattle.std.specs.Prelude.{◌≡◌, ◌↔◌, Err, IfNone, IsSome, IsTrue, None, Ok, Some, if◌then◌else◌, map};
+ghost use Rattle.std.specs.Prelude.{◌≡◌, ◌↔◌, Err, IfNone, IsSome, IsTrue, None, Ok, Some};
+ghost use Rattle.std.specs.Prelude.{if◌then◌else◌, map};
 ghost use Rattle.std.specs.Option.{option_map};
 ghost use Rattle.conflicts.specs.State.{IndexCreated, IndexDeleted};
 ghost use Rattle.expr_parser.specs.FormOf.{form_of};
@@ -85,7 +86,8 @@ impl From<CommitFault> for IndexFault {
     }
 }
 
-/// Creates an index over all documents. An index of the name that has the same expressions is accepted as it is.
+/// Creates an index over all documents. An index of the name that has the same expressions is
+/// accepted as it is.
 pub fn create_index<R: Replica>(
     replica: &mut R,
     name: &IndexName,
@@ -154,7 +156,8 @@ fn drop_index<R: Replica>(replica: &mut R, name: &IndexName) -> Result<(), Commi
 
 // Whether the index of the name has these expressions. None where there is no such index.
 fn is_alike(state: &State, name: &IndexName, exprs: &IndexExprs) -> Option<bool>
-    ensures value { result ≡ option_map (λ kept. same_exprs kept exprs.now.texts) ((meaning state.now).index name.now) }
+    ensures value { result ≡ option_map (λ kept. same_exprs kept exprs.now.texts)
+        ((meaning state.now).index name.now) }
     ensures none { IfNone result ((meaning state.now).index name.now ≡ None) }
 {
     match state.index_table(name) {

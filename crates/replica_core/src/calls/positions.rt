@@ -43,7 +43,8 @@ fn check_from(kept: &Position, to: &Position) -> Result<(), TakeFault>
 
 /// The move as a step; none where this place is kept already.
 pub(crate) fn step_of_move(state: &State, moved: &Move) -> Result<Option<Step>, Memory>
-    ensures { IfOk result (λ step. option_map step_of step ≡ move_step (meaning state.now) moved.now) }
+    ensures { IfOk result (λ step. option_map step_of step
+        ≡ move_step (meaning state.now) moved.now) }
 {
     if is_kept(state, moved) {
         return Ok(None);

@@ -9,7 +9,8 @@ ghost use Rattle.replica_state.specs.Steps.{step_of};
 ghost use Rattle.replica_core.specs.Replica.{state_in};
 ghost use Rattle.replica_core.specs.Calls.{Answers, IsDone};
 ghost use Rattle.replica_core.specs.CallsChecks.{Checks};
-ghost use Rattle.replica_core.specs.CallsDecide.{kept_place, move_decides, move_step, take_answers, take_decides, take_step};
+ghost use Rattle.replica_core.specs.CallsDecide.{kept_place, move_decides, move_step, take_answers};
+ghost use Rattle.replica_core.specs.CallsDecide.{take_decides, take_step};
 ghost use Rattle.replica_core.specs.CallsFaults.{commit_failure, take_failure};
 
 use crate::calls::accepting::next_entry;
@@ -27,7 +28,8 @@ use u1_base::{DocId, Memory, Position};
 /// Why a revision or a position of a peer was not taken.
 #[derive(Debug, PartialEq, Eq, Drop)]
 pub enum TakeFault {
-    /// The position goes back behind the one that is kept, or has another transaction id at its generation.
+    /// The position goes back behind the one that is kept, or has another transaction id at its
+    /// generation.
     LogCheck {
         /// The position that is kept.
         mine: Position,
@@ -109,11 +111,12 @@ impl From<CommitFault> for TakeFault {
     }
 }
 
-/// Decides on a revision of the document that a peer hands over, and moves the peer's position in the same step. `save` is
-/// set where this replica asked for the revision: then one that is in conflict is kept.
+/// Decides on a revision of the document that a peer hands over, and moves the peer's position in
+/// the same step. `save` is set where this replica asked for the revision: then one that is in
+/// conflict is kept.
 ///
-/// Where nothing is accepted the position moves alone, and where it stands there already no step is made. The transaction
-/// id of the log's entry is made of the seed and the generation.
+/// Where nothing is accepted the position moves alone, and where it stands there already no step is
+/// made. The transaction id of the log's entry is made of the seed and the generation.
 pub fn put_if_newer<R: Replica>(
     alloc: Global,
     replica: &mut R,
@@ -153,8 +156,11 @@ fn checked_receipt(
     moved: &Move,
 ) -> Result<Taken, TakeFault>
     ensures checked { Checks (meaning state.now) moved.now result }
-    ensures taken { IfOk result (λ taken. taken ≡ decides ((meaning state.now).document id.now) incoming.now save state.now.uid) }
-    ensures fits { IfOk result (λ taken. IfSome taken.accepted (FitsDocument ((meaning state.now).document id.now))) }
+    ensures taken { IfOk result
+        (λ taken. taken ≡ decides ((meaning state.now).document id.now) incoming.now save
+        state.now.uid) }
+    ensures fits { IfOk result
+        (λ taken. IfSome taken.accepted (FitsDocument ((meaning state.now).document id.now))) }
 {
     check_move(state, moved)?;
     Ok(receipt_of(alloc, state, id, incoming, save)?)
@@ -168,8 +174,11 @@ fn receipt_of(
     incoming: &Member,
     save: bool,
 ) -> Result<Taken, Memory>
-    ensures taken { IfOk result (λ taken. taken ≡ decides ((meaning state.now).document id.now) incoming.now save state.now.uid) }
-    ensures fits { IfOk result (λ taken. IfSome taken.accepted (FitsDocument ((meaning state.now).document id.now))) }
+    ensures taken { IfOk result
+        (λ taken. taken ≡ decides ((meaning state.now).document id.now) incoming.now save
+        state.now.uid) }
+    ensures fits { IfOk result
+        (λ taken. IfSome taken.accepted (FitsDocument ((meaning state.now).document id.now))) }
 {
     law_makings();
     law_members();
@@ -186,10 +195,13 @@ fn take<R: Replica>(
     moved: &Move,
 ) -> Result<Taken, CommitFault>
     requires ready { R.is_open replica.old }
-    requires fits { IfSome taken.accepted (FitsDocument ((state_in (R.known replica.old)).document id.now)) }
-    requires goes_on { passes (kept_place (state_in (R.known replica.old)) moved.now) moved.now.at ≡ true }
+    requires fits { IfSome taken.accepted
+        (FitsDocument ((state_in (R.known replica.old)).document id.now)) }
+    requires goes_on { passes (kept_place (state_in (R.known replica.old)) moved.now) moved.now.at
+        ≡ true }
     ensures { IsDone R.known R.is_open R.crash commit_failure
-        (Answers taken (take_step seed id.now moved.now (state_in (R.known replica.old)) taken.accepted))
+        (Answers taken (take_step seed id.now moved.now
+        (state_in (R.known replica.old)) taken.accepted))
         replica.old replica.new result }
 {
     law_tests();
@@ -197,7 +209,8 @@ fn take<R: Replica>(
     commit_for(replica, step, taken)
 }
 
-// The accepted revision and the move as one step. The step owns a copy, since the answer keeps what was accepted.
+// The accepted revision and the move as one step. The step owns a copy, since the answer keeps what
+// was accepted.
 fn step_of_taken(
     alloc: Global,
     state: &State,
@@ -206,7 +219,8 @@ fn step_of_taken(
     accepted: &Option<Accept>,
     moved: &Move,
 ) -> Result<Option<Step>, Memory>
-    ensures { IfOk result (λ step. option_map step_of step ≡ take_step seed id.now moved.now (meaning state.now) accepted.now) }
+    ensures { IfOk result (λ step. option_map step_of step
+        ≡ take_step seed id.now moved.now (meaning state.now) accepted.now) }
 {
     match accepted {
         Some(accept) => {
@@ -220,7 +234,8 @@ fn step_of_taken(
 
 fn make_move<R: Replica>(replica: &mut R, moved: &Move) -> Result<(), CommitFault>
     requires ready { R.is_open replica.old }
-    requires goes_on { passes (kept_place (state_in (R.known replica.old)) moved.now) moved.now.at ≡ true }
+    requires goes_on { passes (kept_place (state_in (R.known replica.old)) moved.now) moved.now.at
+        ≡ true }
     ensures { IsDone R.known R.is_open R.crash commit_failure
         (Answers tt (move_step (state_in (R.known replica.old)) moved.now))
         replica.old replica.new result }

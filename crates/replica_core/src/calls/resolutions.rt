@@ -27,8 +27,8 @@ pub enum ResolveDocFault {
     NotConflicted,
     /// No named revision is a member.
     NothingNamed,
-    /// No named member has the greatest own counter among all members. The given revision is the first member that has it,
-    /// the current one standing first.
+    /// No named member has the greatest own counter among all members. The given revision is the
+    /// first member that has it, the current one standing first.
     Unnamed(Clock),
     /// The own counter is 2^63-1, or the clock would have more than 64 entries.
     ClockFull,
@@ -121,8 +121,8 @@ impl From<CommitFault> for ResolveDocFault {
     }
 }
 
-/// Resolves a conflict: the named members become one revision with the content, or without one where it is none, and its
-/// clock is the answer. Named revisions that are no members are ignored.
+/// Resolves a conflict: the named members become one revision with the content, or without one
+/// where it is none, and its clock is the answer. Named revisions that are no members are ignored.
 ///
 /// The transaction id of the log's entry is made of the seed and the generation.
 pub fn resolve_doc<R: Replica>(
@@ -135,7 +135,8 @@ pub fn resolve_doc<R: Replica>(
 ) -> Result<Clock, ResolveDocFault>
     requires { R.is_open replica.old }
     ensures { IsDone R.known R.is_open R.crash resolve_failure
-        (resolve_decides seed id.now named.now (option_copied content.entry) (state_in (R.known replica.old)))
+        (resolve_decides seed id.now named.now (option_copied content.entry)
+        (state_in (R.known replica.old)))
         replica.old replica.new result }
 {
     let resolution = resolution_of(alloc, replica.state(), id, named, content)?;
@@ -151,7 +152,8 @@ fn resolution_of(
     content: Option<&Content>,
 ) -> Result<Accept, ResolveFault>
     ensures made { (result ≡ Err ResolveFault.Memory)
-        ⊎ (result ≡ resolved ((meaning state.now).document id.now) named.now (option_copied content.entry) state.now.uid) }
+        ⊎ (result ≡ resolved ((meaning state.now).document id.now) named.now
+        (option_copied content.entry) state.now.uid) }
     ensures fits { IfOk result (FitsDocument ((meaning state.now).document id.now)) }
 {
     law_makings();

@@ -1,5 +1,5 @@
-//! Places in logs and moves, as words. `#1` is the transaction id that the seed of the stories gives
-//! for generation 1.
+//! Places in logs and moves, as words. `#1` is the transaction id that the seed of the stories
+//! gives for generation 1.
 use conflicts::Move;
 use replica_state::PosTable;
 use std::alloc::Global;

@@ -240,7 +240,8 @@ fn answered(alloc: Global, answer: Result<Ids, QueryFault>) -> Result<String, Fa
 
 // ---- the log and the positions
 
-// The place after all entries, and of each change the document, the generation and the transaction id.
+// The place after all entries, and of each change the document, the generation and the transaction
+// id.
 fn changes(alloc: Global, state: &State, words: &str) -> Result<String, Fail> {
     let changed = whats_changed(state, u64::from(number_of(words)?))?;
     changes_told(alloc, &changed)

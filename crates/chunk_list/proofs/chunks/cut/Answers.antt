@@ -1,5 +1,6 @@
 -- The chunk and the spare one hold what the chunk held.
-use Rattle.std.proofs.Common.{◌≡◌, ◌+◌, ◌++◌, [], List, Some, get_or, set, arith, ap, sym, subst, ◌∙◌, append-nil, add-one}
+use Rattle.std.proofs.Common.{◌≡◌, ◌+◌, ◌++◌, [], List, Some, get_or, set, arith, ap, sym, subst, ◌∙◌, append-nil}
+use Rattle.std.proofs.Common.{add-one}
 use Rattle.std.proofs.lemmas.List.{nil_from_length}
 use Rattle.std.proofs.lemmas.List.Elements.{All-pop}
 use Rattle.std.specs.Global.{Vec}
@@ -18,19 +19,27 @@ returns g c =
     let was_is : was ≡ get_or old at was = c.index_mut-lower.ensures.value in
     let rest = c.take_last-upper.new.self.items in
     let fresh = c.take_last-upper.result in
-    let all : All IsSpare rest × IsSpare fresh = All-pop IsSpare c.args.spare.now.items rest (Some fresh) c.take_last-upper.ensures.items c.requires.each in
+    let all : All IsSpare rest × IsSpare fresh =
+    All-pop IsSpare c.args.spare.now.items rest (Some fresh) c.take_last-upper.ensures.items c.requires.each in
     let spare : IsSpare fresh = all.1 in
     let none : vec_items fresh ≡ [] = nil_from_length (vec_items fresh) (omega (arith, spare.empty, fresh.ok.0)) in
     let lower = c.level.new.lower in
     let upper = c.level.new.upper in
     let both : vec_items lower ++ vec_items upper ≡ vec_items (get_or old at was) =
-    c.level.ensures.items ∙ ap (λ (l : List g.row.T.Denot). vec_items was ++ l) none ∙ append-nil (vec_items was) ∙ ap vec_items was_is in
+    c.level.ensures.items ∙ ap (λ (l : List g.row.T.Denot). vec_items was ++ l) none ∙ append-nil (vec_items was)
+    ∙ ap vec_items was_is in
     let over : vec_len was ≡ full + 1 = omega (arith, c.requires.over was, ap vec_len was_is) in
     record {
-      same = ap joined c.put.ensures.items ∙ ap (λ (n : _). joined (insert (set old at lower) n upper)) (add-one at) ∙ cut-joined vec_items old at lower upper was c.requires.chunks.within both;
+      same = ap joined c.put.ensures.items ∙ ap (λ (n : _). joined (insert (set old at lower) n upper)) (add-one at)
+          ∙ cut-joined vec_items old at lower upper was c.requires.chunks.within both;
       chunks = subst (λ (l : List (Vec g.row.T.Denot)). AreChunks l) (sym c.put.ensures.items)
           (cut_chunks old at c.requires.chunks lower upper
-          (omega (arith, c.level.ensures.lower_capacity, ap vec_capacity was_is, c.requires.chunks.wide at was c.requires.chunks.within))
+          (omega (
+            arith,
+            c.level.ensures.lower_capacity,
+            ap vec_capacity was_is,
+            c.requires.chunks.wide at was c.requires.chunks.within,
+          ))
           (omega (arith, c.level.ensures.upper_capacity, spare.wide))
           (record { short = omega (arith, c.level.ensures.len); some = λ _. omega (arith, c.level.ensures.len) })
           (record { short = omega (arith, c.level.ensures); some = λ _. omega (arith, c.level.ensures) }));

@@ -13,9 +13,15 @@ returns-then-left-needed-clause-turned g c =
     let chunk = c.remove-chunk.result in
     let is = c.remove-chunk.ensures.value in
     let b = c.requires.chunks in
-    let spare : IsSpare chunk = record { wide = omega (arith, ap vec_capacity is, b.wide c.args.at chunk b.within); empty = omega (arith, ap vec_len is, c.requires.empty chunk) } in
+    let spare : IsSpare chunk =
     record {
-      each = subst (λ (l : List (Vec g.row.T.Denot)). All IsSpare l) (sym c.push_reserved.ensures.items) (All-push IsSpare c.args.spare.now.items chunk c.requires.each spare);
+      wide = omega (arith, ap vec_capacity is, b.wide c.args.at chunk b.within);
+      empty =
+          omega (arith, ap vec_len is, c.requires.empty chunk);
+    } in
+    record {
+      each = subst (λ (l : List (Vec g.row.T.Denot)). All IsSpare l) (sym c.push_reserved.ensures.items)
+          (All-push IsSpare c.args.spare.now.items chunk c.requires.each spare);
       fewer = omega (arith, c.push_reserved.ensures.len, c.remove-chunk.ensures.len);
       chunks_capacity = c.remove-chunk.ensures.capacity;
       spare_capacity = c.push_reserved.ensures.capacity;
@@ -24,9 +30,11 @@ returns-then-left-needed-clause-turned g c =
 pub returns-then-left-needed-clause-same : goal.returns-then-left-needed-clause-same
 returns-then-left-needed-clause-same g c =
     let chunk = c.remove-chunk.result in
-    out_chunks c.args.chunks.now.items c.args.at c.requires.chunks c.remove-chunk.new.self.items chunk c.requires.some (c.requires.empty chunk) c.remove-chunk.ensures.items
+    out_chunks c.args.chunks.now.items c.args.at c.requires.chunks c.remove-chunk.new.self.items chunk c.requires.some
+    (c.requires.empty chunk) c.remove-chunk.ensures.items
 
 pub returns-else-left-needed-clause-same : goal.returns-else-left-needed-clause-same
 returns-else-left-needed-clause-same g c =
     let chunk = c.remove-chunk.result in
-    out_chunks c.args.chunks.now.items c.args.at c.requires.chunks c.remove-chunk.new.self.items chunk c.requires.some (c.requires.empty chunk) c.remove-chunk.ensures.items
+    out_chunks c.args.chunks.now.items c.args.at c.requires.chunks c.remove-chunk.new.self.items chunk c.requires.some
+    (c.requires.empty chunk) c.remove-chunk.ensures.items

@@ -8,7 +8,8 @@ abbrev pub invariant-loop-step : goal.invariant-loop-step
 invariant-loop-step g l = record {
   some : 0 < l.step;
   within : l.step ≤ l.furthest + 1;
-  above : (k : ℕ) (d : _) → l.at < k → k < l.at + l.step → k < length l.chunks.items → full < vec_len (get_or l.chunks.items k d) + l.least;
+  above : (k : ℕ) (d : _) → l.at < k → k < l.at + l.step → k < length l.chunks.items
+      → full < vec_len (get_or l.chunks.items k d) + l.least;
   below : (k : ℕ) (d : _) → k < l.at → l.at < k + l.step → full < vec_len (get_or l.chunks.items k d) + l.least;
 }
 

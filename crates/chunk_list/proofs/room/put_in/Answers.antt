@@ -9,12 +9,20 @@ pub locate-at-requires-clause-some : goal.locate-at-requires-clause-some
 locate-at-requires-clause-some g c = omega (arith, c.requires.some, c.args.chunks.now.ok.0)
 
 pub put-requires-clause-place : goal.put-requires-clause-place
-put-requires-clause-place g c = let old = c.index_mut-chunk.result.now in omega (arith, c.locate-at.ensures.up_to old, ap vec_len c.index_mut-chunk.ensures.value)
+put-requires-clause-place g c = let old = c.index_mut-chunk.result.now
+    in omega (arith, c.locate-at.ensures.up_to old, ap vec_len c.index_mut-chunk.ensures.value)
 
 pub shift-requires-clause-fits : goal.shift-requires-clause-fits
 shift-requires-clause-fits g c k gt lt =
-    let s = c.requires.laid_out.starts_are in
-    (omega arith, omega (arith, s.begins k (omega (arith, s.as_many)), start_at-most vec_items c.args.chunks.now.items k, c.requires.fits))
+    let s = c.requires.laid_out.starts_are in (
+      omega arith,
+      omega (
+        arith,
+        s.begins k (omega (arith, s.as_many)),
+        start_at-most vec_items c.args.chunks.now.items k,
+        c.requires.fits,
+      ),
+    )
 
 pub returns : goal.returns
 returns g c =
@@ -26,7 +34,8 @@ returns g c =
       items = put_joined e c.args.item c.put.ensures.items;
       chunks = edited e (omega (arith, c.put.ensures.len, same_len e old, held.short));
       some = λ d. omega (arith, ap vec_len (new_at e d), c.put.ensures.len);
-      starts = starts_with e c.shift.new.starts.items c.shift.ensures.len c.shift.ensures.low (λ k gt lt. omega (arith, c.shift.ensures.high k gt lt, c.put.ensures.len));
+      starts = starts_with e c.shift.new.starts.items c.shift.ensures.len c.shift.ensures.low
+          (λ k gt lt. omega (arith, c.shift.ensures.high k gt lt, c.put.ensures.len));
       len = refl;
       capacity = refl;
       starts_capacity = c.shift.ensures.capacity;

@@ -14,8 +14,15 @@ returns-in_default-nearest-clause-chunks g c =
     let too_many : length old * 512 < length (joined old) =
     length-over vec_items old 512 c.args.at
     (λ k d lt. elim (cases_eq k c.args.at) [
-      | inl e ↦ subst (λ (m : ℕ). 512 ≤ length (vec_items (get_or old m d))) (sym e) (omega (arith, c.requires.over d, (get_or old c.args.at d).ok.0))
-      | inr ne ↦ omega (arith, c.in_default-nearest.ensures k d lt ne (omega (arith, chunks.ok.0, chunks.ok.1, chunks.small)) (omega (arith, b.within, chunks.ok.0, chunks.ok.1, chunks.small)), (get_or old k d).ok.0)
+      | inl e ↦ subst (λ (m : ℕ). 512 ≤ length (vec_items (get_or old m d))) (sym e)
+          (omega (arith, c.requires.over d, (get_or old c.args.at d).ok.0))
+      | inr ne ↦ omega (
+        arith,
+        c.in_default-nearest.ensures k d lt ne
+            (omega (arith, chunks.ok.0, chunks.ok.1, chunks.small))
+            (omega (arith, b.within, chunks.ok.0, chunks.ok.1, chunks.small)),
+        (get_or old k d).ok.0,
+      )
     ])
     b.within (λ d. omega (arith, c.requires.over d, (get_or old c.args.at d).ok.0)) in
     absurd (omega (arith, c.requires.enough, chunks.ok.0))

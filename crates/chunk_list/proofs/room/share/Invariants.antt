@@ -11,7 +11,8 @@ invariant-loop-to g l = record {
   len : vec_len l.chunks ≡ vec_len l.fn.chunks;
   capacity : vec_capacity l.chunks ≡ vec_capacity l.fn.chunks;
   within : l.to < length l.chunks.items;
-  free : (l.to ≡ l.at → ⊥) → (d : _) → (vec_len (get_or l.chunks.items l.at d) ≡ full + 1) × (vec_len (get_or l.chunks.items l.to d) + l.count ≤ full);
+  free : (l.to ≡ l.at → ⊥) → (d : _) → (vec_len (get_or l.chunks.items l.at d) ≡ full + 1)
+      × (vec_len (get_or l.chunks.items l.to d) + l.count ≤ full);
   given : l.to ≡ l.at → (d : _) → vec_len (get_or l.chunks.items l.at d) + l.count ≡ full + 1;
 }
 

@@ -17,7 +17,8 @@ loop-low-preserved-then-passes g c =
       rising = omega arith;
       within = c.loop-low.invariant.within;
       passed = λ _. subst (HoldsAt (λ x. FnReturnsAt g.F.Fn c.args.passes.now x true) c.args.items.now.items) back
-          (at_read c.args.items.now.items (λ x. FnReturnsAt g.F.Fn c.args.passes.now x true) middle c.index.result.now (omega arith) c.index.ensures
+          (at_read c.args.items.now.items (λ x. FnReturnsAt g.F.Fn c.args.passes.now x true) middle c.index.result.now
+          (omega arith) c.index.ensures
           (record { shown = c.index.result; shows = refl; says = record { met = c.if-passes.ensures } }));
       failed = c.loop-low.invariant.failed;
       looks = look _ (high - low) _ _ _ _ c.loop-low.invariant.looks c.tick.ensures (omega arith) (omega arith);
@@ -33,7 +34,8 @@ loop-low-preserved g c =
       rising = omega arith;
       within = omega arith;
       passed = c.loop-low.invariant.passed;
-      failed = λ _. at_read c.args.items.now.items (λ x. FnReturnsAt g.F.Fn c.args.passes.now x false) middle c.index.result.now (omega arith) c.index.ensures
+      failed = λ _. at_read c.args.items.now.items
+          (λ x. FnReturnsAt g.F.Fn c.args.passes.now x false) middle c.index.result.now (omega arith) c.index.ensures
           (record { shown = c.index.result; shows = refl; says = record { met = c.if-passes.ensures } });
       looks = look _ (high - low) _ _ _ _ c.loop-low.invariant.looks c.tick.ensures (omega arith) (omega arith);
     }
@@ -41,5 +43,6 @@ loop-low-preserved g c =
 pub returns-clause-after : goal.returns-clause-after
 returns-clause-after g c =
     let all : c.loop-low.high ≡ c.loop-low.low = omega arith in
-    subst (λ (n : ℕ). n < length c.args.items.now.items → HoldsAt (λ x. FnReturnsAt g.F.Fn c.args.passes.now x false) c.args.items.now.items n)
+    subst (λ (n : ℕ). n < length c.args.items.now.items
+    → HoldsAt (λ x. FnReturnsAt g.F.Fn c.args.passes.now x false) c.args.items.now.items n)
     all c.loop-low.invariant.failed

@@ -11,6 +11,8 @@ returns g c =
     let v = c.loop-high.invariant in
     let low = c.loop-high.low in
     let e : c.loop-high.high ≡ low + 1 = omega arith in
-    let here = get_or_read starts low c.index-start.result.now (omega (arith, c.requires.starts.as_many)) c.index-start.ensures 0 in
-    is_at chunks starts low c.index-start.result.now c.args.place c.requires.starts (omega arith) c.index-start.ensures (omega (arith, here, v.here))
+    let here = get_or_read starts low c.index-start.result.now
+    (omega (arith, c.requires.starts.as_many)) c.index-start.ensures 0 in
+    is_at chunks starts low c.index-start.result.now c.args.place c.requires.starts (omega arith) c.index-start.ensures
+    (omega (arith, here, v.here))
     (subst (λ (n : ℕ). n < length chunks → c.args.place < get_or starts n 0) e v.next) c.requires.place

@@ -13,7 +13,8 @@ returns-in_ok-words-in-Some c =
     let is : Some c.as_str.result.now ≡ option_text c.args.given.now = search rules in
     let few : length c.args.operands.now ≤ usize_max = search rules in
     let are : texts_of c.as_slice.result.now ≡ asked (Some c.as_str.result.now) c.args.operands.now = search rules in
-    fits_answered c.args.synopsis c.args.given.now c.args.operands.now (Some c.as_str.result.now) (texts_of c.as_slice.result.now) _ are is
+    fits_answered c.args.synopsis c.args.given.now c.args.operands.now (Some c.as_str.result.now)
+    (texts_of c.as_slice.result.now) _ are is
     c.requires.allowed c.requires.ordered few c.passes.ensures
 
 pub returns-in_ok-words-in-None : goal.returns-in_ok-words-in-None
@@ -21,5 +22,6 @@ returns-in_ok-words-in-None c =
     let is : None ≡ option_text c.args.given.now = search rules in
     let few : length c.args.operands.now ≤ usize_max = search rules in
     let are : texts_of c.as_slice-in-None.result.now ≡ asked None c.args.operands.now = search rules in
-    fits_answered c.args.synopsis c.args.given.now c.args.operands.now None (texts_of c.as_slice-in-None.result.now) _ are is
+    fits_answered c.args.synopsis c.args.given.now c.args.operands.now None
+    (texts_of c.as_slice-in-None.result.now) _ are is
     c.requires.allowed c.requires.ordered few c.passes-in-None.ensures

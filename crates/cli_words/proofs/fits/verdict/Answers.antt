@@ -8,4 +8,5 @@ returns-in-Ok c = λ kinds h. no_fault_found kinds (subst (FailsBy kinds) c.in-O
 
 pub returns-in_default : goal.returns-in_default
 returns-in_default c =
-    λ kinds h. fault_found kinds c.in-Err.error (subst (FailsBy kinds) c.in-Err.is h) (λ m. c.in_default.not-OutOfMemory (c.kind.ensures ∙ m))
+    λ kinds h. fault_found kinds c.in-Err.error (subst (FailsBy kinds) c.in-Err.is h)
+    (λ m. c.in_default.not-OutOfMemory (c.kind.ensures ∙ m))

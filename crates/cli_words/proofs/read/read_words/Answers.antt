@@ -1,4 +1,5 @@
-use Rattle.std.proofs.Common.{rules, ◌≡◌, ℕ, ◌≤◌, List, [], ◌∷◌, length, drop, get_or, Some, None, sym, ap, ap₂, ◌∙◌, subst, arith}
+use Rattle.std.proofs.Common.{rules, ◌≡◌, ℕ, ◌≤◌, List, [], ◌∷◌, length, drop, get_or, Some, None, sym, ap, ap₂, ◌∙◌}
+use Rattle.std.proofs.Common.{subst, arith}
 use Rattle.cli_words.specs.Faults.{Answers}
 use Rattle.cli_words.specs.Parted.{Any, parted}
 use Rattle.cli_words.specs.Table.{verb_in}
@@ -25,5 +26,6 @@ returns c =
     ap verb_in (sym c.as_str.ensures) ∙ sym c.of_word.ensures ∙ c.in-Some.is in
     let parts : parted Any 2 (drop 2 c.args.words.now) ≡ c.in_ok-parted.parted = search rules in
     subst (λ said. Answers said c.read_named.result)
-    (sym (named c.args.words.now c.index-words-1.result c.if-words-lt2.false c.index-words-1.is ∙ ap₂ command_named known parts))
+    (sym (named c.args.words.now c.index-words-1.result c.if-words-lt2.false c.index-words-1.is
+    ∙ ap₂ command_named known parts))
     c.read_named.ensures

@@ -5,4 +5,5 @@ use Rattle.command_lines.proofs.documents.print_made.Goals as goal
 
 pub returns-in_err-rev : goal.returns-in_err-rev
 returns-in_err-rev g c =
-    let p = err_from_is_err_and c.from_residual.result c.from_residual.ensures.1 in rw (p.1, p.2) (puts_none _ (g.K.Sink.known c.args.out.now))
+    let p = err_from_is_err_and c.from_residual.result c.from_residual.ensures.1
+    in rw (p.1, p.2) (puts_none _ (g.K.Sink.known c.args.out.now))

@@ -6,6 +6,13 @@ use Rattle.command_lines.proofs.places.print_told.Goals as goal
 pub returns : goal.returns
 returns g c =
     simp append_assoc
-    (rw
-    (c.as_bytes.ensures.value, c.as_str.ensures.value, c.as_bytes-2.ensures.value, c.format.ensures.text, ap (λ (p : Place). p.generation) c.at.view_is, c.as_bytes-3.ensures.value, c.trans_or_dash.ensures)
+    (rw (
+      c.as_bytes.ensures.value,
+      c.as_str.ensures.value,
+      c.as_bytes-2.ensures.value,
+      c.format.ensures.text,
+      ap (λ (p : Place). p.generation) c.at.view_is,
+      c.as_bytes-3.ensures.value,
+      c.trans_or_dash.ensures,
+    )
     at c.put_all.ensures)

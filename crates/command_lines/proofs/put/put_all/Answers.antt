@@ -12,20 +12,24 @@ loop-piece-init g c = none_of (λ (piece : Bor (List ℕ)). piece.now) c.args.pi
 pub loop-piece-preserved : goal.loop-piece-preserved
 loop-piece-preserved g c =
     let k = g.K.Sink.known in
-    one_more_of (λ (piece : Bor (List ℕ)). piece.now) c.args.pieces.now c.loop-piece.piece-index _ (k c.args.out.now) (k c.loop-piece.out) (k c.put.new.self)
-    (omega (arith, c.loop-piece-test.true)) c.loop-piece.invariant (c.in_ok-put.ensures.ok, c.in_ok-put.ensures.cause.later)
+    one_more_of (λ (piece : Bor (List ℕ)). piece.now) c.args.pieces.now c.loop-piece.piece-index _ (k c.args.out.now)
+    (k c.loop-piece.out) (k c.put.new.self)
+    (omega (arith, c.loop-piece-test.true)) c.loop-piece.invariant
+    (c.in_ok-put.ensures.ok, c.in_ok-put.ensures.cause.later)
 
 pub returns-in_err-put : goal.returns-in_err-put
 returns-in_err-put g c =
     let k = g.K.Sink.known in
     let p = err_from_is_err_and c.from_residual.result c.from_residual.ensures.1 in
     rw (p.1, p.2)
-    (broken_at (λ (piece : Bor (List ℕ)). piece.now) c.args.pieces.now c.loop-piece.piece-index _ (k c.args.out.now) (k c.loop-piece.out) (k c.put.new.self)
+    (broken_at (λ (piece : Bor (List ℕ)). piece.now) c.args.pieces.now c.loop-piece.piece-index _ (k c.args.out.now)
+    (k c.loop-piece.out) (k c.put.new.self)
     Sink (omega (arith, c.loop-piece-test.true)) c.loop-piece.invariant
     (c.in_err-put.ensures.err, c.in_err-put.ensures.cause.later, c.in_err-put.ensures.cause.failed))
 
 pub returns : goal.returns
 returns g c =
     let k = g.K.Sink.known in
-    all_of (λ (piece : Bor (List ℕ)). piece.now) c.args.pieces.now c.loop-piece.piece-index (k c.args.out.now) (k c.loop-piece.out)
+    all_of (λ (piece : Bor (List ℕ)). piece.now) c.args.pieces.now c.loop-piece.piece-index (k c.args.out.now)
+    (k c.loop-piece.out)
     (omega (arith, c.loop-piece-test.false)) c.loop-piece.invariant

@@ -4,4 +4,5 @@ use Rattle.command_lines.specs.Puts.{Puts}
 use Rattle.command_lines.proofs.put.put_all.Given as goal
 
 abbrev pub invariant-loop-piece : goal.invariant-loop-piece
-invariant-loop-piece g l = Puts (flat_map (λ piece. piece.now) (take l.piece-index l.pieces)) (g.K.Sink.known l.fn.out) (g.K.Sink.known l.out) (Ok tt)
+invariant-loop-piece g l = Puts (flat_map (λ piece. piece.now) (take l.piece-index l.pieces)) (g.K.Sink.known l.fn.out)
+    (g.K.Sink.known l.out) (Ok tt)

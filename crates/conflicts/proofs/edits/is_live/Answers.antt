@@ -7,4 +7,5 @@ use Rattle.conflicts.proofs.edits.is_live.Goals as goal
 
 pub returns : goal.returns
 returns c =
-    c.is_some.ensures ∙ ap is_some (ap (λ (m : Member). m.content) c.current.ensures ∙ sym (content_kept c.args.set.now))
+    c.is_some.ensures ∙ ap is_some (ap (λ (m : Member). m.content) c.current.ensures
+    ∙ sym (content_kept c.args.set.now))

@@ -3,4 +3,10 @@ use Rattle.conflicts.proofs.Makings.{edited_makes, deleted_makes, resolved_makes
 use Rattle.conflicts.proofs.laws.law_makings.Goals as goal
 
 pub returns : goal.returns
-returns c = record { edits = edited_makes; deletions = deleted_makes; resolutions = resolved_makes; receipts = decides_takes }
+returns c = record {
+  edits = edited_makes;
+  deletions = deleted_makes;
+  resolutions = resolved_makes;
+  receipts =
+      decides_takes;
+}

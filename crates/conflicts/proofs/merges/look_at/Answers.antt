@@ -12,4 +12,5 @@ returns-in-Equal c = sym c.in-Equal.ensures.counters
 
 pub returns-in-Newer : goal.returns-in-Newer
 returns-in-Newer c =
-    look_newer c.args.incoming.now c.args.own.now c.args.member.now _ _ (dominates_from _ _ c.in-Newer.ensures.counters) refl
+    look_newer c.args.incoming.now c.args.own.now c.args.member.now _ _
+    (dominates_from _ _ c.in-Newer.ensures.counters) refl

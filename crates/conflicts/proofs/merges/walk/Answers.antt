@@ -5,4 +5,5 @@ use Rattle.conflicts.proofs.merges.walk.Goals as goal
 
 pub returns : goal.returns
 returns c =
-    walk_done c.args.set.now c.args.incoming.now c.args.own.now c.loop-place.place c.loop-place.merging (omega (arith, ap length c.members-place-end.ensures)) c.loop-place.invariant
+    walk_done c.args.set.now c.args.incoming.now c.args.own.now c.loop-place.place c.loop-place.merging
+    (omega (arith, ap length c.members-place-end.ensures)) c.loop-place.invariant

@@ -9,4 +9,5 @@ use Rattle.conflicts.proofs.resolutions.named_members.Goals as goal
 pub returns : goal.returns
 returns c =
     c.loop-place.invariant
-    ∙ ap (λ (ms : List Member). revs (named_in c.args.names.now.all.now ms)) (seen_all c.args.set.now c.loop-place.place (omega (arith, ap length c.members-place-end.ensures)))
+    ∙ ap (λ (ms : List Member). revs (named_in c.args.names.now.all.now ms))
+    (seen_all c.args.set.now c.loop-place.place (omega (arith, ap length c.members-place-end.ensures)))

@@ -8,5 +8,6 @@ use Rattle.conflicts.proofs.resolutions.resolve.Goals as goal
 
 pub returns-in-Some : goal.returns-in-Some
 returns-in-Some c =
-    subst (λ (o : Option Kept). (c.resolve_there.result ≡ Err resolve_fault.Memory) ⊎ (c.resolve_there.result ≡ resolved (document o) c.args.named.now (option_copied c.args.content) c.args.own.now))
+    subst (λ (o : Option Kept). (c.resolve_there.result ≡ Err resolve_fault.Memory)
+    ⊎ (c.resolve_there.result ≡ resolved (document o) c.args.named.now (option_copied c.args.content) c.args.own.now))
     (ap (λ (o : Option (Bor Kept)). option_copied o) (sym c.in-Some.is)) c.resolve_there.ensures

@@ -6,8 +6,10 @@ use Rattle.content.proofs.check.+numbers.Given as goal
 
 abbrev pub invariant-items_have-loop-item : goal.invariant-items_have-loop-item
 invariant-items_have-loop-item l =
-    any_in_items (is_kind l.kind) (items_view l.item-items) ≡ any_in_items (is_kind l.kind) (items_view (drop l.item-index l.item-items))
+    any_in_items (is_kind l.kind) (items_view l.item-items)
+    ≡ any_in_items (is_kind l.kind) (items_view (drop l.item-index l.item-items))
 
 abbrev pub invariant-members_have-loop-name : goal.invariant-members_have-loop-name
 invariant-members_have-loop-name l =
-    any_in_members (is_kind l.kind) (members_view l.members.entries) ≡ any_in_members (is_kind l.kind) (members_view l._name-iterator)
+    any_in_members (is_kind l.kind) (members_view l.members.entries)
+    ≡ any_in_members (is_kind l.kind) (members_view l._name-iterator)

@@ -6,7 +6,8 @@ use Rattle.serde_json.specs.View.{view, items_view}
 use Rattle.content.specs.Canonical.{data_of}
 use Rattle.content.specs.Faults.{any_in_items, is_large}
 use Rattle.content.specs.TreeOf.{tree_of, pair_of}
-use Rattle.content.proofs.Converted.{entry_data, members_of_pairs, fields_data-fields_of, members_of_pairs-entry_data, any_before_last, depth_of_last, all_with_last, all_made}
+use Rattle.content.proofs.Converted.{entry_data, members_of_pairs, fields_data-fields_of, members_of_pairs-entry_data}
+use Rattle.content.proofs.Converted.{any_before_last, depth_of_last, all_with_last, all_made}
 use Rattle.content.proofs.convert.+convert.Goals as goal
 
 pub convert_items-convert-requires : goal.convert_items-convert-requires

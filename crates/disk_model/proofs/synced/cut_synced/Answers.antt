@@ -23,4 +23,5 @@ returns-clause-any_moment g c t e =
     (c.in_ok-cut.ensures.crash t)
     (cut_images old.now old.seen c.args.to e))
     (c.sync.ensures.durable t) (c.sync.ensures.crash_err t)
-    (subst (Cut c.args.to old.seen) (sym (c.in_ok-cut.ensures.shortened t)) (cut_taken old.seen c.args.to c.args.to (omega arith)))
+    (subst (Cut c.args.to old.seen) (sym (c.in_ok-cut.ensures.shortened t))
+    (cut_taken old.seen c.args.to c.args.to (omega arith)))

@@ -12,7 +12,9 @@ invariant-loop-at g l = record {
   seen : IsTrue g.D.Disk.tells → (g.D.Disk.known l.disk).seen ≡ (g.D.Disk.known l.initial.disk).seen;
   now : IsTrue g.D.Disk.tells → (g.D.Disk.known l.disk).now ≡ (g.D.Disk.known l.initial.disk).now;
   beside : IsTrue g.D.Disk.tells → (g.D.Disk.known l.disk).beside ≡ (g.D.Disk.known l.initial.disk).beside;
-  any_moment : IsTrue g.D.Disk.tells → LeavesOnly (g.D.Disk.known l.initial.disk) (g.D.Disk.known l.disk) (IsCrashImage (g.D.Disk.known l.initial.disk).now);
+  any_moment : IsTrue g.D.Disk.tells
+      → LeavesOnly (g.D.Disk.known l.initial.disk) (g.D.Disk.known l.disk)
+      (IsCrashImage (g.D.Disk.known l.initial.disk).now);
   whole : IsPieceEnd (length l.into) l.at;
   made : (g.D.Disk.known l.disk).made ≡ called (pieces l.at) (g.D.Disk.known l.initial.disk).made;
   later : (g.D.Disk.known l.initial.disk).faults ≤ (g.D.Disk.known l.disk).faults;

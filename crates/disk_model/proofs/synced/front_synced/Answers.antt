@@ -18,12 +18,14 @@ front_is (byte ∷ rest) bytes n size some first =
 pub returns-in_err-read_at-clause-any_moment : goal.returns-in_err-read_at-clause-any_moment
 returns-in_err-read_at-clause-any_moment g c t =
     let known = g.D.Disk.known in let old = known c.args.disk.now in
-    looked old (known c.settled_length.new.disk) (known c.read_at.new.self) (IsCrashImage old.now) (c.settled_length.ensures.any_moment t) (c.read_at.ensures.crash t)
+    looked old (known c.settled_length.new.disk) (known c.read_at.new.self) (IsCrashImage old.now)
+    (c.settled_length.ensures.any_moment t) (c.read_at.ensures.crash t)
 
 pub returns-clause-any_moment : goal.returns-clause-any_moment
 returns-clause-any_moment g c t =
     let known = g.D.Disk.known in let old = known c.args.disk.now in
-    looked old (known c.settled_length.new.disk) (known c.read_at.new.self) (IsCrashImage old.now) (c.settled_length.ensures.any_moment t) (c.read_at.ensures.crash t)
+    looked old (known c.settled_length.new.disk) (known c.read_at.new.self) (IsCrashImage old.now)
+    (c.settled_length.ensures.any_moment t) (c.read_at.ensures.crash t)
 
 pub returns-clause-value : goal.returns-clause-value
 returns-clause-value g c t =

@@ -10,7 +10,8 @@ pub unreachable-requires : goal.unreachable-requires
 unreachable-requires c =
     let bytes = c.in_ok-bytes.bytes in
     let wrote : (with_items bytes c.lower_ascii.new.bytes).items ≡ str_to_ascii_lowercase c.args.text.now =
-    lowered_items bytes c.deref_mut.result.now c.lower_ascii.new.bytes c.args.text.now c.deref_mut.ensures.value c.deref_mut.ensures.len
+    lowered_items bytes c.deref_mut.result.now c.lower_ascii.new.bytes c.args.text.now c.deref_mut.ensures.value
+    c.deref_mut.ensures.len
     (c.in_ok-bytes.ensures.items ∙ c.as_bytes.ensures.value) c.lower_ascii.ensures in
     false≢true (c.in-Err.ensures.succeeds (lowered_is_utf8 c.args.text.now _ c.requires wrote))
 
@@ -18,6 +19,8 @@ pub returns : goal.returns
 returns c =
     let bytes = c.in_ok-bytes.bytes in
     let wrote : (with_items bytes c.lower_ascii.new.bytes).items ≡ str_to_ascii_lowercase c.args.text.now =
-    lowered_items bytes c.deref_mut.result.now c.lower_ascii.new.bytes c.args.text.now c.deref_mut.ensures.value c.deref_mut.ensures.len
+    lowered_items bytes c.deref_mut.result.now c.lower_ascii.new.bytes c.args.text.now c.deref_mut.ensures.value
+    c.deref_mut.ensures.len
     (c.in_ok-bytes.ensures.items ∙ c.as_bytes.ensures.value) c.lower_ascii.ensures in
-    c.in_ok-from_string-in-Ok.ensures ∙ (ap (λ v. v.items) c.in-Ok.ensures.ok ∙ (wrote ∙ sym (folded-ascii c.args.text.now c.requires)))
+    c.in_ok-from_string-in-Ok.ensures
+    ∙ (ap (λ v. v.items) c.in-Ok.ensures.ok ∙ (wrote ∙ sym (folded-ascii c.args.text.now c.requires)))

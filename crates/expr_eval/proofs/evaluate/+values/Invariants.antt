@@ -6,4 +6,5 @@ use Rattle.expr_eval.proofs.evaluate.+values.Given as goal
 
 abbrev pub invariant-add_values_of_each-loop-expr : goal.invariant-add_values_of_each-loop-expr
 invariant-add_values_of_each-loop-expr l =
-    l.out.items ++ values_of_each (forms_of_all (drop l.expr-index l.expr-items)) (tree_of l.root) ≡ l.initial.out.items ++ values_of_each (forms_of_all l.expr-items) (tree_of l.root)
+    l.out.items ++ values_of_each (forms_of_all (drop l.expr-index l.expr-items)) (tree_of l.root)
+    ≡ l.initial.out.items ++ values_of_each (forms_of_all l.expr-items) (tree_of l.root)

@@ -5,4 +5,5 @@ use Rattle.expr_eval.specs.Lent.{lent}
 use Rattle.expr_eval.proofs.evaluate.add_folded.Given as goal
 
 abbrev pub invariant-loop-text : goal.invariant-loop-text
-invariant-loop-text l = l.out.items ≡ l.initial.out.items ++ map Text (map folded (lent (take l.text-index l.text-items)))
+invariant-loop-text l = l.out.items ≡ l.initial.out.items
+    ++ map Text (map folded (lent (take l.text-index l.text-items)))

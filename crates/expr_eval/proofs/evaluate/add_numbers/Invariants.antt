@@ -4,4 +4,5 @@ use Rattle.expr_eval.specs.Texts.{number_text}
 use Rattle.expr_eval.proofs.evaluate.add_numbers.Given as goal
 
 abbrev pub invariant-loop-number : goal.invariant-loop-number
-invariant-loop-number l = l.out.items ≡ l.initial.out.items ++ map Text (map (number_text l.width) (take l.number-index l.number-items))
+invariant-loop-number l = l.out.items ≡ l.initial.out.items
+    ++ map Text (map (number_text l.width) (take l.number-index l.number-items))

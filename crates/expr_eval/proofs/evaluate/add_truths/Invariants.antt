@@ -4,4 +4,5 @@ use Rattle.expr_eval.specs.Texts.{truth_text}
 use Rattle.expr_eval.proofs.evaluate.add_truths.Given as goal
 
 abbrev pub invariant-loop-truth : goal.invariant-loop-truth
-invariant-loop-truth l = l.out.items ≡ l.initial.out.items ++ map Text (map truth_text (take l.truth-index l.truth-items))
+invariant-loop-truth l = l.out.items ≡ l.initial.out.items
+    ++ map Text (map truth_text (take l.truth-index l.truth-items))

@@ -20,12 +20,15 @@ loop-text-preserved c =
     ∙ (ap (λ (l : List (Bor (List ℕ))). has (lent l) text.now) c.deref.ensures.value
     ∙ (ap (λ (l : List (List ℕ)). has l text.now) c.loop-text.invariant ∙ has-distinct (lent before) text.now))) in
     let new : not c.is_among.result ≡ not (has (lent before) text.now) = ap not known in
-    let firsts : lent c.if-not-is_among.firsts.items ≡ distinct (lent (before ++ text ∷ [])) = elim c.if-not-is_among.branch [
+    let firsts : lent c.if-not-is_among.firsts.items ≡ distinct (lent (before ++ text ∷ [])) =
+    elim c.if-not-is_among.branch [
       | then-not-is_among+in_ok-push w ↦
           ap (λ v. lent v.items) w.firsts-is ∙ (ap lent w.in_ok-push.ensures.items
-          ∙ new_text before c.loop-text.firsts.items text (not c.is_among.result) new (ap not w.if-not-is_among.true) c.loop-text.invariant)
+          ∙ new_text before c.loop-text.firsts.items text (not c.is_among.result) new
+          (ap not w.if-not-is_among.true) c.loop-text.invariant)
       | else-not-is_among w ↦
           ap (λ v. lent v.items) w.firsts-is
-          ∙ old_text before c.loop-text.firsts.items text (not c.is_among.result) new (ap not w.if-not-is_among.false) c.loop-text.invariant
+          ∙ old_text before c.loop-text.firsts.items text (not c.is_among.result) new
+          (ap not w.if-not-is_among.false) c.loop-text.invariant
     ] in
     firsts ∙ ap (λ (l : List (Bor (List ℕ))). distinct (lent l)) (sym more)

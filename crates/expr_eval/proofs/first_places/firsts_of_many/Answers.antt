@@ -15,17 +15,21 @@ loop-text-preserved c =
     let text : Bor (List ℕ) = get_or texts i none in
     let before : List (Bor (List ℕ)) = take i texts in
     let more : take (i + 1) texts ≡ before ++ text ∷ [] = take_more texts i none c.loop-text-test.true in
-    let new : c.in_ok-insert.field-0 ≡ not (has (lent before) text.now) = c.in_ok-insert.ensures.added ∙ ap not (c.loop-text.invariant.seen text) in
+    let new : c.in_ok-insert.field-0 ≡ not (has (lent before) text.now) = c.in_ok-insert.ensures.added
+    ∙ ap not (c.loop-text.invariant.seen text) in
     let firsts : lent c.if-branch.firsts.items ≡ distinct (lent (before ++ text ∷ [])) = elim c.if-branch.branch [
       | then-branch+in_ok-push w ↦
           ap (λ v. lent v.items) w.firsts-is ∙ (ap lent w.in_ok-push.ensures.items
-          ∙ new_text before c.loop-text.firsts.items text c.in_ok-insert.field-0 new w.if-branch.true c.loop-text.invariant.firsts)
+          ∙ new_text before c.loop-text.firsts.items text c.in_ok-insert.field-0 new w.if-branch.true
+          c.loop-text.invariant.firsts)
       | else-branch w ↦
           ap (λ v. lent v.items) w.firsts-is
-          ∙ old_text before c.loop-text.firsts.items text c.in_ok-insert.field-0 new w.if-branch.false c.loop-text.invariant.firsts
+          ∙ old_text before c.loop-text.firsts.items text c.in_ok-insert.field-0 new w.if-branch.false
+          c.loop-text.invariant.firsts
     ] in
     record {
       firsts = firsts ∙ ap (λ (l : List (Bor (List ℕ))). distinct (lent l)) (sym more);
-      seen = λ q. met c.loop-text.seen.keys c.insert.new.self.keys before text q (c.in_ok-insert.ensures.updates.0 q) (c.loop-text.invariant.seen q)
+      seen = λ q. met c.loop-text.seen.keys c.insert.new.self.keys before text q (c.in_ok-insert.ensures.updates.0 q)
+          (c.loop-text.invariant.seen q)
           ∙ ap (λ (l : List (Bor (List ℕ))). has (lent l) q.now) (sym more);
     }

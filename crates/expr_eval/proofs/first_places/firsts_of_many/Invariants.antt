@@ -11,5 +11,6 @@ use Rattle.expr_eval.proofs.first_places.firsts_of_many.Given as goal
 abbrev pub invariant-loop-text : goal.invariant-loop-text
 invariant-loop-text l = record {
   firsts : lent l.firsts.items ≡ distinct (lent (take l.text-index l.texts));
-  seen : (q : Bor (List ℕ)) → list_any (λ (k : Bor (List ℕ)). is_eq (slice_cmp nat_cmp q.now k.now)) l.seen.keys ≡ has (lent (take l.text-index l.texts)) q.now;
+  seen : (q : Bor (List ℕ)) → list_any (λ (k : Bor (List ℕ)). is_eq (slice_cmp nat_cmp q.now k.now)) l.seen.keys
+      ≡ has (lent (take l.text-index l.texts)) q.now;
 }

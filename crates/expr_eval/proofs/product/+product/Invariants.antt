@@ -14,5 +14,7 @@ abbrev pub invariant-add_keys_of_each-loop-text : goal.invariant-add_keys_of_eac
 invariant-add_keys_of_each-loop-text l = record {
   front : l.front.items ≡ l.initial.front.items;
   few : length l.keys ≤ most;
-  keys : l.keys ≡ take most (l.initial.keys ++ behind (lent l.initial.front.items) (lent (take l.text-index l.texts) ∷ map (λ list. lent list.items) l.others));
+  keys : l.keys ≡ take most
+      (l.initial.keys ++ behind (lent l.initial.front.items)
+      (lent (take l.text-index l.texts) ∷ map (λ list. lent list.items) l.others));
 }

@@ -1,5 +1,6 @@
 -- What is made from the lists of the code is what the definition says, and has no doubles.
-use Rattle.std.proofs.Common.{◌≡◌, ◌≢◌, ℕ, List, ◌++◌, length, Bor, Vec, Global, map, take, sym, ap, ap₂, subst, ◌∙◌, arith}
+use Rattle.std.proofs.Common.{◌≡◌, ◌≢◌, ℕ, List, ◌++◌, length, Bor, Vec, Global, map, take, sym, ap, ap₂, subst, ◌∙◌}
+use Rattle.std.proofs.Common.{arith}
 use Rattle.std.proofs.lemmas.List.{length-map}
 use Rattle.std.proofs.lemmas.List.Elements.{All-nil}
 use Rattle.std.specs.List.{All, AllPairs}
@@ -30,11 +31,16 @@ returns-then-has_empty-clause-value c =
     let tree = tree_of c.args.root.now in
     let exprs = c.args.exprs.now in
     let all : lists_of c.deref-2.result.now ≡ map (λ f. key_texts (texts_of f tree)) (map form_of exprs) =
-    ap lists_of c.deref-2.ensures.value ∙ (c.in_ok-lists.ensures ∙ (ap (map key_texts) (c.deref.ensures.value ∙ c.in_ok-given.ensures) ∙ lists_same tree exprs)) in
-    c.new-keys.ensures ∙ sym (no_keys tree exprs (lists_of c.deref-2.result.now) all (tuples-empty c.deref-2.result.now (sym c.has_empty.ensures ∙ c.if-has_empty.true)))
+    ap lists_of c.deref-2.ensures.value
+    ∙ (c.in_ok-lists.ensures
+    ∙ (ap (map key_texts) (c.deref.ensures.value ∙ c.in_ok-given.ensures) ∙ lists_same tree exprs)) in
+    c.new-keys.ensures ∙ sym
+    (no_keys tree exprs (lists_of c.deref-2.result.now) all
+    (tuples-empty c.deref-2.result.now (sym c.has_empty.ensures ∙ c.if-has_empty.true)))
 
 pub returns-then-has_empty-clause-distinct : goal.returns-then-has_empty-clause-distinct
-returns-then-has_empty-clause-distinct c = subst AreApart (sym c.new-keys.ensures) (λ i j d before within. absurd (omega arith))
+returns-then-has_empty-clause-distinct c = subst AreApart (sym c.new-keys.ensures)
+    (λ i j d before within. absurd (omega arith))
 
 pub returns-clause-value : goal.returns-clause-value
 returns-clause-value c =
@@ -42,9 +48,12 @@ returns-clause-value c =
     let exprs = c.args.exprs.now in
     let lists = lists_of c.deref-3.result.now in
     let all : lists ≡ map (λ f. key_texts (texts_of f tree)) (map form_of exprs) =
-    ap lists_of c.deref-3.ensures.value ∙ (c.in_ok-lists.ensures ∙ (ap (map key_texts) (c.deref.ensures.value ∙ c.in_ok-given.ensures) ∙ lists_same tree exprs)) in
+    ap lists_of c.deref-3.ensures.value
+    ∙ (c.in_ok-lists.ensures
+    ∙ (ap (map key_texts) (c.deref.ensures.value ∙ c.in_ok-given.ensures) ∙ lists_same tree exprs)) in
     c.in_ok-add_keys.ensures.keys
-    ∙ (ap₂ (λ (keys : Keys) (front : List (Bor (List ℕ))). take most (keys ++ behind (lent front) lists)) c.new-keys.ensures c.in_ok-front.ensures.items
+    ∙ (ap₂ (λ (keys : Keys) (front : List (Bor (List ℕ))). take most (keys ++ behind (lent front) lists))
+    c.new-keys.ensures c.in_ok-front.ensures.items
     ∙ keys_made tree exprs lists all)
 
 pub returns-then-has_empty-clause-widths : goal.returns-then-has_empty-clause-widths

@@ -11,6 +11,7 @@ loop-value-preserved c =
     let i = c.loop-value.value-index in
     let value = c.value-item.result in
     let more : take (i + 1) values ≡ take i values ++ value ∷ [] =
-    take_more values i value c.loop-value-test.true ∙ ap (λ (v : Value). take i values ++ v ∷ []) (sym c.value-item.is) in
+    take_more values i value c.loop-value-test.true
+    ∙ ap (λ (v : Value). take i values ++ v ∷ []) (sym c.value-item.is) in
     c.in_ok-add_text.ensures ∙ (ap (λ l. l ++ texts_in (value ∷ [])) c.loop-value.invariant
     ∙ sym (ap texts_in more ∙ filter_map-append text_of (take i values) (value ∷ [])))

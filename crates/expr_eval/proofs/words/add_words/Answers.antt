@@ -15,11 +15,14 @@ loop-word-preserved c =
     record {
       utf8 = t.utf8;
       words = ap (λ v. lent v ++ words_in left) c.in_ok-push.ensures.items
-          ∙ one_word_more l.words.items c.in-Some.word (words_in l.word-iterator.rest.now) (words_in left) (lent c.args.words.now.items ++ words_in c.args.text.now) l.invariant.words t.words;
+          ∙ one_word_more l.words.items c.in-Some.word (words_in l.word-iterator.rest.now) (words_in left)
+          (lent c.args.words.now.items ++ words_in c.args.text.now) l.invariant.words t.words;
     }
 
 pub returns : goal.returns
 returns c =
     let l = c.loop-word in
     let s = c.in-None.ensures.steps in
-    sym (append-nil (lent l.words.items)) ∙ (ap (λ (w : List (List ℕ)). lent l.words.items ++ w) (sym (no_word l.word-iterator.rest.now l.invariant.utf8 s.1)) ∙ l.invariant.words)
+    sym (append-nil (lent l.words.items))
+    ∙ (ap (λ (w : List (List ℕ)). lent l.words.items ++ w)
+    (sym (no_word l.word-iterator.rest.now l.invariant.utf8 s.1)) ∙ l.invariant.words)

@@ -19,7 +19,10 @@ abbrev pub decreases-expression : goal.decreases-expression
 decreases-expression l = 3 * length l.reader.now
 
 abbrev pub invariant-arguments-loop-alloc : goal.invariant-arguments-loop-alloc
-invariant-arguments-loop-alloc l = ((K : Open) → run (done (within Combine K) (form_of l.fn.first)) l.fn.reader ≡ run (more K (map form_of l.all.items)) l.reader) × Fails is_white l.reader × (length l.reader ≤ length l.fn.reader)
+invariant-arguments-loop-alloc l =
+    ((K : Open) → run (done (within Combine K) (form_of l.fn.first)) l.fn.reader
+    ≡ run (more K (map form_of l.all.items)) l.reader) × Fails is_white l.reader
+    × (length l.reader ≤ length l.fn.reader)
 
 abbrev pub decreases-arguments-loop-alloc : goal.decreases-arguments-loop-alloc
 decreases-arguments-loop-alloc l = length l.reader

@@ -12,5 +12,10 @@ returns-then-is_empty c =
 
 pub returns : goal.returns
 returns c =
-    let some : 0 < length c.part-part.result.now = grind (arith, nat_tests, c.if-is_empty.false, c.is_empty.ensures) in
-    (c.part-part.ensures.value, c.part-part.ensures.rest, starts_part c.args.reader.now c.part-part.result.now c.part-part.ensures.value some, c.part-part.utf8)
+    let some : 0 < length c.part-part.result.now = grind (arith, nat_tests, c.if-is_empty.false, c.is_empty.ensures)
+    in (
+      c.part-part.ensures.value,
+      c.part-part.ensures.rest,
+      starts_part c.args.reader.now c.part-part.result.now c.part-part.ensures.value some,
+      c.part-part.utf8,
+    )

@@ -7,4 +7,5 @@ use Rattle.expr_parser.proofs.descent.whole.Goals as goal
 
 pub returns : goal.returns
 returns c =
-    c.in_ok-expr.ensures.goes none ∙ whole_text (form_of c.in_ok-expr.expr) c.expression.new.reader c.if-not-is_at_end.ensures
+    c.in_ok-expr.ensures.goes none
+    ∙ whole_text (form_of c.in_ok-expr.expr) c.expression.new.reader c.if-not-is_at_end.ensures

@@ -8,7 +8,9 @@ use Rattle.expr_parser.proofs.Steps.{counted}
 use Rattle.expr_parser.proofs.descent.width_behind.Given as goal
 
 abbrev pub invariant-loop-longer : goal.invariant-loop-longer
-invariant-loop-longer l = ((f : Form) (K : Open) → run (done (within Number K) f) l.fn.reader ≡ run (counted K f l.width) l.reader) × (l.width ≤ 128) × (l.width ≡ 0 → Fails is_white l.reader) × (length l.reader ≤ length l.fn.reader)
+invariant-loop-longer l = ((f : Form) (K : Open)
+    → run (done (within Number K) f) l.fn.reader ≡ run (counted K f l.width) l.reader) × (l.width ≤ 128)
+    × (l.width ≡ 0 → Fails is_white l.reader) × (length l.reader ≤ length l.fn.reader)
 
 abbrev pub decreases-loop-longer : goal.decreases-loop-longer
 decreases-loop-longer l = length l.reader

@@ -9,16 +9,22 @@ pub overflow_sub-text : goal.overflow_sub-text
 overflow_sub-text c =
     let text = c.args.text.now in
     let rest = c.args.rest.now in
-    omega (arith, front_length text (encode_utf8_all (front_of is_part (chars text))) rest (front_bytes text rest c.utf8.text c.utf8.rest c.requires))
+    omega (
+      arith,
+      front_length text (encode_utf8_all (front_of is_part (chars text))) rest
+          (front_bytes text rest c.utf8.text c.utf8.rest c.requires),
+    )
 
 pub split_at-requires : goal.split_at-requires
 split_at-requires c =
     let text = c.args.text.now in
     let rest = c.args.rest.now in
-    cut_at_rest text (encode_utf8_all (front_of is_part (chars text))) rest (front_bytes text rest c.utf8.text c.utf8.rest c.requires) c.utf8.rest
+    cut_at_rest text (encode_utf8_all (front_of is_part (chars text))) rest
+    (front_bytes text rest c.utf8.text c.utf8.rest c.requires) c.utf8.rest
 
 pub returns : goal.returns
 returns c =
     let text = c.args.text.now in
     let rest = c.args.rest.now in
-    c.split_at.ensures.front ∙ take_front text (encode_utf8_all (front_of is_part (chars text))) rest (front_bytes text rest c.utf8.text c.utf8.rest c.requires)
+    c.split_at.ensures.front ∙ take_front text (encode_utf8_all (front_of is_part (chars text))) rest
+    (front_bytes text rest c.utf8.text c.utf8.rest c.requires)

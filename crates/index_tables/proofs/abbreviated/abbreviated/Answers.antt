@@ -12,4 +12,5 @@ returns-then-is_empty c =
 pub returns : goal.returns
 returns c =
     let some : 0 < length c.args.key.now = grind (arith, nat_tests, c.if-is_empty.false, c.is_empty.ensures) in
-    abbreviated_first c.args.key.now c.index-key-0.result c.as_bytes.result.now c.abbreviated_key.result some c.index-key-0.is (c.as_bytes.ensures.value ∙ c.as_str.ensures) c.abbreviated_key.ensures.value
+    abbreviated_first c.args.key.now c.index-key-0.result c.as_bytes.result.now c.abbreviated_key.result some
+    c.index-key-0.is (c.as_bytes.ensures.value ∙ c.as_str.ensures) c.abbreviated_key.ensures.value

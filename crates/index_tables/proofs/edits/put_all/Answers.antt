@@ -7,7 +7,9 @@ use Rattle.index_tables.proofs.edits.put_all.Goals as goal
 pub put-requires-clause-fresh : goal.put-requires-clause-fresh
 put-requires-clause-fresh c =
     let i = c.loop-pair.invariant in
-    is_fresh (seen c.loop-pair.list.items) (seen c.loop-pair.list.items) (seen c.args.list.now.items) (seen c.args.pairs.items) c.loop-pair.pairs.items c.pop.new.self.items c.in-Some.pair c.in-Some.ensures.items i.distinct i.fresh
+    is_fresh (seen c.loop-pair.list.items) (seen c.loop-pair.list.items) (seen c.args.list.now.items)
+    (seen c.args.pairs.items) c.loop-pair.pairs.items c.pop.new.self.items c.in-Some.pair c.in-Some.ensures.items
+    i.distinct i.fresh
 
 pub loop-pair-preserved : goal.loop-pair-preserved
 loop-pair-preserved c =
@@ -15,9 +17,15 @@ loop-pair-preserved c =
     let taken = c.in-Some.ensures.items in
     record {
       order = c.put.ensures.order;
-      distinct = rest_distinct (seen c.loop-pair.list.items) (seen c.put.new.list.items) (seen c.args.list.now.items) (seen c.args.pairs.items) c.loop-pair.pairs.items c.pop.new.self.items c.in-Some.pair taken i.distinct i.fresh;
-      fresh = rest_fresh (seen c.loop-pair.list.items) (seen c.put.new.list.items) (seen c.args.list.now.items) (seen c.args.pairs.items) c.loop-pair.pairs.items c.pop.new.self.items c.in-Some.pair taken i.distinct i.fresh c.put.ensures.members;
-      members = all_members (seen c.loop-pair.list.items) (seen c.put.new.list.items) (seen c.args.list.now.items) (seen c.args.pairs.items) c.loop-pair.pairs.items c.pop.new.self.items c.in-Some.pair taken i.distinct i.fresh c.put.ensures.members i.members;
+      distinct = rest_distinct (seen c.loop-pair.list.items) (seen c.put.new.list.items) (seen c.args.list.now.items)
+          (seen c.args.pairs.items) c.loop-pair.pairs.items c.pop.new.self.items c.in-Some.pair taken
+          i.distinct i.fresh;
+      fresh = rest_fresh (seen c.loop-pair.list.items) (seen c.put.new.list.items) (seen c.args.list.now.items)
+          (seen c.args.pairs.items) c.loop-pair.pairs.items c.pop.new.self.items c.in-Some.pair taken i.distinct
+          i.fresh c.put.ensures.members;
+      members = all_members (seen c.loop-pair.list.items) (seen c.put.new.list.items) (seen c.args.list.now.items)
+          (seen c.args.pairs.items) c.loop-pair.pairs.items c.pop.new.self.items c.in-Some.pair taken i.distinct
+          i.fresh c.put.ensures.members i.members;
       count = omega (arith, c.in-Some.ensures.cases);
       room = omega (arith, c.in-Some.ensures.cases);
     }

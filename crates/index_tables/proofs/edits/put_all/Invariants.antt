@@ -10,7 +10,8 @@ invariant-loop-pair l = record {
   order : IsInOrder (seen l.list.items);
   distinct : AreDistinct (seen l.pairs.items);
   fresh : AreNew (seen l.list.items) (seen l.pairs.items);
-  members : (p : Entry) → (has (seen l.list.items) p || has (seen l.pairs.items) p) ≡ (has (seen l.fn.list.items) p || has (seen l.fn.pairs.items) p);
+  members : (p : Entry) → (has (seen l.list.items) p || has (seen l.pairs.items) p)
+      ≡ (has (seen l.fn.list.items) p || has (seen l.fn.pairs.items) p);
   count : length (seen l.list.items) + vec_len l.pairs ≡ length (seen l.fn.list.items) + vec_len l.fn.pairs;
   room : l.list.room + vec_len l.fn.pairs ≡ l.fn.list.room + vec_len l.pairs;
 }

@@ -7,7 +7,8 @@ use Rattle.index_tables.proofs.edits.take_id.Given as goal
 abbrev pub invariant-loop-place : goal.invariant-loop-place
 invariant-loop-place l = record {
   within : l.place ≤ length l.fn.list.items;
-  kept : seen l.list.items ≡ take l.place (seen l.fn.list.items) ++ filter (λ p. not (is_of l.id p)) (drop l.place (seen l.fn.list.items));
+  kept : seen l.list.items ≡ take l.place (seen l.fn.list.items)
+      ++ filter (λ p. not (is_of l.id p)) (drop l.place (seen l.fn.list.items));
   room : l.list.room ≡ l.fn.list.room;
 }
 

@@ -9,7 +9,8 @@ pub returns : goal.returns
 returns c =
     let i = c.loop-at.invariant in
     c.cmp.ensures
-    ∙ sym (i.rests ∙ cmp-at_end (slice_cmp nat_cmp) c.args.a.now c.args.b.now c.loop-at.at i.in_a i.in_b (elim c.loop-at-test.branch [
+    ∙ sym (i.rests ∙ cmp-at_end (slice_cmp nat_cmp) c.args.a.now c.args.b.now c.loop-at.at i.in_a i.in_b
+    (elim c.loop-at-test.branch [
       | then-loop-at-test+else-at-b w ↦ inr (omega (arith, w.if-at-b.false))
       | else-loop-at-test w ↦ inl (omega (arith, w.loop-at-test.false))
     ]))

@@ -15,4 +15,5 @@ put_pairs-requires-clause-fresh c =
     let gone : AreNew c.remove.new.self.pairs (entries_of c.args.id.now c.args.set.keys) =
     subst (λ (ps : List Entry). AreNew ps (entries_of c.args.id.now c.args.set.keys)) (sym c.remove.ensures.pairs)
     (new_after_remove c.args.table.now.pairs c.args.id.now c.args.set.keys) in
-    subst (λ (ps : List Entry). AreNew ps c.in_ok-pairs.pairs) (sym c.in_ok-reserve.ensures.pairs) (subst (AreNew c.remove.new.self.pairs) (sym c.in_ok-pairs.ensures) gone)
+    subst (λ (ps : List Entry). AreNew ps c.in_ok-pairs.pairs) (sym c.in_ok-reserve.ensures.pairs)
+    (subst (AreNew c.remove.new.self.pairs) (sym c.in_ok-pairs.ensures) gone)

@@ -7,13 +7,15 @@ use Rattle.journal.proofs.appending.add_behind.Goals as goal
 
 pub returns-in_err-write_synced-clause-any_moment : goal.returns-in_err-write_synced-clause-any_moment
 returns-in_err-write_synced-clause-any_moment g c t e =
-    let known = g.D.Disk.known in let old = known c.args.disk.now in let gate = c.args.gate in let piece = c.args.behind.now in
+    let known = g.D.Disk.known in let old = known c.args.disk.now in let gate = c.args.gate
+    in let piece = c.args.behind.now in
     weaker old (known c.write_synced.new.disk) (Torn (gate + 1) (length piece) old.seen) (IsAdding gate piece old.seen)
     (c.in_err-write_synced.ensures.any_moment t e) (λ image i. inl i)
 
 pub returns-clause-any_moment : goal.returns-clause-any_moment
 returns-clause-any_moment g c t e =
-    let known = g.D.Disk.known in let old = known c.args.disk.now in let gate = c.args.gate in let piece = c.args.behind.now in
+    let known = g.D.Disk.known in let old = known c.args.disk.now in let gate = c.args.gate
+    in let piece = c.args.behind.now in
     let mid = known c.write_synced.new.disk in let new = known c.write_synced-2.new.disk in
     goes_on old mid new (IsAdding gate piece old.seen)
     (weaker old mid (Torn (gate + 1) (length piece) old.seen) (IsAdding gate piece old.seen)

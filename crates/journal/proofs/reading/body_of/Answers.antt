@@ -7,7 +7,8 @@ use Rattle.journal.proofs.Fields.{begins_long, body_begins, body_is, length-body
 use Rattle.journal.proofs.reading.body_of.Goals as goal
 
 pub returns-then-bytes-lt4 : goal.returns-then-bytes-lt4
-returns-then-bytes-lt4 c body is b = absurd (omega (arith, begins_long (body_field body) c.args.bytes.now b, length-body_field body))
+returns-then-bytes-lt4 c body is b =
+    absurd (omega (arith, begins_long (body_field body) c.args.bytes.now b, length-body_field body))
 
 pub returns-then-size-eq0 : goal.returns-then-size-eq0
 returns-then-size-eq0 c body is b =
@@ -27,5 +28,7 @@ returns c =
     let fits : n ≤ length (drop 4 bytes) = omega (arith, ap length (take_rest bytes 4)) in
     let size : length (take n (drop 4 bytes)) ≡ n = length-take-le n (drop 4 bytes) fits in
     let P : List ℕ → Type 0 = λ body. IsBody body × Begins (body_field body) bytes in
-    subst P (sym (ap (take n) (take_rest bytes 4)))
-    ((omega (arith, size, c.if-size-eq0.false), omega (arith, size, c.u32_at-size.type_inv)), body_begins n bytes c.u32_at-size.ensures fits)
+    subst P (sym (ap (take n) (take_rest bytes 4))) (
+      (omega (arith, size, c.if-size-eq0.false), omega (arith, size, c.u32_at-size.type_inv)),
+      body_begins n bytes c.u32_at-size.ensures fits,
+    )

@@ -12,7 +12,8 @@ loop-at-init c = ([], reached_none [] c.args.bytes.now refl)
 
 pub returns-then-bytes-at-ne-OPEN_GATE : goal.returns-then-bytes-at-ne-OPEN_GATE
 returns-then-bytes-at-ne-OPEN_GATE c =
-    let bytes = c.args.bytes.now in let at = c.loop-at.at in let bodies = c.loop-at.invariant.0 in let r = c.loop-at.invariant.1 in (
+    let bytes = c.args.bytes.now in let at = c.loop-at.at in let bodies = c.loop-at.invariant.0
+    in let r = c.loop-at.invariant.1 in (
       bodies,
       r.fit,
       sym r.there.there,
@@ -26,15 +27,18 @@ returns-then-bytes-at-ne-OPEN_GATE c =
 
 pub returns-in_default : goal.returns-in_default
 returns-in_default c =
-    reached_broken c.loop-at.invariant.0 c.args.bytes.now c.loop-at.at (c.loop-at.at + 1) c.loop-at.invariant.1 c.loop-at-test.true c.if-bytes-at-ne-OPEN_GATE.false
+    reached_broken c.loop-at.invariant.0 c.args.bytes.now c.loop-at.at
+    (c.loop-at.at + 1) c.loop-at.invariant.1 c.loop-at-test.true c.if-bytes-at-ne-OPEN_GATE.false
     (subst NoBody c.behind-after_gate.ensures c.in_default.ensures) refl
 
 pub loop-at-preserved : goal.loop-at-preserved
 loop-at-preserved c =
     let bodies = c.loop-at.invariant.0 in let body = c.in-Some.body.now in (
       bodies ++ body ∷ [],
-      reached_more bodies (bodies ++ body ∷ []) body c.args.bytes.now c.loop-at.at _ c.loop-at.invariant.1 c.loop-at-test.true c.if-bytes-at-ne-OPEN_GATE.false
-          c.in-Some.ensures.0 (subst (Begins (body_field body)) c.behind-after_gate.ensures c.in-Some.ensures.1) refl refl,
+      reached_more bodies (bodies ++ body ∷ []) body c.args.bytes.now c.loop-at.at _ c.loop-at.invariant.1
+          c.loop-at-test.true c.if-bytes-at-ne-OPEN_GATE.false
+          c.in-Some.ensures.0 (subst (Begins (body_field body)) c.behind-after_gate.ensures c.in-Some.ensures.1) refl
+          refl,
     )
 
 pub returns : goal.returns

@@ -23,7 +23,8 @@ returns-in-Ok c =
     let fits : n ≤ length (drop 2 bytes) = omega (arith, ap length (take_rest bytes 2)) in
     let is : c.in-Ok.text.now ≡ take n (drop 2 bytes) = c.in-Ok.ensures.cases.0 ∙ ap (take n) (take_rest bytes 2) in (
       omega (arith, ap length is, length-take-le n (drop 2 bytes) fits, c.u16_at-size.type_inv),
-      subst (λ (text : List ℕ). Begins (text_field text) bytes) (sym is) (text_begins n bytes c.u16_at-size.ensures fits),
+      subst (λ (text : List ℕ). Begins (text_field text) bytes) (sym is)
+          (text_begins n bytes c.u16_at-size.ensures fits),
     )
 
 pub returns-in-Err : goal.returns-in-Err

@@ -18,12 +18,16 @@ begin_anew-requires-clause-first g c =
 
 pub returns-in-Ok-begin_anew-clause-any_moment : goal.returns-in-Ok-begin_anew-clause-any_moment
 returns-in-Ok-begin_anew-clause-any_moment g c t =
-    let known = g.D.Disk.known in let old = known c.args.disk.now in let begun = c.as_slice.result.now in let head = c.args.header.now in
-    weaker old (known c.begin_anew.new.disk) (IsAnew old.seen begun) (IsOnTheWay old.seen head) (c.in-Ok-begin_anew.ensures.any_moment t)
+    let known = g.D.Disk.known in let old = known c.args.disk.now in let begun = c.as_slice.result.now
+    in let head = c.args.header.now in
+    weaker old (known c.begin_anew.new.disk) (IsAnew old.seen begun) (IsOnTheWay old.seen head)
+    (c.in-Ok-begin_anew.ensures.any_moment t)
     (on_the_way old.seen begun head (c.as_slice.ensures ∙ c.in-Ok.ensures.bytes))
 
 pub returns-clause-any_moment : goal.returns-clause-any_moment
 returns-clause-any_moment g c t =
-    let known = g.D.Disk.known in let old = known c.args.disk.now in let begun = c.as_slice.result.now in let head = c.args.header.now in
-    weaker old (known c.begin_anew.new.disk) (IsAnew old.seen begun) (IsOnTheWay old.seen head) (c.in-Err.ensures.any_moment t)
+    let known = g.D.Disk.known in let old = known c.args.disk.now in let begun = c.as_slice.result.now
+    in let head = c.args.header.now in
+    weaker old (known c.begin_anew.new.disk) (IsAnew old.seen begun) (IsOnTheWay old.seen head)
+    (c.in-Err.ensures.any_moment t)
     (on_the_way old.seen begun head (c.as_slice.ensures ∙ c.in-Ok.ensures.bytes))

@@ -10,13 +10,17 @@ use Rattle.journal.proofs.Restarts.{torn_kept}
 use Rattle.journal.proofs.restarting.spoil.Goals as goal
 
 -- looking
-kept : (old mid : Device) (bytes : List ℕ) → old.now ≡ settled bytes → LeavesOnly old mid (IsCrashImage old.now) → LeavesOnly old mid (IsKeptOrSpoilt bytes)
+kept : (old mid : Device) (bytes : List ℕ) → old.now ≡ settled bytes → LeavesOnly old mid (IsCrashImage old.now)
+    → LeavesOnly old mid (IsKeptOrSpoilt bytes)
 kept old mid bytes e run =
-    weaker old mid (IsCrashImage old.now) (IsKeptOrSpoilt bytes) run (settled_image old.now bytes (IsKeptOrSpoilt bytes) e (inl refl))
+    weaker old mid (IsCrashImage old.now) (IsKeptOrSpoilt bytes) run
+    (settled_image old.now bytes (IsKeptOrSpoilt bytes) e (inl refl))
 
 -- and writing
-spoils : (old mid new : Device) (bytes : List ℕ) → old.now ≡ settled bytes → LeavesOnly old mid (IsCrashImage old.now) → mid.seen ≡ bytes → mid.now ≡ old.now
-    → (length bytes ≡ 0) ⊎ (get_or bytes 0 0 ≡ 85) → (IsSettled (file_of mid) → LeavesOnly mid new (Torn 0 1 mid.seen)) → LeavesOnly old new (IsKeptOrSpoilt bytes)
+spoils : (old mid new : Device) (bytes : List ℕ) → old.now ≡ settled bytes → LeavesOnly old mid (IsCrashImage old.now)
+    → mid.seen ≡ bytes → mid.now ≡ old.now
+    → (length bytes ≡ 0) ⊎ (get_or bytes 0 0 ≡ 85) → (IsSettled (file_of mid) → LeavesOnly mid new (Torn 0 1 mid.seen))
+    → LeavesOnly old new (IsKeptOrSpoilt bytes)
 spoils old mid new bytes e run same stays first write =
     goes_on old mid new (IsKeptOrSpoilt bytes) (kept old mid bytes e run)
     (weaker mid new (Torn 0 1 mid.seen) (IsKeptOrSpoilt bytes) (write (stays ∙ e ∙ ap settled (sym same)))
@@ -29,15 +33,19 @@ returns-in_err-first_byte-clause-any_moment g c t =
 
 pub returns-in-None-clause-any_moment : goal.returns-in-None-clause-any_moment
 returns-in-None-clause-any_moment g c t =
-    let known = g.D.Disk.known in let old = known c.args.disk.now in let mid = known c.first_byte.new.disk in let ok = c.in_ok-first_byte.ensures in
+    let known = g.D.Disk.known in let old = known c.args.disk.now in let mid = known c.first_byte.new.disk
+    in let ok = c.in_ok-first_byte.ensures in
     let empty : length old.seen ≡ 0 = rw c.in-None.is at (ok.value t) in
-    spoils old mid (known c.write_synced.new.disk) old.seen (c.requires t) (ok.any_moment t) (ok.seen t) (ok.now t) (inl empty) (c.write_synced.ensures.any_moment t)
+    spoils old mid (known c.write_synced.new.disk) old.seen (c.requires t) (ok.any_moment t) (ok.seen t) (ok.now t)
+    (inl empty) (c.write_synced.ensures.any_moment t)
 
 pub returns-in-Some-eq85-clause-any_moment : goal.returns-in-Some-eq85-clause-any_moment
 returns-in-Some-eq85-clause-any_moment g c t =
-    let known = g.D.Disk.known in let old = known c.args.disk.now in let mid = known c.first_byte.new.disk in let ok = c.in_ok-first_byte.ensures in
+    let known = g.D.Disk.known in let old = known c.args.disk.now in let mid = known c.first_byte.new.disk
+    in let ok = c.in_ok-first_byte.ensures in
     let first = rw c.in-Some-eq85.is at (ok.value t) in
-    spoils old mid (known c.write_synced-in-Some-eq85.new.disk) old.seen (c.requires t) (ok.any_moment t) (ok.seen t) (ok.now t)
+    spoils old mid (known c.write_synced-in-Some-eq85.new.disk) old.seen (c.requires t) (ok.any_moment t)
+    (ok.seen t) (ok.now t)
     (inr (first.1 ∙ c.in-Some-eq85.field-0-test)) (c.write_synced-in-Some-eq85.ensures.any_moment t)
 
 pub returns-in-Some-clause-any_moment : goal.returns-in-Some-clause-any_moment

@@ -6,7 +6,8 @@ use Rattle.key_lanes.proofs.order.compare.Goals.{else-at-a-via-then-at-a+else-at
 
 pub returns-then-at-b : goal.returns-then-at-b
 returns-then-at-b c =
-    c.cmp.ensures ∙ sym (slice_cmp-at_difference c.args.a.now c.args.b.now _ c.common_prefix-at.ensures.value c.if-at-a.true c.if-at-b.true)
+    c.cmp.ensures ∙ sym (slice_cmp-at_difference c.args.a.now c.args.b.now _ c.common_prefix-at.ensures.value
+    c.if-at-a.true c.if-at-b.true)
 
 pub returns-else-at-a : goal.returns-else-at-a
 returns-else-at-a c =

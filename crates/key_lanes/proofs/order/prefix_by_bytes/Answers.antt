@@ -5,8 +5,10 @@ use Rattle.key_lanes.proofs.order.prefix_by_bytes.Goals as goal
 
 pub returns-else-a-at-clause-value : goal.returns-else-a-at-clause-value
 returns-else-a-at-clause-value c =
-    common_prefix_is c.args.a.now c.args.b.now _ (omega arith) (omega arith) c.loop-at.invariant.same (λ m n. c.if-a-at.false)
+    common_prefix_is c.args.a.now c.args.b.now _ (omega arith) (omega arith) c.loop-at.invariant.same
+    (λ m n. c.if-a-at.false)
 
 pub returns-after-loop-at-clause-value : goal.returns-after-loop-at-clause-value
 returns-after-loop-at-clause-value c =
-    common_prefix_is c.args.a.now c.args.b.now _ (omega arith) (omega arith) c.loop-at.invariant.same (λ m n. absurd (omega arith))
+    common_prefix_is c.args.a.now c.args.b.now _ (omega arith) (omega arith) c.loop-at.invariant.same
+    (λ m n. absurd (omega arith))

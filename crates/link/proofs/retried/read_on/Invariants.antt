@@ -4,4 +4,5 @@ use Rattle.std.specs.Io.KnownBytes.{Keeps}
 use Rattle.link.proofs.retried.read_on.Given as goal
 
 abbrev pub invariant-loop : goal.invariant-loop
-invariant-loop g l = (length l.into ≡ length l.initial.into) × Keeps (g.R.Read.remaining l.initial.reader) (g.R.Read.remaining l.reader)
+invariant-loop g l = (length l.into ≡ length l.initial.into)
+    × Keeps (g.R.Read.remaining l.initial.reader) (g.R.Read.remaining l.reader)

@@ -9,5 +9,6 @@ use Rattle.query_range.proofs.once.each_once.Given as goal
 abbrev pub invariant-loop-id : goal.invariant-loop-id
 invariant-loop-id l = record {
   ids : l.ids ≡ firsts id_cmp (map (λ id. id.now) (take l.id-index l.found));
-  holding : (other : Bor (List ℕ)) → holds l.seen.places.items l.seen.others other ≡ list_any (same_id other.now) (map (λ id. id.now) (take l.id-index l.found));
+  holding : (other : Bor (List ℕ)) → holds l.seen.places.items l.seen.others other
+      ≡ list_any (same_id other.now) (map (λ id. id.now) (take l.id-index l.found));
 }

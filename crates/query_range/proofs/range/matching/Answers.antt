@@ -11,7 +11,9 @@ returns-clause-found g c =
     let parts = c.args.pattern.now in
     let ps = c.args.table.now.pairs in
     found (meets parts) ps (take_while (λ p. meets parts p.0) (drop c.seek-from.result ps))
-    (pattern_run parts ps c.seek-from.result c.floor.ensures.pattern c.requires.width c.args.table.now.order (subst (λ (k : List (List ℕ)). FallsAt ps k c.seek-from.result) (c.as_slice.ensures ∙ c.in_ok-floor.ensures.texts) c.seek-from.ensures.place))
+    (pattern_run parts ps c.seek-from.result c.floor.ensures.pattern c.requires.width c.args.table.now.order
+    (subst (λ (k : List (List ℕ)). FallsAt ps k c.seek-from.result)
+    (c.as_slice.ensures ∙ c.in_ok-floor.ensures.texts) c.seek-from.ensures.place))
     c.args.table.now.order c.ids_from.result c.ids_from.ensures.ids
 
 pub returns-clause-filtered : goal.returns-clause-filtered
@@ -19,10 +21,15 @@ returns-clause-filtered g c =
     let parts = c.args.pattern.now in
     let ps = c.args.table.now.pairs in
     filtered (meets parts) ps (take_while (λ p. meets parts p.0) (drop c.seek-from.result ps))
-    (pattern_run parts ps c.seek-from.result c.floor.ensures.pattern c.requires.width c.args.table.now.order (subst (λ (k : List (List ℕ)). FallsAt ps k c.seek-from.result) (c.as_slice.ensures ∙ c.in_ok-floor.ensures.texts) c.seek-from.ensures.place))
+    (pattern_run parts ps c.seek-from.result c.floor.ensures.pattern c.requires.width c.args.table.now.order
+    (subst (λ (k : List (List ℕ)). FallsAt ps k c.seek-from.result)
+    (c.as_slice.ensures ∙ c.in_ok-floor.ensures.texts) c.seek-from.ensures.place))
     c.ids_from.result c.ids_from.ensures.ids
 
 pub returns-clause-looks : goal.returns-clause-looks
 returns-clause-looks g c k short =
-    let as_many = ap length (pattern_run c.args.pattern.now c.args.table.now.pairs c.seek-from.result c.floor.ensures.pattern c.requires.width c.args.table.now.order (subst (λ (t : List (List ℕ)). FallsAt c.args.table.now.pairs t c.seek-from.result) (c.as_slice.ensures ∙ c.in_ok-floor.ensures.texts) c.seek-from.ensures.place)) in
+    let as_many = ap length
+    (pattern_run c.args.pattern.now c.args.table.now.pairs c.seek-from.result c.floor.ensures.pattern c.requires.width
+    c.args.table.now.order (subst (λ (t : List (List ℕ)). FallsAt c.args.table.now.pairs t c.seek-from.result)
+    (c.as_slice.ensures ∙ c.in_ok-floor.ensures.texts) c.seek-from.ensures.place)) in
     omega (arith, c.seek-from.ensures.looks k short, c.ids_from.ensures.looks, as_many)

@@ -7,6 +7,8 @@ use Rattle.query_range.proofs.range.start_of.Goals as goal
 
 pub returns-in-Some-clause-place : goal.returns-in-Some-clause-place
 returns-in-Some-clause-place g c =
-    subst (λ (o : Option (Bor (List (List ℕ)))). StartsAt (option_copied o) c.args.table.now.pairs c.seek.result) (sym c.in-Some.is)
+    subst (λ (o : Option (Bor (List (List ℕ)))). StartsAt (option_copied o) c.args.table.now.pairs c.seek.result)
+    (sym c.in-Some.is)
     (starts_at c.args.table.now.pairs c.in-Some.key.now c.seek.result
-    (subst (λ (k : List (List ℕ)). FallsAt c.args.table.now.pairs k c.seek.result) c.texts.ensures.value c.seek.ensures.place))
+    (subst (λ (k : List (List ℕ)). FallsAt c.args.table.now.pairs k c.seek.result) c.texts.ensures.value
+    c.seek.ensures.place))

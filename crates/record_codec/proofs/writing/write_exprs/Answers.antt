@@ -12,14 +12,17 @@ use Rattle.record_codec.proofs.writing.write_exprs.Goals as goal
 pub expressions-requires : goal.expressions-requires
 expressions-requires c =
     let x = c.args.value.now in
-    let same : texts_of c.as_slice.result.now ≡ x.texts = ap (λ (fs : List Form). map canonical fs) c.as_slice.ensures.forms ∙ (exprs_of_texts x.texts x.spelled).1 in
+    let same : texts_of c.as_slice.result.now ≡ x.texts =
+    ap (λ (fs : List Form). map canonical fs) c.as_slice.ensures.forms ∙ (exprs_of_texts x.texts x.spelled).1 in
     subst AreExprs (sym same) x.spelled
 
 pub returns-clause-wrote : goal.returns-clause-wrote
 returns-clause-wrote c =
     let x = c.args.value.now in
-    let same : texts_of c.as_slice.result.now ≡ x.texts = ap (λ (fs : List Form). map canonical fs) c.as_slice.ensures.forms ∙ (exprs_of_texts x.texts x.spelled).1 in
-    subst (λ ts. OnOk c.expressions.result (c.expressions.new.self ≡ with_field expressions ts c.args.writer.now)) same c.expressions.ensures
+    let same : texts_of c.as_slice.result.now ≡ x.texts =
+    ap (λ (fs : List Form). map canonical fs) c.as_slice.ensures.forms ∙ (exprs_of_texts x.texts x.spelled).1 in
+    subst (λ ts. OnOk c.expressions.result (c.expressions.new.self ≡ with_field expressions ts c.args.writer.now)) same
+    c.expressions.ensures
 
 pub returns-clause-are : goal.returns-clause-are
 returns-clause-are c = c.args.value.now.spelled

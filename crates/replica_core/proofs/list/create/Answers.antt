@@ -18,5 +18,8 @@ returns-in_default g c =
 pub returns : goal.returns
 returns g c =
     let s = state_in (g.R.Replica.known c.args.replica.now) in
-    bared_to g.R.Replica.known g.R.Replica.is_open g.R.Replica.crash index_failure (create_decides c.args.name.now c.in-Ok.exprs.texts s) _ c.args.replica.now c.create_index.new.replica c.create_index.result _
-    (ap (λ (texts : List Text). bare (create_decides c.args.name.now texts s)) (sym c.in-Ok.ensures)) c.end_of_index.ensures c.create_index.ensures
+    bared_to g.R.Replica.known g.R.Replica.is_open g.R.Replica.crash index_failure
+    (create_decides c.args.name.now c.in-Ok.exprs.texts s) _ c.args.replica.now c.create_index.new.replica
+    c.create_index.result _
+    (ap (λ (texts : List Text). bare (create_decides c.args.name.now texts s)) (sym c.in-Ok.ensures))
+    c.end_of_index.ensures c.create_index.ensures

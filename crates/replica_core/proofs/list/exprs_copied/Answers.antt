@@ -15,11 +15,23 @@ of-requires-clause-read c =
 
 pub of-requires-clause-some : goal.of-requires-clause-some
 of-requires-clause-some c =
-    omega (arith, length-map c.in_ok-copies.copies form_of, ap (λ (fs : List Form). length fs) c.in_ok-copies.ensures, length-map c.as_slice.result.now form_of, c.as_slice.ensures.some)
+    omega (
+      arith,
+      length-map c.in_ok-copies.copies form_of,
+      ap (λ (fs : List Form). length fs) c.in_ok-copies.ensures,
+      length-map c.as_slice.result.now form_of,
+      c.as_slice.ensures.some,
+    )
 
 pub of-requires-clause-few : goal.of-requires-clause-few
 of-requires-clause-few c =
-    omega (arith, length-map c.in_ok-copies.copies form_of, ap (λ (fs : List Form). length fs) c.in_ok-copies.ensures, length-map c.as_slice.result.now form_of, c.as_slice.ensures.few)
+    omega (
+      arith,
+      length-map c.in_ok-copies.copies form_of,
+      ap (λ (fs : List Form). length fs) c.in_ok-copies.ensures,
+      length-map c.as_slice.result.now form_of,
+      c.as_slice.ensures.few,
+    )
 
 pub returns : goal.returns
 returns c =

@@ -8,5 +8,6 @@ abbrev pub invariant-loop-call : goal.invariant-loop-call
 invariant-loop-call g l = record {
   count : vec_len l.ends ≡ l.call-index;
   room : length l.calls ≤ vec_capacity l.ends;
-  so_far : SoFar g.R.Replica.known g.R.Replica.is_open g.R.Replica.crash l.fn.replica l.replica l.calls (drop l.call-index l.calls) l.ends.items;
+  so_far : SoFar g.R.Replica.known g.R.Replica.is_open g.R.Replica.crash l.fn.replica l.replica l.calls
+      (drop l.call-index l.calls) l.ends.items;
 }

@@ -7,4 +7,5 @@ use Rattle.replica_reads.proofs.documents.is_listed.Goals as goal
 
 pub returns-else-deleted : goal.returns-else-deleted
 returns-else-deleted c =
-    c.is_some.ensures ∙ ap (λ (m : Member). is_some m.content) c.current.ensures ∙ listed_live c.args.deleted c.args.set.now c.if-deleted.false
+    c.is_some.ensures ∙ ap (λ (m : Member). is_some m.content) c.current.ensures
+    ∙ listed_live c.args.deleted c.args.set.now c.if-deleted.false

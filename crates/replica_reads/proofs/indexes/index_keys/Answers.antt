@@ -10,4 +10,5 @@ pub returns-clause-documents : goal.returns-clause-documents
 returns-clause-documents g c =
     λ docs table.
     keys_are c.args.index.now docs table c.distinct_keys.result
-    (subst (λ (t : Indexed). IfOk c.distinct_keys.result (λ keys. keys ≡ keys_of t.pairs)) c.table.ensures.value c.distinct_keys.ensures.filtered)
+    (subst (λ (t : Indexed). IfOk c.distinct_keys.result (λ keys. keys ≡ keys_of t.pairs)) c.table.ensures.value
+    c.distinct_keys.ensures.filtered)

@@ -13,7 +13,8 @@ returns-clause-documents g c =
     let start = option_copied c.args.start in
     let end = option_copied c.args.end in
     let ids = c.in_ok-between.field-0 in
-    let is : ids ≡ answer (is_within c.args.start c.args.end) index.table.pairs = c.in_ok-between.ensures.filtered ∙ ap (λ (t : Indexed). answer (is_within c.args.start c.args.end) t.pairs) c.table.ensures.value in
+    let is : ids ≡ answer (is_within c.args.start c.args.end) index.table.pairs = c.in_ok-between.ensures.filtered
+    ∙ ap (λ (t : Indexed). answer (is_within c.args.start c.args.end) t.pairs) c.table.ensures.value in
     λ docs table.
     range_documents index start end
     (both (has_width (length index.exprs.texts) start) (has_width (length index.exprs.texts) end)

@@ -11,10 +11,12 @@ use Rattle.replica_state.proofs.changes.change_indexes.Given as goal
 abbrev pub invariant-loop-change : goal.invariant-loop-change
 invariant-loop-change l = record {
   within : vec_len l.changes ≤ length l.indexes.items;
-  changes : l.changes.items ≡ map (λ x. key_change l.id (find id_cmp l.id l.docs.pairs) l.set x.exprs.texts) (take (vec_len l.changes) l.indexes.items);
+  changes : l.changes.items ≡ map (λ x. key_change l.id (find id_cmp l.id l.docs.pairs) l.set x.exprs.texts)
+      (take (vec_len l.changes) l.indexes.items);
   tied : AllWithin (IsTable l.docs.pairs) l.indexes.items 0 (vec_len l.changes);
   room : AllWithin (HasRoom l.set) l.indexes.items 0 (vec_len l.changes);
-  done : AllWithin (IsTable (put id_cmp l.id l.set l.docs.pairs)) l.indexes.items (vec_len l.changes) (length l.indexes.items);
+  done : AllWithin (IsTable (put id_cmp l.id l.set l.docs.pairs)) l.indexes.items (vec_len l.changes)
+      (length l.indexes.items);
   names : map name_of l.indexes.items ≡ map name_of l.fn.indexes.items;
 }
 

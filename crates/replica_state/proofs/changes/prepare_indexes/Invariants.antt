@@ -10,7 +10,8 @@ abbrev pub invariant-loop-at : goal.invariant-loop-at
 invariant-loop-at l = record {
   within : l.at ≤ length l.indexes.items;
   same : map bare l.indexes.items ≡ map bare l.fn.indexes.items;
-  changes : l.changes.items ≡ map (λ x. key_change l.id (option_copied l.old) l.new x.exprs.texts) (take l.at l.indexes.items);
+  changes : l.changes.items ≡ map (λ x. key_change l.id (option_copied l.old) l.new x.exprs.texts)
+      (take l.at l.indexes.items);
   room : AllWithin (HasRoom l.new) l.indexes.items 0 l.at;
 }
 

@@ -11,11 +11,13 @@ returns-in-Some c =
     let s = c.args.state.now in
     let m = c.args.moved.now in
     goes c.goes_on.result c.in-Some.kept.now (unwrap_or ((meaning s).position m.table m.uid) nowhere) m.at
-    (kept_at s m.table m.uid (Some c.in-Some.kept.now) c.positions.result.now c.positions.ensures c.in-Some.ensures) c.goes_on.ensures.value
+    (kept_at s m.table m.uid (Some c.in-Some.kept.now) c.positions.result.now c.positions.ensures c.in-Some.ensures)
+    c.goes_on.ensures.value
 
 pub returns-in-None : goal.returns-in-None
 returns-in-None c =
     let s = c.args.state.now in
     let m = c.args.moved.now in
     goes c.goes_on_from_start.result nowhere (unwrap_or ((meaning s).position m.table m.uid) nowhere) m.at
-    (kept_at s m.table m.uid None c.positions.result.now c.positions.ensures c.in-None.ensures) c.goes_on_from_start.ensures
+    (kept_at s m.table m.uid None c.positions.result.now c.positions.ensures c.in-None.ensures)
+    c.goes_on_from_start.ensures

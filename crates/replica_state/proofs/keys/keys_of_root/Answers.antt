@@ -8,4 +8,5 @@ use Rattle.replica_state.proofs.keys.keys_of_root.Goals as goal
 
 pub returns-clause-value : goal.returns-clause-value
 returns-clause-value c =
-    subst (λ (fs : List Form). IfOk c.keys.result (λ keys. keys ≡ keys_of fs (tree_of c.args.root.now))) c.as_slice.ensures.forms c.keys.ensures.value
+    subst (λ (fs : List Form). IfOk c.keys.result (λ keys. keys ≡ keys_of fs (tree_of c.args.root.now)))
+    c.as_slice.ensures.forms c.keys.ensures.value

@@ -22,8 +22,12 @@ returns-clause-ready c =
       place = c.in_ok-reserve.ensures.ok;
       changed =
           c.in_ok-changes.ensures.changes
-          ∙ ap (λ (o : Option Kept). map (λ (x : Index). key_change c.args.doc.now o set x.exprs.texts) items) c.get.ensures
-          ∙ ap (λ (i : Text). map (λ (x : Index). key_change i (find id_cmp i docs) set x.exprs.texts) items) (sym c.in_ok-id.ensures)
-          ∙ sym (map-map (λ (x : Heading). key_change c.in_ok-id.id (find id_cmp c.in_ok-id.id docs) set x.exprs) heading items);
-      room = All-map (λ (x : Heading). length (keys_of_kept x.exprs set) ≤ x.room) heading items c.in_ok-changes.ensures.room;
+          ∙ ap (λ (o : Option Kept). map (λ (x : Index). key_change c.args.doc.now o set x.exprs.texts) items)
+          c.get.ensures
+          ∙ ap (λ (i : Text). map (λ (x : Index). key_change i (find id_cmp i docs) set x.exprs.texts) items)
+          (sym c.in_ok-id.ensures)
+          ∙ sym (map-map (λ (x : Heading). key_change c.in_ok-id.id (find id_cmp c.in_ok-id.id docs) set x.exprs)
+          heading items);
+      room = All-map (λ (x : Heading). length (keys_of_kept x.exprs set) ≤ x.room) heading items
+          c.in_ok-changes.ensures.room;
     }

@@ -14,10 +14,14 @@ none = record { name = record { start = 0; end = 0 }; value = record { start = 0
 pub loop-header-preserved : goal.loop-header-preserved
 loop-header-preserved c = elim c.if-is_named.branch [
   | then-is_named w ↦
-      let within : IsHeaderWithin (length c.args.bytes.now) (get_or c.args.headers.now c.loop-header.header-index none) = search rules in
-      subst (AreFound c.args.bytes.now (so_far c.args.bytes.now c.args.name.now c.args.headers.now _)) (sym (w.found-is ∙ w.one_more-found.ensures))
-      (found_named c.args.bytes.now c.args.name.now c.args.headers.now c.loop-header.header-index _ c.loop-header.found c.loop-header-test.true within.1 (sym w.if-is_named.ensures) c.loop-header.invariant)
+      let within : IsHeaderWithin (length c.args.bytes.now)
+      (get_or c.args.headers.now c.loop-header.header-index none) = search rules in
+      subst (AreFound c.args.bytes.now (so_far c.args.bytes.now c.args.name.now c.args.headers.now _))
+      (sym (w.found-is ∙ w.one_more-found.ensures))
+      (found_named c.args.bytes.now c.args.name.now c.args.headers.now c.loop-header.header-index _ c.loop-header.found
+      c.loop-header-test.true within.1 (sym w.if-is_named.ensures) c.loop-header.invariant)
   | else-is_named w ↦
       subst (AreFound c.args.bytes.now (so_far c.args.bytes.now c.args.name.now c.args.headers.now _)) (sym w.found-is)
-      (found_other c.args.bytes.now c.args.name.now c.args.headers.now c.loop-header.header-index _ c.loop-header.found c.loop-header-test.true (sym w.if-is_named.ensures) c.loop-header.invariant)
+      (found_other c.args.bytes.now c.args.name.now c.args.headers.now c.loop-header.header-index _ c.loop-header.found
+      c.loop-header-test.true (sym w.if-is_named.ensures) c.loop-header.invariant)
 ]

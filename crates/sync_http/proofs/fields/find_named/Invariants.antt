@@ -5,4 +5,5 @@ use Rattle.sync_http.specs.Found.{AreFound}
 use Rattle.sync_http.proofs.fields.find_named.Given as goal
 
 abbrev pub invariant-loop-header : goal.invariant-loop-header
-invariant-loop-header l = AreFound l.bytes (values_named l.name (map (header_bytes l.bytes) (take l.header-index l.headers))) l.found
+invariant-loop-header l = AreFound l.bytes
+    (values_named l.name (map (header_bytes l.bytes) (take l.header-index l.headers))) l.found

@@ -8,6 +8,8 @@ pub returns : goal.returns
 unfolding info_of
 returns c =
     let d = view c.args.value.now in
-    let target : side_in (codes "target_replica_uid") (codes "target_replica_generation") (codes "target_replica_transaction_id") d ≡ Some c.in-Some.target = cc (c.in_ok-target.ensures, c.in-Some.is) in
-    let source : side_in (codes "source_replica_uid") (codes "source_replica_generation") (codes "source_transaction_id") d ≡ Some c.in-Some-2.source = cc (c.in_ok-source.ensures, c.in-Some-2.is) in
+    let target : side_in (codes "target_replica_uid") (codes "target_replica_generation")
+    (codes "target_replica_transaction_id") d ≡ Some c.in-Some.target = cc (c.in_ok-target.ensures, c.in-Some.is) in
+    let source : side_in (codes "source_replica_uid") (codes "source_replica_generation")
+    (codes "source_transaction_id") d ≡ Some c.in-Some-2.source = cc (c.in_ok-source.ensures, c.in-Some-2.is) in
     rw (target, source) refl

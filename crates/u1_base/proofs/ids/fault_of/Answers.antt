@@ -17,7 +17,8 @@ returns-in-None c =
 
 pub returns-in-Some : goal.returns-in-Some
 returns-in-Some c =
-    let is : (1 ≤ length c.args.bytes.now) × (length c.args.bytes.now ≤ longest c.args.form) × (position (λ b. not (is_allowed c.args.form b)) c.args.bytes.now ≡ Some c.in-Some.place) = (
+    let is : (1 ≤ length c.args.bytes.now) × (length c.args.bytes.now ≤ longest c.args.form)
+    × (position (λ b. not (is_allowed c.args.form b)) c.args.bytes.now ≡ Some c.in-Some.place) = (
       grind (arith, nat_tests, c.if-is_empty.false, c.is_empty.ensures),
       rw (← c.longest_of.ensures) c.if-bytes-longest_of.false,
       sym c.first_bad_byte.ensures ∙ c.in-Some.is,

@@ -13,7 +13,8 @@ use Rattle.volume.proofs.making.init_images.Goals as goal
 
 pub make_store-requires : goal.make_store-requires
 make_store-requires g c t =
-    let root = (disks_known g.D.Disk.known c.args.disks.now).files.root.seen in let looked = c.in_ok-front_synced_on.ensures in
+    let root = (disks_known g.D.Disk.known c.args.disks.now).files.root.seen
+    in let looked = c.in_ok-front_synced_on.ensures in
     record {
       seen = looked.seen t ∙ blank_names root (sym (looked.value t) ∙ c.in-None.is);
       durable = looked.durable t;
@@ -29,40 +30,52 @@ returns-in_err-image-clause-any_moment g c t = not_begun c.args.header.now (disk
 
 pub returns-in_err-front_synced_on-clause-reads : goal.returns-in_err-front_synced_on-clause-reads
 returns-in_err-front_synced_on-clause-reads g c =
-    let why = err_from_is_err_and c.from_residual-in_err-front_synced_on.result c.from_residual-in_err-front_synced_on.ensures.1 in
+    let why = err_from_is_err_and c.from_residual-in_err-front_synced_on.result
+    c.from_residual-in_err-front_synced_on.ensures.1 in
     rw (why.1, why.2) ((disks_known g.D.Disk.known c.args.disks.now).files.root.seen, (λ t. refl), tt)
 
 pub returns-in_err-front_synced_on-clause-any_moment : goal.returns-in_err-front_synced_on-clause-any_moment
 returns-in_err-front_synced_on-clause-any_moment g c t =
     let known = g.D.Disk.known in
-    looks_run c.args.header.now (disks_known known c.args.disks.now) (disks_known known c.front_synced_on.new.disks) (c.in_err-front_synced_on.ensures.any_moment t)
+    looks_run c.args.header.now (disks_known known c.args.disks.now) (disks_known known c.front_synced_on.new.disks)
+    (c.in_err-front_synced_on.ensures.any_moment t)
 
 pub returns-in-Some-clause-reads : goal.returns-in-Some-clause-reads
 returns-in-Some-clause-reads g c =
     let root = (disks_known g.D.Disk.known c.args.disks.now).files.root.seen in
     witnessed g.D.Disk.tells root (0 ∷ []) (λ (bytes : List ℕ). bytes ≡ [] → ⊥)
-    (λ t. not_blank root c.in-Some.field-0 (sym (c.in_ok-front_synced_on.ensures.value t) ∙ c.in-Some.is)) (λ e. absurd (cc e))
+    (λ t. not_blank root c.in-Some.field-0 (sym (c.in_ok-front_synced_on.ensures.value t) ∙ c.in-Some.is))
+    (λ e. absurd (cc e))
 
 pub returns-in-Some-clause-any_moment : goal.returns-in-Some-clause-any_moment
 returns-in-Some-clause-any_moment g c t =
     let known = g.D.Disk.known in
-    looks_run c.args.header.now (disks_known known c.args.disks.now) (disks_known known c.front_synced_on.new.disks) (c.in_ok-front_synced_on.ensures.any_moment t)
+    looks_run c.args.header.now (disks_known known c.args.disks.now) (disks_known known c.front_synced_on.new.disks)
+    (c.in_ok-front_synced_on.ensures.any_moment t)
 
 pub returns-in_err-make_store-in-None-clause-any_moment : goal.returns-in_err-make_store-in-None-clause-any_moment
 returns-in_err-make_store-in-None-clause-any_moment g c t =
-    let known = g.D.Disk.known in let law = g.met.D.Disk.seen_may_stay in let trio = c.args.disks.now.trio in let looked = c.in_ok-front_synced_on.ensures in
+    let known = g.D.Disk.known in let law = g.met.D.Disk.seen_may_stay in let trio = c.args.disks.now.trio
+    in let looked = c.in_ok-front_synced_on.ensures in
     let old = disks_known known c.args.disks.now in
-    makes_run c.args.header.now old (disks_known known c.front_synced_on.new.disks) (disks_known known c.make_store.new.disks)
-    (reads_may_stay known trio (law trio.root t) (law trio.left t) (law trio.right t)) (blank_names old.files.root.seen (sym (looked.value t) ∙ c.in-None.is))
-    (looked.any_moment t) (c.in_err-make_store-in-None.ensures.any_moment t c.args.header.now (spelled_reads c.args.header.now [] c.in_ok-image.image c.in_ok-image.ensures))
+    makes_run c.args.header.now old (disks_known known c.front_synced_on.new.disks)
+    (disks_known known c.make_store.new.disks)
+    (reads_may_stay known trio (law trio.root t) (law trio.left t) (law trio.right t))
+    (blank_names old.files.root.seen (sym (looked.value t) ∙ c.in-None.is))
+    (looked.any_moment t) (c.in_err-make_store-in-None.ensures.any_moment t c.args.header.now
+    (spelled_reads c.args.header.now [] c.in_ok-image.image c.in_ok-image.ensures))
 
 pub returns-clause-any_moment : goal.returns-clause-any_moment
 returns-clause-any_moment g c t =
-    let known = g.D.Disk.known in let law = g.met.D.Disk.seen_may_stay in let trio = c.args.disks.now.trio in let looked = c.in_ok-front_synced_on.ensures in
+    let known = g.D.Disk.known in let law = g.met.D.Disk.seen_may_stay in let trio = c.args.disks.now.trio
+    in let looked = c.in_ok-front_synced_on.ensures in
     let old = disks_known known c.args.disks.now in
-    makes_run c.args.header.now old (disks_known known c.front_synced_on.new.disks) (disks_known known c.make_store.new.disks)
-    (reads_may_stay known trio (law trio.root t) (law trio.left t) (law trio.right t)) (blank_names old.files.root.seen (sym (looked.value t) ∙ c.in-None.is))
-    (looked.any_moment t) (c.in_ok-make_store-in-None.ensures.any_moment t c.args.header.now (spelled_reads c.args.header.now [] c.in_ok-image.image c.in_ok-image.ensures))
+    makes_run c.args.header.now old (disks_known known c.front_synced_on.new.disks)
+    (disks_known known c.make_store.new.disks)
+    (reads_may_stay known trio (law trio.root t) (law trio.left t) (law trio.right t))
+    (blank_names old.files.root.seen (sym (looked.value t) ∙ c.in-None.is))
+    (looked.any_moment t) (c.in_ok-make_store-in-None.ensures.any_moment t c.args.header.now
+    (spelled_reads c.args.header.now [] c.in_ok-image.image c.in_ok-image.ensures))
 
 -- ---- over a root that is not empty nothing is written
 
@@ -72,29 +85,35 @@ returns-in_err-image-clause-looks g c t some = no_look (disks_known g.D.Disk.kno
 pub returns-in_err-front_synced_on-clause-looks : goal.returns-in_err-front_synced_on-clause-looks
 returns-in_err-front_synced_on-clause-looks g c t some =
     let known = g.D.Disk.known in let looked = c.in_err-front_synced_on.ensures in
-    looks Root (disks_known known c.args.disks.now) (disks_known known c.front_synced_on.new.disks) (looked.seen t) (looked.others t) (looked.any_moment t)
+    looks Root (disks_known known c.args.disks.now) (disks_known known c.front_synced_on.new.disks) (looked.seen t)
+    (looked.others t) (looked.any_moment t)
 
 pub returns-in-Some-clause-looks : goal.returns-in-Some-clause-looks
 returns-in-Some-clause-looks g c t some =
     let known = g.D.Disk.known in let looked = c.in_ok-front_synced_on.ensures in
-    looks Root (disks_known known c.args.disks.now) (disks_known known c.front_synced_on.new.disks) (looked.seen t) (looked.others t) (looked.any_moment t)
+    looks Root (disks_known known c.args.disks.now) (disks_known known c.front_synced_on.new.disks) (looked.seen t)
+    (looked.others t) (looked.any_moment t)
 
 pub returns-in_err-make_store-in-None-clause-looks : goal.returns-in_err-make_store-in-None-clause-looks
 returns-in_err-make_store-in-None-clause-looks g c t some =
-    absurd (some (blank_names (disks_known g.D.Disk.known c.args.disks.now).files.root.seen (sym (c.in_ok-front_synced_on.ensures.value t) ∙ c.in-None.is)))
+    absurd (some (blank_names (disks_known g.D.Disk.known c.args.disks.now).files.root.seen
+    (sym (c.in_ok-front_synced_on.ensures.value t) ∙ c.in-None.is)))
 
 pub returns-clause-looks : goal.returns-clause-looks
 returns-clause-looks g c t some =
-    absurd (some (blank_names (disks_known g.D.Disk.known c.args.disks.now).files.root.seen (sym (c.in_ok-front_synced_on.ensures.value t) ∙ c.in-None.is)))
+    absurd (some (blank_names (disks_known g.D.Disk.known c.args.disks.now).files.root.seen
+    (sym (c.in_ok-front_synced_on.ensures.value t) ∙ c.in-None.is)))
 
 -- ---- over an empty one there is no store then, or the empty one
 
 pub returns-in_err-image-clause-left : goal.returns-in_err-image-clause-left
-returns-in_err-image-clause-left g c t none = inl (found_blank (seen_of (disks_known g.D.Disk.known c.args.disks.now).files) none)
+returns-in_err-image-clause-left g c t none =
+    inl (found_blank (seen_of (disks_known g.D.Disk.known c.args.disks.now).files) none)
 
 pub returns-in_err-front_synced_on-clause-left : goal.returns-in_err-front_synced_on-clause-left
 returns-in_err-front_synced_on-clause-left g c t none =
-    inl (found_blank (seen_of (disks_known g.D.Disk.known c.front_synced_on.new.disks).files) (c.in_err-front_synced_on.ensures.seen t ∙ none))
+    inl (found_blank (seen_of (disks_known g.D.Disk.known c.front_synced_on.new.disks).files)
+    (c.in_err-front_synced_on.ensures.seen t ∙ none))
 
 pub returns-in-Some-clause-left : goal.returns-in-Some-clause-left
 returns-in-Some-clause-left g c t none =
@@ -105,10 +124,12 @@ pub returns-in_err-make_store-in-None-clause-left : goal.returns-in_err-make_sto
 returns-in_err-make_store-in-None-clause-left g c t none =
     let known = g.D.Disk.known in let law = g.met.D.Disk.seen_may_stay in let trio = c.make_store.new.disks.trio in
     left_now known trio c.args.header.now (law trio.root t) (law trio.left t) (law trio.right t)
-    (c.in_err-make_store-in-None.ensures.any_moment t c.args.header.now (spelled_reads c.args.header.now [] c.in_ok-image.image c.in_ok-image.ensures)).here
+    (c.in_err-make_store-in-None.ensures.any_moment t c.args.header.now
+    (spelled_reads c.args.header.now [] c.in_ok-image.image c.in_ok-image.ensures)).here
 
 pub returns-clause-left : goal.returns-clause-left
 returns-clause-left g c t none =
     let known = g.D.Disk.known in let law = g.met.D.Disk.seen_may_stay in let trio = c.make_store.new.disks.trio in
     left_now known trio c.args.header.now (law trio.root t) (law trio.left t) (law trio.right t)
-    (c.in_ok-make_store-in-None.ensures.any_moment t c.args.header.now (spelled_reads c.args.header.now [] c.in_ok-image.image c.in_ok-image.ensures)).here
+    (c.in_ok-make_store-in-None.ensures.any_moment t c.args.header.now
+    (spelled_reads c.args.header.now [] c.in_ok-image.image c.in_ok-image.ensures)).here

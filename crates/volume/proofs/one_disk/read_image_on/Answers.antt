@@ -8,12 +8,17 @@ use Rattle.volume.proofs.one_disk.read_image_on.Goals as goal
 
 pub returns-clause-reads : goal.returns-clause-reads
 returns-clause-reads g c =
-    let read = c.read_image.ensures.reads in
-    (read.0, (λ t. read.1 t ∙ ap (λ (f : File). f.seen) (file_before g.D.Disk.known c.args.disks.now c.turn_to.new.self c.args.name c.turn_to.ensures)), read.2)
+    let read = c.read_image.ensures.reads in (
+      read.0,
+      (λ t. read.1 t ∙ ap (λ (f : File). f.seen)
+          (file_before g.D.Disk.known c.args.disks.now c.turn_to.new.self c.args.name c.turn_to.ensures)),
+      read.2,
+    )
 
 pub returns-clause-looks : goal.returns-clause-looks
 returns-clause-looks g c t =
-    let known = g.D.Disk.known in let old = c.args.disks.now in let mid = c.turn_to.new.self in let new = c.read_image.new.disk in
+    let known = g.D.Disk.known in let old = c.args.disks.now in let mid = c.turn_to.new.self
+    in let new = c.read_image.new.disk in
     let name = c.args.name in let turned = c.turn_to.ensures in let kept = c.read_image.ensures.beside t in
     looks name (disks_known known old) (disks_known known new)
     (ap (λ (f : File). f.seen) (sym (file_after known old mid new name turned kept)) ∙ c.read_image.ensures.seen t

@@ -16,7 +16,8 @@ returns-in_err-front_synced_on-clause-reads g c =
 pub returns-in_err-front_synced_on-clause-looks : goal.returns-in_err-front_synced_on-clause-looks
 returns-in_err-front_synced_on-clause-looks g c t =
     let known = g.D.Disk.known in let looked = c.in_err-front_synced_on.ensures in
-    looks Root (disks_known known c.args.disks.now) (disks_known known c.front_synced_on.new.disks) (looked.seen t) (looked.others t) (looked.any_moment t)
+    looks Root (disks_known known c.args.disks.now) (disks_known known c.front_synced_on.new.disks) (looked.seen t)
+    (looked.others t) (looked.any_moment t)
 
 pub returns-in-None-clause-reads : goal.returns-in-None-clause-reads
 returns-in-None-clause-reads g c =
@@ -27,17 +28,20 @@ returns-in-None-clause-reads g c =
 pub returns-in-None-clause-looks : goal.returns-in-None-clause-looks
 returns-in-None-clause-looks g c t =
     let known = g.D.Disk.known in let looked = c.in_ok-front_synced_on.ensures in
-    looks Root (disks_known known c.args.disks.now) (disks_known known c.front_synced_on.new.disks) (looked.seen t) (looked.others t) (looked.any_moment t)
+    looks Root (disks_known known c.args.disks.now) (disks_known known c.front_synced_on.new.disks) (looked.seen t)
+    (looked.others t) (looked.any_moment t)
 
 pub returns-in-Some-clause-reads : goal.returns-in-Some-clause-reads
 returns-in-Some-clause-reads g c =
     let root = (disks_known g.D.Disk.known c.args.disks.now).files.root.seen in
     witnessed g.D.Disk.tells root c.side_of.ensures.some.0 (λ (bytes : List ℕ). RootNames bytes c.side_of.result)
-    (λ t. c.side_of.ensures.names root (sym (c.in_ok-front_synced_on.ensures.value t) ∙ c.in-Some.is)) c.side_of.ensures.some.1
+    (λ t. c.side_of.ensures.names root (sym (c.in_ok-front_synced_on.ensures.value t) ∙ c.in-Some.is))
+    c.side_of.ensures.some.1
 
 pub returns-in-Some-clause-names : goal.returns-in-Some-clause-names
 returns-in-Some-clause-names g c t =
-    let known = g.D.Disk.known in let old = (disks_known known c.args.disks.now).files.root in let new = (disks_known known c.front_synced_on.new.disks).files.root in
+    let known = g.D.Disk.known in let old = (disks_known known c.args.disks.now).files.root
+    in let new = (disks_known known c.front_synced_on.new.disks).files.root in
     let looked = c.in_ok-front_synced_on.ensures in
     root_names new c.side_of.result
     (subst (λ (bytes : List ℕ). RootNames bytes c.side_of.result) (sym (looked.seen t))
@@ -50,4 +54,5 @@ returns-in-Some-clause-side g c = names_image c.side_of.ensures.some.0 c.side_of
 pub returns-in-Some-clause-looks : goal.returns-in-Some-clause-looks
 returns-in-Some-clause-looks g c t =
     let known = g.D.Disk.known in let looked = c.in_ok-front_synced_on.ensures in
-    looks Root (disks_known known c.args.disks.now) (disks_known known c.front_synced_on.new.disks) (looked.seen t) (looked.others t) (looked.any_moment t)
+    looks Root (disks_known known c.args.disks.now) (disks_known known c.front_synced_on.new.disks) (looked.seen t)
+    (looked.others t) (looked.any_moment t)

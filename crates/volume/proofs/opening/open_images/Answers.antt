@@ -15,14 +15,19 @@ use Rattle.volume.proofs.opening.open_images.Goals as goal
 
 pub returns-in_err-side-clause-reads : goal.returns-in_err-side-clause-reads
 returns-in_err-side-clause-reads g c =
-    let read = c.in_err-side.ensures.reads in let why = err_from_is_err_and c.from_residual.result c.from_residual.ensures.1 in
-    rw (why.1, why.2) (read_root g.D.Disk.tells (seen_of (disks_known g.D.Disk.known c.args.disks.now).files) read.0 c.in_err-side.field-0.0 read.1 read.2)
+    let read = c.in_err-side.ensures.reads
+    in let why = err_from_is_err_and c.from_residual.result c.from_residual.ensures.1 in
+    rw (why.1, why.2) (read_root g.D.Disk.tells
+    (seen_of (disks_known g.D.Disk.known c.args.disks.now).files) read.0 c.in_err-side.field-0.0 read.1 read.2)
 
 pub returns-in-Ok-clause-reads : goal.returns-in-Ok-clause-reads
 returns-in-Ok-clause-reads g c =
-    let known = g.D.Disk.known in let old = (disks_known known c.args.disks.now).files in let mid = (disks_known known c.named_side.new.disks).files in
-    let root = c.in_ok-side.ensures.reads in let read = c.in-Ok.ensures.reads in let image = c.in-Ok.image in let side = c.in_ok-side.side in
-    read_files g.D.Disk.tells (seen_of old) root.0 read.0 side root.2.0 (λ files. OpensStore files (Ok (record { side = side; image = image })))
+    let known = g.D.Disk.known in let old = (disks_known known c.args.disks.now).files
+    in let mid = (disks_known known c.named_side.new.disks).files in
+    let root = c.in_ok-side.ensures.reads in let read = c.in-Ok.ensures.reads in let image = c.in-Ok.image
+    in let side = c.in_ok-side.side in
+    read_files g.D.Disk.tells (seen_of old) root.0 read.0 side root.2.0
+    (λ files. OpensStore files (Ok (record { side = side; image = image })))
     root.1 (λ t. read.1 t ∙ one_read side old mid (c.in_ok-side.ensures.looks t).seen) root.2.1 root.2.2
     (λ files e is. (
       found_standing files side root.2.0 image.format image.header image.bodies e root.2.2
@@ -32,10 +37,13 @@ returns-in-Ok-clause-reads g c =
 
 pub returns-in-Err-Damaged-clause-reads : goal.returns-in-Err-Damaged-clause-reads
 returns-in-Err-Damaged-clause-reads g c =
-    let known = g.D.Disk.known in let old = (disks_known known c.args.disks.now).files in let mid = (disks_known known c.named_side.new.disks).files in
-    let root = c.in_ok-side.ensures.reads in let image = c.in-Err-Damaged.ensures.reads in let side = c.in_ok-side.side in let place = c.in-Err-Damaged.place in
+    let known = g.D.Disk.known in let old = (disks_known known c.args.disks.now).files
+    in let mid = (disks_known known c.named_side.new.disks).files in
+    let root = c.in_ok-side.ensures.reads in let image = c.in-Err-Damaged.ensures.reads in let side = c.in_ok-side.side
+    in let place = c.in-Err-Damaged.place in
     let broken = rw c.in-Err-Damaged.field-0-is at image.2 in
-    read_files g.D.Disk.tells (seen_of old) root.0 image.0 side root.2.0 (λ files. OpensStore files (Err (fault.Damaged side place)))
+    read_files g.D.Disk.tells (seen_of old) root.0 image.0 side root.2.0
+    (λ files. OpensStore files (Err (fault.Damaged side place)))
     root.1 (λ t. image.1 t ∙ one_read side old mid (c.in_ok-side.ensures.looks t).seen) root.2.1 root.2.2
     (λ files e is. found_damaged files side root.2.0 place e root.2.2 (subst (DamagedAt place) (sym is) broken))
 
@@ -50,31 +58,37 @@ returns-in_err-side-clause-looks g c t = c.in_err-side.ensures.looks t
 
 pub returns-in-Ok-clause-ok : goal.returns-in-Ok-clause-ok
 returns-in-Ok-clause-ok g c t =
-    let known = g.D.Disk.known in let mid = (disks_known known c.named_side.new.disks).files in let new = (disks_known known c.read_image_on.new.disks).files in
+    let known = g.D.Disk.known in let mid = (disks_known known c.named_side.new.disks).files
+    in let new = (disks_known known c.read_image_on.new.disks).files in
     let image = c.in-Ok.image in
-    opened_store image.journal c.in_ok-side.side image.format image.header image.bodies mid new c.in_ok-side.ensures.side (c.in_ok-side.ensures.names t)
+    opened_store image.journal c.in_ok-side.side image.format image.header image.bodies mid new
+    c.in_ok-side.ensures.side (c.in_ok-side.ensures.names t)
     (c.in-Ok.ensures.others t) (c.in-Ok.ensures.ok t)
 
 pub returns-in-Ok-clause-looks : goal.returns-in-Ok-clause-looks
 returns-in-Ok-clause-looks g c t =
     let known = g.D.Disk.known in
-    looks_on (disks_known known c.args.disks.now) (disks_known known c.named_side.new.disks) (disks_known known c.read_image_on.new.disks)
+    looks_on (disks_known known c.args.disks.now) (disks_known known c.named_side.new.disks)
+    (disks_known known c.read_image_on.new.disks)
     (c.in_ok-side.ensures.looks t) (c.in-Ok.ensures.looks t)
 
 pub returns-in-Err-Damaged-clause-looks : goal.returns-in-Err-Damaged-clause-looks
 returns-in-Err-Damaged-clause-looks g c t =
     let known = g.D.Disk.known in
-    looks_on (disks_known known c.args.disks.now) (disks_known known c.named_side.new.disks) (disks_known known c.read_image_on.new.disks)
+    looks_on (disks_known known c.args.disks.now) (disks_known known c.named_side.new.disks)
+    (disks_known known c.read_image_on.new.disks)
     (c.in_ok-side.ensures.looks t) (c.in-Err-Damaged.ensures.looks t)
 
 pub returns-in-Err-Disk-clause-looks : goal.returns-in-Err-Disk-clause-looks
 returns-in-Err-Disk-clause-looks g c t =
     let known = g.D.Disk.known in
-    looks_on (disks_known known c.args.disks.now) (disks_known known c.named_side.new.disks) (disks_known known c.read_image_on.new.disks)
+    looks_on (disks_known known c.args.disks.now) (disks_known known c.named_side.new.disks)
+    (disks_known known c.read_image_on.new.disks)
     (c.in_ok-side.ensures.looks t) (c.in-Err-Disk.ensures.looks t)
 
 pub returns-in-Err-Memory-clause-looks : goal.returns-in-Err-Memory-clause-looks
 returns-in-Err-Memory-clause-looks g c t =
     let known = g.D.Disk.known in
-    looks_on (disks_known known c.args.disks.now) (disks_known known c.named_side.new.disks) (disks_known known c.read_image_on.new.disks)
+    looks_on (disks_known known c.args.disks.now) (disks_known known c.named_side.new.disks)
+    (disks_known known c.read_image_on.new.disks)
     (c.in_ok-side.ensures.looks t) (c.in-Err-Memory.ensures.looks t)

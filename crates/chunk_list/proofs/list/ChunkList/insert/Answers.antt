@@ -15,10 +15,12 @@ invariant_of-self g c =
     let r = c.relieve.ensures in
     let place = rw (← c.self.view_is) at c.requires.place in
     let room = rw (← c.self.view_is) at c.requires.room in
-    let long : length (joined new.items) ≡ length old + 1 = omega (arith, ap length r.same, ap length p.items, length-insert old c.args.place c.args.item place) in
+    let long : length (joined new.items) ≡ length old + 1 =
+    omega (arith, ap length r.same, ap length p.items, length-insert old c.args.place c.args.item place) in
     record {
       laid_out = record { chunks_are = r.chunks; starts_are = c.recount.ensures.starts };
-      turns = can_turn v.turns p.len p.capacity r.turned (c.recount.ensures.capacity ∙ p.starts_capacity) (λ _. omega (arith, new.ok.0, some_chunk new.items (omega (arith, long))));
+      turns = can_turn v.turns p.len p.capacity r.turned (c.recount.ensures.capacity ∙ p.starts_capacity)
+          (λ _. omega (arith, new.ok.0, some_chunk new.items (omega (arith, long))));
       counted = omega (arith, v.counted, long);
       enough = omega (arith, v.enough, r.long, p.len, room);
       fits = omega (arith, v.fits, room);

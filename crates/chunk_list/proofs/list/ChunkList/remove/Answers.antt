@@ -29,10 +29,12 @@ invariant_of-self-else-at-gt0 g c =
     let long = length-remove (joined c.self.inside.chunks.items) c.args.place place in
     record {
       laid_out = record {
-        chunks_are = settled c.take_out-at.new.chunks.items c.take_out-at.result.0 t.chunks (λ d. record { short = t.short d; some = λ later. absurd (omega (arith, c.if-at-gt0.false)) });
+        chunks_are = settled c.take_out-at.new.chunks.items c.take_out-at.result.0 t.chunks
+            (λ d. record { short = t.short d; some = λ later. absurd (omega (arith, c.if-at-gt0.false)) });
         starts_are = t.starts;
       };
-      turns = can_turn v.turns t.len t.capacity (all_stay v.turns) t.starts_capacity (λ more. omega (arith, v.turns.first more, t.len));
+      turns = can_turn v.turns t.len t.capacity (all_stay v.turns) t.starts_capacity
+          (λ more. omega (arith, v.turns.first more, t.len));
       counted = omega (arith, v.counted, ap length t.items, long);
       enough = omega (arith, v.enough, t.len);
       fits = omega (arith, v.fits);

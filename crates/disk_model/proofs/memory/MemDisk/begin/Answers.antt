@@ -6,5 +6,7 @@ use Rattle.disk_model.proofs.memory.MemDisk.begin.Goals as goal
 
 pub returns-clause-told : goal.returns-clause-told
 returns-clause-told c =
-    subst (λ (numbers : List ℕ). IsTrue c.is_among.result ↔ Contains numbers (mem_calls c.args.self.now)) c.as_slice.ensures
-    (subst (λ (n : ℕ). IsTrue c.is_among.result ↔ Contains c.as_slice.result.now n) c.calls-number.ensures c.is_among.ensures)
+    subst (λ (numbers : List ℕ). IsTrue c.is_among.result
+    ↔ Contains numbers (mem_calls c.args.self.now)) c.as_slice.ensures
+    (subst (λ (n : ℕ). IsTrue c.is_among.result
+    ↔ Contains c.as_slice.result.now n) c.calls-number.ensures c.is_among.ensures)

@@ -1,5 +1,6 @@
 -- A write that is to fail puts a part of its bytes.
-use Rattle.std.proofs.Common.{rules, ◌≡◌, ℕ, ◌+◌, ◌≤◌, List, [], ◌∷◌, ◌++◌, length, take, sym, ◌∙◌, ap, subst, length-append, length-take, IsOk, Result, Ok, Err, OnOk, OnErr}
+use Rattle.std.proofs.Common.{rules, ◌≡◌, ℕ, ◌+◌, ◌≤◌, List, [], ◌∷◌, ◌++◌, length, take, sym, ◌∙◌, ap, subst}
+use Rattle.std.proofs.Common.{length-append, length-take, IsOk, Result, Ok, Err, OnOk, OnErr}
 use Rattle.disk_model.specs.Disk.{Torn, overwritten}
 use Rattle.disk_model.specs.Device.{Moment, moment, alone}
 use Rattle.disk_model.specs.MemDisk.{mem_known}
@@ -29,7 +30,8 @@ returns-clause-torn c =
     let old = c.args.self.now.bytes.items in let n = length c.args.bytes.now in
     on_err c.answer.result _
     (subst (Torn c.args.at n old) (sym (ap (λ (d : MemDisk). d.bytes.items) c.answer.ensures.same))
-    (torn_part c.note_write-noted.result old c.note_write-noted.new.file.items c.args.at n (take c.if-fails.put c.args.bytes.now)
+    (torn_part c.note_write-noted.result old c.note_write-noted.new.file.items c.args.at n
+    (take c.if-fails.put c.args.bytes.now)
     (search rules) (search rules) (simp length-take (search rules))))
 
 pub returns-clause-as_told : goal.returns-clause-as_told
@@ -39,7 +41,8 @@ returns-clause-as_told c =
       only = search rules;
       noted =
           let old = mem_known c.args.self.now in
-          one_more c.answer.result c.note_write-noted.result old.past (mem_known c.answer.new.self).past (moment old.now alone) c.answer.ensures.ok (search rules);
+          one_more c.answer.result c.note_write-noted.result old.past (mem_known c.answer.new.self).past
+          (moment old.now alone) c.answer.ensures.ok (search rules);
       quiet = search rules;
       counted = search rules;
       same = search rules;

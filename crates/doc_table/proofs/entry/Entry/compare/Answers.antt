@@ -10,11 +10,13 @@ returns-in-Less g c =
     let own = c.args.self.now.abbreviated in
     let other = c.args.abbreviated in
     less_by_key 8 c.args.self.now.id c.args.id.now own other c.args.self.now.abbreviates c.requires
-    (subst (λ (r : Ordering). MatchOrdering r (own < other) (own ≡ other) (other < own)) (sym c.in-Less.ensures) (ranks own other))
+    (subst (λ (r : Ordering). MatchOrdering r (own < other) (own ≡ other) (other < own)) (sym c.in-Less.ensures)
+    (ranks own other))
 
 pub returns-in-Greater : goal.returns-in-Greater
 returns-in-Greater g c =
     let own = c.args.self.now.abbreviated in
     let other = c.args.abbreviated in
     greater_by_key 8 c.args.self.now.id c.args.id.now own other c.args.self.now.abbreviates c.requires
-    (subst (λ (r : Ordering). MatchOrdering r (own < other) (own ≡ other) (other < own)) (sym c.in-Greater.ensures) (ranks own other))
+    (subst (λ (r : Ordering). MatchOrdering r (own < other) (own ≡ other) (other < own)) (sym c.in-Greater.ensures)
+    (ranks own other))

@@ -8,8 +8,10 @@ returns-in-Ok g c =
     let es = c.self.inside.entries.items in
     rw (← c.self.view_is)
     (ap Some c.value.ensures
-    ∙ sym (found es c.args.id.now c.in-Ok.field-0-0 c.self.inside.sorted c.in-Ok.ensures.0 c.in-Ok.entry.now (entry_at es c.in-Ok.field-0-0 c.in-Ok.entry.now c.in-Ok.ensures.1).1))
+    ∙ sym (found es c.args.id.now c.in-Ok.field-0-0 c.self.inside.sorted c.in-Ok.ensures.0 c.in-Ok.entry.now
+    (entry_at es c.in-Ok.field-0-0 c.in-Ok.entry.now c.in-Ok.ensures.1).1))
 
 pub returns-in-Err : goal.returns-in-Err
 returns-in-Err g c =
-    rw (← c.self.view_is) (sym (not_found c.self.inside.entries.items c.args.id.now _ c.self.inside.sorted c.in-Err.ensures))
+    rw (← c.self.view_is) (sym
+    (not_found c.self.inside.entries.items c.args.id.now _ c.self.inside.sorted c.in-Err.ensures))

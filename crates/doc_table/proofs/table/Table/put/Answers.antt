@@ -8,7 +8,8 @@ use Rattle.doc_table.proofs.table.Table.put.Goals as goal
 pub invariant_of-self-inside : goal.invariant_of-self-inside
 invariant_of-self-inside g c = (
   subst (λ (l : List (Entry g.row.F.Denot g.row.V.Denot g.F.FormOf)). AreSorted l) (sym c.replace-old.ensures.items)
-      (put_there_sorted c.self.inside.entries.items c.args.id c.in-Ok.place c.self.inside.sorted c.in-Ok.ensures.0 _ c.replace-old.result refl c.replace-old.ensures.value),
+      (put_there_sorted c.self.inside.entries.items c.args.id c.in-Ok.place c.self.inside.sorted c.in-Ok.ensures.0 _
+      c.replace-old.result refl c.replace-old.ensures.value),
   tt,
 )
 
@@ -20,23 +21,27 @@ insert-requires-clause-room g c =
 pub invariant_of-self-inside-in-Err : goal.invariant_of-self-inside-in-Err
 invariant_of-self-inside-in-Err g c = (
   subst (λ (l : List (Entry g.row.F.Denot g.row.V.Denot g.F.FormOf)). AreSorted l) (sym c.insert.ensures.items)
-      (put_new_sorted c.self.inside.entries.items c.args.id c.in-Err.place c.self.inside.sorted c.in-Err.ensures _ refl),
+      (put_new_sorted c.self.inside.entries.items c.args.id c.in-Err.place c.self.inside.sorted
+      c.in-Err.ensures _ refl),
   tt,
 )
 
 pub returns-in-Ok-clause-value : goal.returns-in-Ok-clause-value
 returns-in-Ok-clause-value g c =
     rw (← c.self.view_is)
-    (sym (found c.self.inside.entries.items c.args.id c.in-Ok.place c.self.inside.sorted c.in-Ok.ensures.0 c.replace-old.result c.replace-old.ensures.value))
+    (sym (found c.self.inside.entries.items c.args.id c.in-Ok.place c.self.inside.sorted c.in-Ok.ensures.0
+    c.replace-old.result c.replace-old.ensures.value))
 
 pub returns-in-Ok-clause-pairs : goal.returns-in-Ok-clause-pairs
 returns-in-Ok-clause-pairs g c =
     rw (← c.self.view_is, c.replace-old.ensures.items)
-    (put_there c.self.inside.entries.items c.args.id c.in-Ok.place c.self.inside.sorted c.in-Ok.ensures.0 _ c.replace-old.result refl c.replace-old.ensures.value)
+    (put_there c.self.inside.entries.items c.args.id c.in-Ok.place c.self.inside.sorted c.in-Ok.ensures.0 _
+    c.replace-old.result refl c.replace-old.ensures.value)
 
 pub returns-in-Err-clause-value : goal.returns-in-Err-clause-value
 returns-in-Err-clause-value g c =
-    rw (← c.self.view_is) (sym (not_found c.self.inside.entries.items c.args.id c.in-Err.place c.self.inside.sorted c.in-Err.ensures))
+    rw (← c.self.view_is) (sym
+    (not_found c.self.inside.entries.items c.args.id c.in-Err.place c.self.inside.sorted c.in-Err.ensures))
 
 pub returns-in-Err-clause-pairs : goal.returns-in-Err-clause-pairs
 returns-in-Err-clause-pairs g c =

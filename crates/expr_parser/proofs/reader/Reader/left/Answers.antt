@@ -5,4 +5,5 @@ use Rattle.expr_parser.proofs.reader.Reader.left.Goals as goal
 
 pub returns : goal.returns
 returns c =
-    ap length (sym (encodes-chars c.as_bytes.result.now c.as_bytes.ensures.utf8) ∙ (ap (λ x. encode_utf8_all (chars x)) c.as_bytes.ensures.value ∙ ap encode_utf8_all c.self.view_is))
+    ap length (sym (encodes-chars c.as_bytes.result.now c.as_bytes.ensures.utf8)
+    ∙ (ap (λ x. encode_utf8_all (chars x)) c.as_bytes.ensures.value ∙ ap encode_utf8_all c.self.view_is))

@@ -10,6 +10,7 @@ returns-clause-bytes c =
     let n = c.copy_front-count.result in
     let was : drop inside.at inside.bytes ≡ c.args.self.now.bytes = ap (λ (s : Stream). s.bytes) c.self.view_is in
     let rest = rw c.as_slice.ensures at c.split_at.ensures.back in (
-      sym was ∙ given_and_left inside.at n inside.bytes c.copy_front-count.new.into (rw rest at c.copy_front-count.ensures.copied),
+      sym was ∙ given_and_left inside.at n inside.bytes c.copy_front-count.new.into
+          (rw rest at c.copy_front-count.ensures.copied),
       λ none some. nothing_left inside.at n inside.bytes none (rw rest at (c.copy_front-count.ensures.all none some)),
     )

@@ -12,7 +12,9 @@ returns-then-is_eq-clause-kept c =
     let lt : c.place_of-place.result < length places = search rules in
     let here : Some c.in-Some.other ≡ get_or places c.place_of-place.result (Some c.in-Some.other) = search rules in
     let itself : same_id c.in-Some.other.now c.args.id.now ≡ true = search rules in
-    known_kept places c.args.self.now.others c.args.id c.in-Some.other (owner_is places c.args.self.now.others c.args.id c.place_of-place.result at_is lt (Some c.in-Some.other) here) itself
+    known_kept places c.args.self.now.others c.args.id c.in-Some.other
+    (owner_is places c.args.self.now.others c.args.id c.place_of-place.result at_is lt (Some c.in-Some.other) here)
+    itself
 
 pub invariant_of-self-in-Some : goal.invariant_of-self-in-Some
 invariant_of-self-in-Some c =
@@ -24,7 +26,9 @@ invariant_of-self-in-Some c =
     record {
       some = c.args.self.now.some;
       behind =
-          behind_either places c.args.self.now.others c.insert.new.self c.args.id c.in-Some.other (owner_is places c.args.self.now.others c.args.id c.place_of-place.result at_is lt (Some c.in-Some.other) here) apart
+          behind_either places c.args.self.now.others c.insert.new.self c.args.id c.in-Some.other
+          (owner_is places c.args.self.now.others c.args.id c.place_of-place.result at_is lt
+          (Some c.in-Some.other) here) apart
           c.args.self.now.behind c.insert.result c.insert.ensures.updates c.insert.ensures.err;
     }
 
@@ -34,4 +38,5 @@ returns-in-None-clause-kept c =
     let at_is : c.place_of-place.result ≡ mark c.args.id.now % length places = search rules in
     let lt : c.place_of-place.result < length places = search rules in
     let here : None ≡ get_or places c.place_of-place.result None = search rules in
-    free_kept places c.args.self.now.others c.args.id c.place_of-place.result at_is lt c.args.self.now.behind (owner_is places c.args.self.now.others c.args.id c.place_of-place.result at_is lt None here)
+    free_kept places c.args.self.now.others c.args.id c.place_of-place.result at_is lt c.args.self.now.behind
+    (owner_is places c.args.self.now.others c.args.id c.place_of-place.result at_is lt None here)

@@ -7,6 +7,7 @@ pub returns-then-not-is_any : goal.returns-then-not-is_any
 returns-then-not-is_any c =
     let i = c.loop-place.invariant in (
       omega arith,
-      breaks_first c.args.values.now c.loop-place.place c.index-values-place.result c.loop-place.parts c.in_ok-part.part c.loop-place.opened (omega arith) c.index-values-place.is c.in_ok-part.ensures
+      breaks_first c.args.values.now c.loop-place.place c.index-values-place.result c.loop-place.parts
+          c.in_ok-part.part c.loop-place.opened (omega arith) c.index-values-place.is c.in_ok-part.ensures
           i.parts i.opened i.pattern c.if-opened.true (sym c.is_any.ensures ∙ c.if-not-is_any.true),
     )

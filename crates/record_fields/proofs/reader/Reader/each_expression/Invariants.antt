@@ -10,7 +10,8 @@ use Rattle.record_fields.proofs.reader.Reader.each_expression.Given as goal
 
 abbrev pub invariant-loop : goal.invariant-loop
 invariant-loop l = record {
-  so_far : with_front (texts_of l.exprs) (each_read expression (l.count - l.counter) l.self) ≡ each_read expression l.count l.fn.self;
+  so_far : with_front (texts_of l.exprs) (each_read expression (l.count - l.counter) l.self)
+      ≡ each_read expression l.count l.fn.self;
   read : All IsExpr (map form_of l.exprs);
   count : length l.exprs ≡ l.counter;
 }

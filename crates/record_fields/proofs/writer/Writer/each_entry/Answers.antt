@@ -12,4 +12,5 @@ loop-value-preserved c =
     rw add-one
     (c.in_ok-entry.ensures
     ∙ ap (with_field entry c.value-item.result) c.loop-value.invariant
-    ∙ sym (each_next entry (length c.args.values.now) c.args.values.now c.loop-value.value-index c.value-item.result c.args.self.now c.loop-value-test.true c.value-item.is))
+    ∙ sym (each_next entry (length c.args.values.now) c.args.values.now c.loop-value.value-index c.value-item.result
+    c.args.self.now c.loop-value-test.true c.value-item.is))

@@ -12,4 +12,5 @@ returns-in-Some-clause-wrote c =
     let p : Place = record { generation = c.value.inside.generation; trans = c.value.inside.trans } in
     rw (← c.value.view_is)
     (subst (λ (w : Written). OnOk c.id.result (c.id.new.self ≡ w))
-    (ap (with_field (id Transaction) c.in-Some.trans) c.in_ok-long_number.ensures ∙ sym (place_some p c.args.self.now c.in-Some.trans c.in-Some.is)) c.id.ensures.wrote)
+    (ap (with_field (id Transaction) c.in-Some.trans) c.in_ok-long_number.ensures
+    ∙ sym (place_some p c.args.self.now c.in-Some.trans c.in-Some.is)) c.id.ensures.wrote)

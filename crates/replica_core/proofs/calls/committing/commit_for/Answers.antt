@@ -10,6 +10,7 @@ use Rattle.replica_core.proofs.calls.committing.commit_for.Goals as goal
 
 pub returns-in-None : goal.returns-in-None
 returns-in-None g c =
-    answered g.R.Replica.known g.R.Replica.is_open g.R.Replica.crash commit_failure c.args.replica.now (Answers c.args.answer (option_map step_of c.args.step)) c.args.answer
+    answered g.R.Replica.known g.R.Replica.is_open g.R.Replica.crash commit_failure c.args.replica.now
+    (Answers c.args.answer (option_map step_of c.args.step)) c.args.answer
     c.requires.ready (λ found h. g.met.R.Replica.settled c.args.replica.now found c.requires.ready h)
     (ap (λ (o : Option Step). Answers c.args.answer (option_map step_of o)) c.in-None.is)

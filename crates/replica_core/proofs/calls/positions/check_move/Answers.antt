@@ -10,11 +10,13 @@ returns-in-Some c =
     let s = c.args.state.now in
     let m = c.args.moved.now in
     subst (λ (k : Place). ChecksFrom k m.at c.check_from.result)
-    (kept_at s m.table m.uid (Some c.in-Some.kept.now) c.positions.result.now c.positions.ensures c.in-Some.ensures) c.check_from.ensures
+    (kept_at s m.table m.uid (Some c.in-Some.kept.now) c.positions.result.now c.positions.ensures c.in-Some.ensures)
+    c.check_from.ensures
 
 pub returns-in-None : goal.returns-in-None
 returns-in-None c =
     let s = c.args.state.now in
     let m = c.args.moved.now in
     subst (λ (k : Place). ChecksFrom k m.at c.check_from_start.result)
-    (kept_at s m.table m.uid None c.positions.result.now c.positions.ensures c.in-None.ensures) c.check_from_start.ensures
+    (kept_at s m.table m.uid None c.positions.result.now c.positions.ensures c.in-None.ensures)
+    c.check_from_start.ensures

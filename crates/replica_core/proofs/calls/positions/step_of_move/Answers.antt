@@ -7,9 +7,11 @@ use Rattle.replica_core.proofs.calls.positions.step_of_move.Goals as goal
 
 pub returns-then-is_kept : goal.returns-then-is_kept
 returns-then-is_kept c =
-    sym (ap (λ (b : Bool). if b then None else Some (Moved c.args.moved.now)) (sym c.is_kept.ensures ∙ c.if-is_kept.true))
+    sym (ap (λ (b : Bool). if b then None else Some (Moved c.args.moved.now))
+    (sym c.is_kept.ensures ∙ c.if-is_kept.true))
 
 pub returns : goal.returns
 returns c =
     ap (λ (m : Move). Some (Moved m)) c.in_ok-copy.ensures
-    ∙ sym (ap (λ (b : Bool). if b then None else Some (Moved c.args.moved.now)) (sym c.is_kept.ensures ∙ c.if-is_kept.false))
+    ∙ sym (ap (λ (b : Bool). if b then None else Some (Moved c.args.moved.now))
+    (sym c.is_kept.ensures ∙ c.if-is_kept.false))

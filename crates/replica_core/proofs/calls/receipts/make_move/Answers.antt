@@ -24,12 +24,14 @@ commit_for-requires-clause-fits g c =
 pub returns-in_err-step : goal.returns-in_err-step
 returns-in_err-step g c =
     let p = err_from_is_err_and c.from_residual.result c.from_residual.ensures.1 in
-    rw (p.1, p.2) (undone g.R.Replica.known g.R.Replica.is_open g.R.Replica.crash commit_failure c.args.replica.now _ Memory
+    rw (p.1, p.2) (undone g.R.Replica.known g.R.Replica.is_open g.R.Replica.crash commit_failure
+    c.args.replica.now _ Memory
     c.requires.ready (λ found h. g.met.R.Replica.settled c.args.replica.now found c.requires.ready h) (inl refl))
 
 pub returns : goal.returns
 returns g c =
-    subst (λ d. IsDone g.R.Replica.known g.R.Replica.is_open g.R.Replica.crash commit_failure d c.args.replica.now c.commit_for.new.replica c.commit_for.result)
+    subst (λ d. IsDone g.R.Replica.known g.R.Replica.is_open g.R.Replica.crash commit_failure d c.args.replica.now
+    c.commit_for.new.replica c.commit_for.result)
     (ap (λ (x : Option Step). answer_with {A = Unit {0}} {F = CommitFault} tt x)
     (c.in_ok-step.ensures ∙ ap (λ (h : Held). move_step (meaning h) c.args.moved.now) c.state.ensures))
     c.commit_for.ensures

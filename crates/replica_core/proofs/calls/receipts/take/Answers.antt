@@ -20,18 +20,24 @@ commit_for-requires-clause-fits g c =
     let s = state_in (g.R.Replica.known c.args.replica.now) in
     let accepted = c.args.taken.accepted in
     each_mapped step_of c.in_ok-step.step (take_step c.args.seed c.args.id.now c.args.moved.now s accepted) (Fits s)
-    (c.in_ok-step.ensures ∙ ap (λ (h : Held). take_step c.args.seed c.args.id.now c.args.moved.now (meaning h) accepted) c.state.ensures)
-    (take_fits c.law_tests.ensures s c.args.moved.now c.requires.goes_on c.args.seed c.args.id.now accepted c.requires.fits)
+    (c.in_ok-step.ensures ∙ ap
+    (λ (h : Held). take_step c.args.seed c.args.id.now c.args.moved.now (meaning h) accepted) c.state.ensures)
+    (take_fits c.law_tests.ensures s c.args.moved.now c.requires.goes_on c.args.seed c.args.id.now accepted
+    c.requires.fits)
 
 pub returns-in_err-step : goal.returns-in_err-step
 returns-in_err-step g c =
     let p = err_from_is_err_and c.from_residual.result c.from_residual.ensures.1 in
-    rw (p.1, p.2) (undone g.R.Replica.known g.R.Replica.is_open g.R.Replica.crash commit_failure c.args.replica.now _ Memory
+    rw (p.1, p.2) (undone g.R.Replica.known g.R.Replica.is_open g.R.Replica.crash commit_failure
+    c.args.replica.now _ Memory
     c.requires.ready (λ found h. g.met.R.Replica.settled c.args.replica.now found c.requires.ready h) (inl refl))
 
 pub returns : goal.returns
 returns g c =
-    subst (λ d. IsDone g.R.Replica.known g.R.Replica.is_open g.R.Replica.crash commit_failure d c.args.replica.now c.commit_for.new.replica c.commit_for.result)
+    subst (λ d. IsDone g.R.Replica.known g.R.Replica.is_open g.R.Replica.crash commit_failure d c.args.replica.now
+    c.commit_for.new.replica c.commit_for.result)
     (ap (λ (x : Option Step). answer_with {A = Taken} {F = CommitFault} c.args.taken x)
-    (c.in_ok-step.ensures ∙ ap (λ (h : Held). take_step c.args.seed c.args.id.now c.args.moved.now (meaning h) c.args.taken.accepted) c.state.ensures))
+    (c.in_ok-step.ensures ∙ ap
+    (λ (h : Held). take_step c.args.seed c.args.id.now c.args.moved.now (meaning h) c.args.taken.accepted)
+    c.state.ensures))
     c.commit_for.ensures

@@ -18,8 +18,16 @@ returns-in_err-resolution g c =
     let p = err_from_is_err_and c.from_residual.result c.from_residual.ensures.1 in
     let fault = c.in_err-resolution.field-0.0 in
     let now = (g.R.Replica.known c.args.replica.now).state in
-    let made : ◌⊎◌ (◌≡◌ {A = Result Accept ResolveFault} (Err fault) (Err resolve.Memory)) (Err fault ≡ (resolved ((meaning now).document c.args.id.now) c.args.named.now (option_copied c.args.content) now.uid)) =
-    subst (λ (h : Held). ◌⊎◌ (◌≡◌ {A = Result Accept ResolveFault} (Err fault) (Err resolve.Memory)) (Err fault ≡ (resolved ((meaning h).document c.args.id.now) c.args.named.now (option_copied c.args.content) h.uid))) c.state.ensures c.in_err-resolution.ensures.made in
-    rw (p.1, p.2) (undone g.R.Replica.known g.R.Replica.is_open g.R.Replica.crash resolve_failure c.args.replica.now _ (resolve_refusal fault)
+    let made : ◌⊎◌ (◌≡◌ {A = Result Accept ResolveFault} (Err fault) (Err resolve.Memory))
+    (Err fault ≡ (resolved ((meaning now).document c.args.id.now) c.args.named.now
+    (option_copied c.args.content) now.uid)) =
+    subst (λ (h : Held). ◌⊎◌ (◌≡◌ {A = Result Accept ResolveFault} (Err fault) (Err resolve.Memory))
+    (Err fault ≡ (resolved ((meaning h).document c.args.id.now) c.args.named.now
+    (option_copied c.args.content) h.uid))) c.state.ensures c.in_err-resolution.ensures.made in
+    rw (p.1, p.2) (undone g.R.Replica.known g.R.Replica.is_open g.R.Replica.crash resolve_failure c.args.replica.now _
+    (resolve_refusal fault)
     c.requires (λ found h. g.met.R.Replica.settled c.args.replica.now found c.requires h)
-    (resolve_undone _ fault (refused_is resolve_refusal c.args.seed (state_in (g.R.Replica.known c.args.replica.now)) c.args.id.now (resolved ((meaning now).document c.args.id.now) c.args.named.now (option_copied c.args.content) now.uid) resolve.Memory fault made)))
+    (resolve_undone _ fault
+    (refused_is resolve_refusal c.args.seed (state_in (g.R.Replica.known c.args.replica.now)) c.args.id.now
+    (resolved ((meaning now).document c.args.id.now) c.args.named.now (option_copied c.args.content) now.uid)
+    resolve.Memory fault made)))

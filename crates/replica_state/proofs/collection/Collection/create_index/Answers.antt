@@ -7,7 +7,10 @@ use Rattle.replica_state.specs.declared.index.Index.{Index}
 use Rattle.replica_state.proofs.collection.Collection.create_index.Goals as goal
 
 pub invariant_of-self-inside : goal.invariant_of-self-inside
-invariant_of-self-inside c = (subst AreNamed (sym c.new_index.ensures.same) c.self.inside.named, (subst (AreTables c.self.inside.docs.pairs) (sym c.new_index.ensures.same) c.self.inside.tied, tt))
+invariant_of-self-inside c = (
+  subst AreNamed (sym c.new_index.ensures.same) c.self.inside.named,
+  (subst (AreTables c.self.inside.docs.pairs) (sym c.new_index.ensures.same) c.self.inside.tied, tt),
+)
 
 pub returns-clause-indexes : goal.returns-clause-indexes
 returns-clause-indexes c =

@@ -8,7 +8,10 @@ use Rattle.replica_state.specs.Exprs.{all_read}
 use Rattle.replica_state.proofs.exprs.IndexExprs.exprs.Goals as goal
 
 pub returns-clause-forms : goal.returns-clause-forms
-returns-clause-forms c = rw (← c.self.view_is) (sym (texts_of_exprs (map form_of c.self.inside.exprs) (all_read (map form_of c.self.inside.exprs) c.self.inside.read) c.self.inside.some c.self.inside.few).1)
+returns-clause-forms c = rw (← c.self.view_is)
+    (sym (texts_of_exprs (map form_of c.self.inside.exprs)
+    (all_read (map form_of c.self.inside.exprs) c.self.inside.read) c.self.inside.some c.self.inside.few).1)
 
 pub returns-clause-count : goal.returns-clause-count
-returns-clause-count c = rw (← c.self.view_is) (sym (length-map (map form_of c.self.inside.exprs) canonical ∙ length-map c.self.inside.exprs form_of))
+returns-clause-count c = rw (← c.self.view_is)
+    (sym (length-map (map form_of c.self.inside.exprs) canonical ∙ length-map c.self.inside.exprs form_of))

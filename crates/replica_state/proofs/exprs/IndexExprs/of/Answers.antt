@@ -6,4 +6,10 @@ use Rattle.replica_state.specs.Exprs.{read_all}
 use Rattle.replica_state.proofs.exprs.IndexExprs.of.Goals as goal
 
 pub invariant_of-result : goal.invariant_of-result
-invariant_of-result c = (read_all (map form_of c.args.exprs) c.requires.read, (omega (arith, length-map c.args.exprs form_of, c.requires.some), (omega (arith, length-map c.args.exprs form_of, c.requires.few), tt)))
+invariant_of-result c = (
+  read_all (map form_of c.args.exprs) c.requires.read,
+  (
+    omega (arith, length-map c.args.exprs form_of, c.requires.some),
+    (omega (arith, length-map c.args.exprs form_of, c.requires.few), tt),
+  ),
+)

@@ -6,13 +6,18 @@ use Rattle.replica_state.specs.Prepared.{Takes}
 use Rattle.replica_state.proofs.state.State.apply.Goals as goal
 
 pub replace-requires : goal.replace-requires
-replace-requires c = subst (λ (s : Held). Takes s.collection.docs s.collection.indexes s.collection.spare c.args.prepared.replacement) (sym c.self.view_is) c.requires.collection
+replace-requires c = subst
+    (λ (s : Held). Takes s.collection.docs s.collection.indexes s.collection.spare c.args.prepared.replacement)
+    (sym c.self.view_is) c.requires.collection
 
 pub push_entry-requires : goal.push_entry-requires
-push_entry-requires c = subst (λ (s : Held). IfSome c.args.prepared.entry (λ _. 1 ≤ s.log.room)) (sym c.self.view_is) c.requires.log
+push_entry-requires c = subst (λ (s : Held). IfSome c.args.prepared.entry (λ _. 1 ≤ s.log.room))
+    (sym c.self.view_is) c.requires.log
 
 pub put_place-requires : goal.put_place-requires
-put_place-requires c = subst (λ (s : Held). IfSome c.args.prepared.moved (λ m. 1 ≤ (chosen m.table s.known s.told).room)) (sym c.self.view_is) c.requires.moved
+put_place-requires c = subst
+    (λ (s : Held). IfSome c.args.prepared.moved (λ m. 1 ≤ (chosen m.table s.known s.told).room))
+    (sym c.self.view_is) c.requires.moved
 
 pub returns-clause-lists : goal.returns-clause-lists
 returns-clause-lists c =

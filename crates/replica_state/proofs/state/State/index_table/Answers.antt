@@ -5,4 +5,5 @@ use Rattle.replica_state.proofs.state.State.index_table.Goals as goal
 
 pub returns : goal.returns
 returns c =
-    lent c.args.self.now c.indexes.result.now c.args.name.now (option_copied c.find_index.result) c.indexes.ensures.value c.indexes.ensures.tied c.find_index.ensures
+    lent c.args.self.now c.indexes.result.now c.args.name.now
+    (option_copied c.find_index.result) c.indexes.ensures.value c.indexes.ensures.tied c.find_index.ensures

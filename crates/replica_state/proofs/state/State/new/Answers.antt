@@ -18,5 +18,15 @@ returns-clause-lists c = λ i. record {
 
 pub returns-clause-history : goal.returns-clause-history
 returns-clause-history c =
-    empty_state (record { name = c.args.name; uid = c.args.uid; docs = c.new-collection.result.docs.pairs; log = c.new-log.result.entries; known = c.new-known.result.pairs; told = c.new-told.result.pairs; indexes = named c.new-collection.result.indexes })
-    c.new-collection.ensures.docs c.new-log.ensures c.new-known.ensures.pairs c.new-told.ensures.pairs (ap (λ (hs : List Heading). named hs) c.new-collection.ensures.indexes)
+    empty_state (record {
+      name = c.args.name;
+      uid = c.args.uid;
+      docs = c.new-collection.result.docs.pairs;
+      log =
+          c.new-log.result.entries;
+      known = c.new-known.result.pairs;
+      told = c.new-told.result.pairs;
+      indexes = named c.new-collection.result.indexes;
+    })
+    c.new-collection.ensures.docs c.new-log.ensures c.new-known.ensures.pairs c.new-told.ensures.pairs
+    (ap (λ (hs : List Heading). named hs) c.new-collection.ensures.indexes)

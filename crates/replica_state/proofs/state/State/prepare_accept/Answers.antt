@@ -5,24 +5,74 @@ use Rattle.replica_state.proofs.state.State.prepare_accept.Goals as goal
 
 pub returns-in_err-reserve-clause-lists : goal.returns-in_err-reserve-clause-lists
 returns-in_err-reserve-clause-lists c =
-    rw (← c.self.view_is) (λ i. record { name = c.self.inside.name; uid = c.self.inside.uid; docs = c.self.inside.collection.docs.pairs; log = c.reserve.ensures.entries i; known = c.self.inside.known.pairs; told = c.self.inside.told.pairs; indexes = named c.self.inside.collection.indexes })
+    rw (← c.self.view_is) (λ i. record {
+      name = c.self.inside.name;
+      uid = c.self.inside.uid;
+      docs =
+          c.self.inside.collection.docs.pairs;
+      log = c.reserve.ensures.entries i;
+      known = c.self.inside.known.pairs;
+      told = c.self.inside.told.pairs;
+      indexes = named c.self.inside.collection.indexes;
+    })
 
 pub returns-in_err-reserve_place-clause-lists : goal.returns-in_err-reserve_place-clause-lists
 returns-in_err-reserve_place-clause-lists c =
-    rw (← c.self.view_is) (λ i. record { name = c.self.inside.name; uid = c.self.inside.uid; docs = c.self.inside.collection.docs.pairs; log = c.reserve.ensures.entries i; known = c.reserve_place.ensures.known i; told = c.reserve_place.ensures.told i; indexes = named c.self.inside.collection.indexes })
+    rw (← c.self.view_is) (λ i. record {
+      name = c.self.inside.name;
+      uid = c.self.inside.uid;
+      docs =
+          c.self.inside.collection.docs.pairs;
+      log = c.reserve.ensures.entries i;
+      known = c.reserve_place.ensures.known i;
+      told = c.reserve_place.ensures.told i;
+      indexes = named c.self.inside.collection.indexes;
+    })
 
 pub returns-in_err-replacement-clause-lists : goal.returns-in_err-replacement-clause-lists
 returns-in_err-replacement-clause-lists c =
-    rw (← c.self.view_is) (λ i. record { name = c.self.inside.name; uid = c.self.inside.uid; docs = c.accept-2.ensures.docs i; log = c.reserve.ensures.entries i; known = c.reserve_place.ensures.known i; told = c.reserve_place.ensures.told i; indexes = c.accept-2.ensures.indexes i })
+    rw (← c.self.view_is) (λ i. record {
+      name = c.self.inside.name;
+      uid = c.self.inside.uid;
+      docs =
+          c.accept-2.ensures.docs i;
+      log = c.reserve.ensures.entries i;
+      known = c.reserve_place.ensures.known i;
+      told = c.reserve_place.ensures.told i;
+      indexes = c.accept-2.ensures.indexes i;
+    })
 
 pub returns-clause-lists : goal.returns-clause-lists
 returns-clause-lists c =
-    rw (← c.self.view_is) (λ i. record { name = c.self.inside.name; uid = c.self.inside.uid; docs = c.accept-2.ensures.docs i; log = c.reserve.ensures.entries i; known = c.reserve_place.ensures.known i; told = c.reserve_place.ensures.told i; indexes = c.accept-2.ensures.indexes i })
+    rw (← c.self.view_is) (λ i. record {
+      name = c.self.inside.name;
+      uid = c.self.inside.uid;
+      docs =
+          c.accept-2.ensures.docs i;
+      log = c.reserve.ensures.entries i;
+      known = c.reserve_place.ensures.known i;
+      told = c.reserve_place.ensures.told i;
+      indexes = c.accept-2.ensures.indexes i;
+    })
 
 pub returns-clause-parts : goal.returns-clause-parts
 returns-clause-parts c =
-    accept_parts (record { name = c.self.inside.name; uid = c.self.inside.uid; docs = c.accept-2.new.self.docs.pairs; log = c.reserve.new.self.entries; known = c.reserve_place.new.known.pairs; told = c.reserve_place.new.told.pairs; indexes = named c.accept-2.new.self.indexes })
+    accept_parts (record {
+      name = c.self.inside.name;
+      uid = c.self.inside.uid;
+      docs = c.accept-2.new.self.docs.pairs;
+      log = c.reserve.new.self.entries;
+      known = c.reserve_place.new.known.pairs;
+      told = c.reserve_place.new.told.pairs;
+      indexes = named c.accept-2.new.self.indexes;
+    })
     c.in_ok-replacement.replacement c.args.doc c.args.accept c.args.trans c.args.moved c.in_ok-replacement.ensures.after
 
 pub returns-clause-ready : goal.returns-clause-ready
-returns-clause-ready c = record { collection = c.in_ok-replacement.ensures.ready; log = c.in_ok-reserve.ensures.room; moved = c.in_ok-reserve_place.ensures.room }
+returns-clause-ready c =
+    record {
+      collection = c.in_ok-replacement.ensures.ready;
+      log = c.in_ok-reserve.ensures.room;
+      moved =
+          c.in_ok-reserve_place.ensures.room;
+    }

@@ -5,20 +5,57 @@ use Rattle.replica_state.proofs.state.State.prepare_gone.Goals as goal
 
 pub returns-in_err-reserve-clause-lists : goal.returns-in_err-reserve-clause-lists
 returns-in_err-reserve-clause-lists c =
-    rw (← c.self.view_is) (λ i. record { name = c.self.inside.name; uid = c.self.inside.uid; docs = c.self.inside.collection.docs.pairs; log = c.reserve.ensures.entries i; known = c.self.inside.known.pairs; told = c.self.inside.told.pairs; indexes = named c.self.inside.collection.indexes })
+    rw (← c.self.view_is) (λ i. record {
+      name = c.self.inside.name;
+      uid = c.self.inside.uid;
+      docs =
+          c.self.inside.collection.docs.pairs;
+      log = c.reserve.ensures.entries i;
+      known = c.self.inside.known.pairs;
+      told = c.self.inside.told.pairs;
+      indexes = named c.self.inside.collection.indexes;
+    })
 
 pub returns-in_err-reserve_place-clause-lists : goal.returns-in_err-reserve_place-clause-lists
 returns-in_err-reserve_place-clause-lists c =
-    rw (← c.self.view_is) (λ i. record { name = c.self.inside.name; uid = c.self.inside.uid; docs = c.self.inside.collection.docs.pairs; log = c.reserve.ensures.entries i; known = c.reserve_place.ensures.known i; told = c.reserve_place.ensures.told i; indexes = named c.self.inside.collection.indexes })
+    rw (← c.self.view_is) (λ i. record {
+      name = c.self.inside.name;
+      uid = c.self.inside.uid;
+      docs =
+          c.self.inside.collection.docs.pairs;
+      log = c.reserve.ensures.entries i;
+      known = c.reserve_place.ensures.known i;
+      told = c.reserve_place.ensures.told i;
+      indexes = named c.self.inside.collection.indexes;
+    })
 
 pub returns-clause-lists : goal.returns-clause-lists
 returns-clause-lists c =
-    rw (← c.self.view_is) (λ i. record { name = c.self.inside.name; uid = c.self.inside.uid; docs = c.self.inside.collection.docs.pairs; log = c.reserve.ensures.entries i; known = c.reserve_place.ensures.known i; told = c.reserve_place.ensures.told i; indexes = named c.self.inside.collection.indexes })
+    rw (← c.self.view_is) (λ i. record {
+      name = c.self.inside.name;
+      uid = c.self.inside.uid;
+      docs =
+          c.self.inside.collection.docs.pairs;
+      log = c.reserve.ensures.entries i;
+      known = c.reserve_place.ensures.known i;
+      told = c.reserve_place.ensures.told i;
+      indexes = named c.self.inside.collection.indexes;
+    })
 
 pub returns-clause-parts : goal.returns-clause-parts
 returns-clause-parts c =
-    gone_parts (record { name = c.self.inside.name; uid = c.self.inside.uid; docs = c.self.inside.collection.docs.pairs; log = c.reserve.new.self.entries; known = c.reserve_place.new.known.pairs; told = c.reserve_place.new.told.pairs; indexes = named c.self.inside.collection.indexes })
+    gone_parts (record {
+      name = c.self.inside.name;
+      uid = c.self.inside.uid;
+      docs =
+          c.self.inside.collection.docs.pairs;
+      log = c.reserve.new.self.entries;
+      known = c.reserve_place.new.known.pairs;
+      told = c.reserve_place.new.told.pairs;
+      indexes = named c.self.inside.collection.indexes;
+    })
     c.args.doc c.args.trans c.args.moved
 
 pub returns-clause-ready : goal.returns-clause-ready
-returns-clause-ready c = record { collection = tt; log = c.in_ok-reserve.ensures.room; moved = c.in_ok-reserve_place.ensures.room }
+returns-clause-ready c =
+    record { collection = tt; log = c.in_ok-reserve.ensures.room; moved = c.in_ok-reserve_place.ensures.room }

@@ -5,15 +5,42 @@ use Rattle.replica_state.proofs.state.State.prepare_move.Goals as goal
 
 pub returns-in_err-reserve_place-clause-lists : goal.returns-in_err-reserve_place-clause-lists
 returns-in_err-reserve_place-clause-lists c =
-    rw (← c.self.view_is) (λ i. record { name = c.self.inside.name; uid = c.self.inside.uid; docs = c.self.inside.collection.docs.pairs; log = c.self.inside.log.entries; known = c.reserve_place.ensures.known i; told = c.reserve_place.ensures.told i; indexes = named c.self.inside.collection.indexes })
+    rw (← c.self.view_is) (λ i. record {
+      name = c.self.inside.name;
+      uid = c.self.inside.uid;
+      docs =
+          c.self.inside.collection.docs.pairs;
+      log = c.self.inside.log.entries;
+      known = c.reserve_place.ensures.known i;
+      told = c.reserve_place.ensures.told i;
+      indexes = named c.self.inside.collection.indexes;
+    })
 
 pub returns-clause-lists : goal.returns-clause-lists
 returns-clause-lists c =
-    rw (← c.self.view_is) (λ i. record { name = c.self.inside.name; uid = c.self.inside.uid; docs = c.self.inside.collection.docs.pairs; log = c.self.inside.log.entries; known = c.reserve_place.ensures.known i; told = c.reserve_place.ensures.told i; indexes = named c.self.inside.collection.indexes })
+    rw (← c.self.view_is) (λ i. record {
+      name = c.self.inside.name;
+      uid = c.self.inside.uid;
+      docs =
+          c.self.inside.collection.docs.pairs;
+      log = c.self.inside.log.entries;
+      known = c.reserve_place.ensures.known i;
+      told = c.reserve_place.ensures.told i;
+      indexes = named c.self.inside.collection.indexes;
+    })
 
 pub returns-clause-parts : goal.returns-clause-parts
 returns-clause-parts c =
-    move_parts (record { name = c.self.inside.name; uid = c.self.inside.uid; docs = c.self.inside.collection.docs.pairs; log = c.self.inside.log.entries; known = c.reserve_place.new.known.pairs; told = c.reserve_place.new.told.pairs; indexes = named c.self.inside.collection.indexes })
+    move_parts (record {
+      name = c.self.inside.name;
+      uid = c.self.inside.uid;
+      docs =
+          c.self.inside.collection.docs.pairs;
+      log = c.self.inside.log.entries;
+      known = c.reserve_place.new.known.pairs;
+      told = c.reserve_place.new.told.pairs;
+      indexes = named c.self.inside.collection.indexes;
+    })
     c.args.moved
 
 pub returns-clause-ready : goal.returns-clause-ready

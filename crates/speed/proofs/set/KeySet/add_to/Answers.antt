@@ -7,6 +7,8 @@ use Rattle.speed.proofs.set.KeySet.add_to.Goals as goal
 
 pub add-requires-clause-fresh : goal.add-requires-clause-fresh
 add-requires-clause-fresh c =
-    subst (λ (keys : List (List (List _))). AreNew c.drop_pairs.new.self.pairs (entries_of c.args.id.now keys)) c.as_slice.ensures
-    (subst (λ (ps : List Entry). AreNew ps (entries_of c.args.id.now c.as_slice.result.now)) (sym c.drop_pairs.ensures.pairs)
+    subst (λ (keys : List (List (List _))). AreNew c.drop_pairs.new.self.pairs (entries_of c.args.id.now keys))
+    c.as_slice.ensures
+    (subst (λ (ps : List Entry). AreNew ps (entries_of c.args.id.now c.as_slice.result.now))
+    (sym c.drop_pairs.ensures.pairs)
     (new_after_drop c.args.table.now.pairs (entries_of c.args.id.now c.as_slice.result.now)))

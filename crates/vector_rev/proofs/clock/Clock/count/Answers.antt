@@ -9,9 +9,11 @@ use Rattle.vector_rev.proofs.clock.Clock.count.Goals as goal
 pub returns-then-eq : goal.returns-then-eq
 returns-then-eq c =
     let same : same_id c.args.uid.now c.entry-item.result.0 ≡ true =
-    ap (same_id c.args.uid.now) (sym c.uid.ensures.value) ∙ same_id-eq c.uid.result.now c.args.uid.now c.eq.result c.eq.ensures ∙ c.if-eq.true in
+    ap (same_id c.args.uid.now) (sym c.uid.ensures.value)
+    ∙ same_id-eq c.uid.result.now c.args.uid.now c.eq.result c.eq.ensures ∙ c.if-eq.true in
     c.counter.ensures
-    ∙ sym (count_found c.as_slice-entries.result.now c.args.uid.now c.loop-entry.entry-index c.entry-item.result (omega arith) c.entry-item.is same)
+    ∙ sym (count_found c.as_slice-entries.result.now c.args.uid.now c.loop-entry.entry-index c.entry-item.result
+    (omega arith) c.entry-item.is same)
     ∙ sym c.loop-entry.invariant
     ∙ ap (λ (es : Entries). count_in es c.args.uid.now) c.as_slice-entries.ensures.value
     ∙ ap (λ (x : Clock). count_in x.entries c.args.uid.now) c.self.view_is
@@ -19,6 +21,8 @@ returns-then-eq c =
 pub loop-entry-preserved : goal.loop-entry-preserved
 loop-entry-preserved c =
     let other : same_id c.args.uid.now c.entry-item.result.0 ≡ false =
-    ap (same_id c.args.uid.now) (sym c.uid.ensures.value) ∙ same_id-eq c.uid.result.now c.args.uid.now c.eq.result c.eq.ensures ∙ c.if-eq.false in
+    ap (same_id c.args.uid.now) (sym c.uid.ensures.value)
+    ∙ same_id-eq c.uid.result.now c.args.uid.now c.eq.result c.eq.ensures ∙ c.if-eq.false in
     c.loop-entry.invariant
-    ∙ count_past c.as_slice-entries.result.now c.args.uid.now c.loop-entry.entry-index c.entry-item.result (omega arith) c.entry-item.is other
+    ∙ count_past c.as_slice-entries.result.now c.args.uid.now c.loop-entry.entry-index c.entry-item.result
+    (omega arith) c.entry-item.is other

@@ -7,19 +7,31 @@ use Rattle.vector_rev.proofs.clock.Clock.join_into.Goals as goal
 
 pub returns-then-len-gt-MOST_CLOCK_ENTRIES-clause-counters : goal.returns-then-len-gt-MOST_CLOCK_ENTRIES-clause-counters
 returns-then-len-gt-MOST_CLOCK_ENTRIES-clause-counters c =
-    let joined = c.in_ok-put_each.ensures ∙ ap₂ (λ (es : Entries) (z : Clock). join es z.entries) c.entries.ensures.value c.all.view_is in
-    omega (arith, occurring-joined c.args.self.now c.args.all c.put_each.new.entries.items joined, c.len.ensures, c.put_each.new.entries.ok)
+    let joined = c.in_ok-put_each.ensures
+    ∙ ap₂ (λ (es : Entries) (z : Clock). join es z.entries) c.entries.ensures.value c.all.view_is in
+    omega (
+      arith,
+      occurring-joined c.args.self.now c.args.all c.put_each.new.entries.items joined,
+      c.len.ensures,
+      c.put_each.new.entries.ok,
+    )
 
 pub invariant_of-result : goal.invariant_of-result
 invariant_of-result c =
-    let joined = c.in_ok-put_each.ensures ∙ ap₂ (λ (es : Entries) (z : Clock). join es z.entries) c.entries.ensures.value c.all.view_is in
-    (is_clock-joined c.args.self.now c.args.all c.put_each.new.entries.items joined (omega (arith, c.len.ensures, c.put_each.new.entries.ok)), tt)
+    let joined = c.in_ok-put_each.ensures
+    ∙ ap₂ (λ (es : Entries) (z : Clock). join es z.entries) c.entries.ensures.value c.all.view_is in (
+      is_clock-joined c.args.self.now c.args.all c.put_each.new.entries.items joined
+          (omega (arith, c.len.ensures, c.put_each.new.entries.ok)),
+      tt,
+    )
 
 pub returns-clause-counters : goal.returns-clause-counters
 returns-clause-counters c =
-    let joined = c.in_ok-put_each.ensures ∙ ap₂ (λ (es : Entries) (z : Clock). join es z.entries) c.entries.ensures.value c.all.view_is in
+    let joined = c.in_ok-put_each.ensures
+    ∙ ap₂ (λ (es : Entries) (z : Clock). join es z.entries) c.entries.ensures.value c.all.view_is in
     count_in-IsJoin c.args.self.now c.args.all c.put_each.new.entries.items joined
 
 pub returns-clause-value : goal.returns-clause-value
 returns-clause-value c =
-    c.in_ok-put_each.ensures ∙ ap₂ (λ (es : Entries) (z : Clock). join es z.entries) c.entries.ensures.value c.all.view_is
+    c.in_ok-put_each.ensures
+    ∙ ap₂ (λ (es : Entries) (z : Clock). join es z.entries) c.entries.ensures.value c.all.view_is

@@ -5,4 +5,5 @@ use Rattle.vector_rev.proofs.clock.Clock.text.Goals as goal
 
 pub loop-i-preserved : goal.loop-i-preserved
 loop-i-preserved c =
-    entries_text_more c.entries-entries.result.now c.loop-i.i c.index-entries-i.result _ _ (omega arith) c.index-entries-i.is c.loop-i.invariant c.in_ok-push_separated.ensures
+    entries_text_more c.entries-entries.result.now c.loop-i.i c.index-entries-i.result _ _
+    (omega arith) c.index-entries-i.is c.loop-i.invariant c.in_ok-push_separated.ensures

@@ -6,5 +6,6 @@ use Rattle.chunk_list.proofs.search.fn.chunk_of.first_passes.Goals as goal
 
 pub returns : goal.returns
 returns g c some =
-    at_read c.args.chunk.now.items (λ x. FnReturnsAt g.F.Fn c.captures.passes.now x c.passes.result) 0 c.index.result.now some c.index.ensures
+    at_read c.args.chunk.now.items (λ x. FnReturnsAt g.F.Fn c.captures.passes.now x c.passes.result) 0
+    c.index.result.now some c.index.ensures
     (record { shown = c.index.result; shows = refl; says = record { met = c.passes.ensures } })
