@@ -1,5 +1,6 @@
 -- No CR stands in a JSON text, and how long one is.
-use Rattle.std.proofs.Common.{◌≡◌, ℕ, zero, suc, ◌+◌, ◌*◌, ◌<◌, ◌≤◌, Bool, true, false, not, eqb, nat_le, ◌&&◌, List, [], ◌∷◌, ◌++◌, length, inl, inr, refl, sym, ap, ◌∙◌, subst, arith, append_assoc}
+use Rattle.std.proofs.Common.{◌≡◌, ℕ, zero, suc, ◌+◌, ◌*◌, ◌<◌, ◌≤◌, Bool, true, false, not, eqb, nat_le, ◌&&◌, List}
+use Rattle.std.proofs.Common.{[], ◌∷◌, ◌++◌, length, inl, inr, refl, sym, ap, ◌∙◌, subst, arith, append_assoc}
 use Rattle.std.specs.List.{list_all}
 use Rattle.std.proofs.lemmas.Bool.{and_parts, and_from, cases_lt, cases_eq, leb-true, ne_eqb}
 use Rattle.std.proofs.lemmas.List.{length-append}
@@ -34,7 +35,10 @@ tame_small : (n : ℕ) → tame_below n ≡ true → (x : ℕ) → x < n → is_
 tame_small zero e x h = absurd (omega arith)
 tame_small (suc n) e x h =
     let p = and_parts (is_tame n) (tame_below n) e in
-    elim (cases_eq x n) [ inl same ↦ subst (λ y. is_tame y ≡ true) (sym same) p.0 | inr other ↦ tame_small n p.1 x (omega arith) ]
+    elim (cases_eq x n) [
+      | inl same ↦ subst (λ y. is_tame y ≡ true) (sym same) p.0
+      | inr other ↦ tame_small n p.1 x (omega arith)
+    ]
 
 all_tame : tame_below 128 ≡ true
 unfolding escape_byte
@@ -51,7 +55,8 @@ tame x = elim (cases_lt x 128) [
 
 escape_clean : (s : List ℕ) → IsClean (escape s)
 escape_clean [] = refl
-escape_clean (x ∷ s) = IsClean-append (escape_byte x) (escape s) (and_parts (list_all no_cr (escape_byte x)) _ (tame x)).0 (escape_clean s)
+escape_clean (x ∷ s) = IsClean-append (escape_byte x) (escape s)
+    (and_parts (list_all no_cr (escape_byte x)) _ (tame x)).0 (escape_clean s)
 
 pub quoted_clean : (s : List ℕ) → IsClean (quoted s)
 quoted_clean s = IsClean-append (escape s) (34 ∷ []) (escape_clean s) refl
@@ -96,7 +101,15 @@ members_length later (field name t fs) =
     let rest = members_text true (fields_data fs) in
     let named = quoted_length name in
     let more = members_length true fs in
-    omega (arith, named, more, comma later, length-append (comma_if later) (quoted name ++ 58 ∷ (canonical t ++ rest)), length-append (quoted name) (58 ∷ (canonical t ++ rest)), length-append (canonical t) rest)
+    omega (
+      arith,
+      named,
+      more,
+      comma later,
+      length-append (comma_if later) (quoted name ++ 58 ∷ (canonical t ++ rest)),
+      length-append (quoted name) (58 ∷ (canonical t ++ rest)),
+      length-append (canonical t) rest,
+    )
   where
     comma : (later : Bool) → length (comma_if later) ≤ 1
     comma true = omega arith
@@ -114,7 +127,8 @@ members_end later no_fields = ([], refl)
 members_end later (field name t fs) =
     let rest = members_end true fs in (
       comma_if later ++ (quoted name ++ 58 ∷ (canonical t ++ rest.0)),
-      ap (λ (r : List ℕ). comma_if later ++ (quoted name ++ 58 ∷ (canonical t ++ r))) rest.1 ∙ regroup (comma_if later) (quoted name) (canonical t) rest.0,
+      ap (λ (r : List ℕ). comma_if later ++ (quoted name ++ 58 ∷ (canonical t ++ r))) rest.1
+          ∙ regroup (comma_if later) (quoted name) (canonical t) rest.0,
     )
   where
     regroup : (a b c d : List ℕ) → a ++ (b ++ 58 ∷ (c ++ (d ++ 125 ∷ []))) ≡ (a ++ (b ++ 58 ∷ (c ++ d))) ++ 125 ∷ []

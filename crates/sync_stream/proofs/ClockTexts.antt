@@ -1,5 +1,6 @@
 -- The text of a clock is ASCII and short.
-use Rattle.std.proofs.Common.{◌≡◌, ℕ, ◌*◌, ◌^◌, ◌<◌, ◌≤◌, Bool, true, nat_lt, nat_le, ◌&&◌, List, [], ◌∷◌, length, map, decimal, IsUtf8, refl, arith}
+use Rattle.std.proofs.Common.{◌≡◌, ℕ, ◌*◌, ◌^◌, ◌<◌, ◌≤◌, Bool, true, nat_lt, nat_le, ◌&&◌, List, [], ◌∷◌, length, map}
+use Rattle.std.proofs.Common.{decimal, IsUtf8, refl, arith}
 use Rattle.std.specs.List.{list_all, join_with_byte}
 use Rattle.std.specs.Char.{is_ascii_digit}
 use Rattle.std.proofs.lemmas.Bool.{and_parts, and_from, leb-true, lt-ltb}
@@ -38,7 +39,8 @@ entry_ascii : (e : Uid × ℕ) → is_entry e ≡ true → list_all is_ascii (en
 entry_ascii e h =
     let is = entry_is e h in
     let below = is.1 in
-    both_pass is_ascii e.0 (58 ∷ decimal e.1) (weaker (is_allowed Replica) is_ascii uid_ascii e.0 (id_facts Replica e.0 is.0).2)
+    both_pass is_ascii e.0 (58 ∷ decimal e.1)
+    (weaker (is_allowed Replica) is_ascii uid_ascii e.0 (id_facts Replica e.0 is.0).2)
     (weaker is_ascii_digit is_ascii digit_ascii (decimal e.1) (digits_pass e.1 (omega (arith, below))))
 
 entry_length : (e : Uid × ℕ) → is_entry e ≡ true → length (entry_text e) ≤ 84
@@ -49,14 +51,17 @@ entry_length e h =
     let count = length-decimal-le 19 e.1 (omega arith) (omega (arith, below)) (omega (arith, below)) in
     omega (arith, uid, count, length-append e.0 (58 ∷ decimal e.1))
 
-joined_ascii : (es : Entries) → list_all is_entry es ≡ true → list_all is_ascii (join_with_byte 124 (map entry_text es)) ≡ true
+joined_ascii : (es : Entries) → list_all is_entry es ≡ true
+    → list_all is_ascii (join_with_byte 124 (map entry_text es)) ≡ true
 joined_ascii [] h = refl
 joined_ascii (e ∷ []) h = entry_ascii e (and_parts (is_entry e) _ h).0
 joined_ascii (e ∷ f ∷ es) h =
     let parts = and_parts (is_entry e) (list_all is_entry (f ∷ es)) h in
-    both_pass is_ascii (entry_text e) (124 ∷ join_with_byte 124 (map entry_text (f ∷ es))) (entry_ascii e parts.0) (joined_ascii (f ∷ es) parts.1)
+    both_pass is_ascii (entry_text e) (124 ∷ join_with_byte 124 (map entry_text (f ∷ es))) (entry_ascii e parts.0)
+    (joined_ascii (f ∷ es) parts.1)
 
-joined_length : (es : Entries) → list_all is_entry es ≡ true → length (join_with_byte 124 (map entry_text es)) ≤ 85 * length es
+joined_length : (es : Entries) → list_all is_entry es ≡ true
+    → length (join_with_byte 124 (map entry_text es)) ≤ 85 * length es
 joined_length [] h = omega arith
 joined_length (e ∷ []) h = let one = entry_length e (and_parts (is_entry e) _ h).0 in omega (arith, one)
 joined_length (e ∷ f ∷ es) h =
@@ -67,10 +72,12 @@ joined_length (e ∷ f ∷ es) h =
 
 same_ascii : (xs : List ℕ) → list_all is_ascii xs ≡ true → are_ascii xs ≡ true
 same_ascii [] h = refl
-same_ascii (x ∷ xs) h = let parts = and_parts (is_ascii x) (list_all is_ascii xs) h in and_from _ _ parts.0 (same_ascii xs parts.1)
+same_ascii (x ∷ xs) h = let parts = and_parts (is_ascii x) (list_all is_ascii xs) h
+    in and_from _ _ parts.0 (same_ascii xs parts.1)
 
 pub IsUtf8-clock_text : (x : Clock) → IsUtf8 (clock_text x)
-IsUtf8-clock_text x = IsUtf8-are_ascii (clock_text x) (same_ascii (clock_text x) (joined_ascii x.entries (T_true _ (entries_of x))))
+IsUtf8-clock_text x = IsUtf8-are_ascii (clock_text x)
+    (same_ascii (clock_text x) (joined_ascii x.entries (T_true _ (entries_of x))))
 
 pub length-clock_text : (x : Clock) → length (clock_text x) ≤ 5440
 length-clock_text x =

@@ -6,6 +6,7 @@ pub mod Bodies
 pub mod WholeStreams
 pub mod CleanTexts
 pub mod ClockTexts
+mod Sayings
 pub mod ObjectsBack
 pub mod StreamBack
 pub mod Came

@@ -13,7 +13,8 @@ use Rattle.u1_base.specs.declared.ids.Form.TheVariants.{Document}
 use Rattle.u1_base.proofs.IdFacts.{in_id}
 use Rattle.sync_http.specs.Chained.{◌>>=◌}
 use Rattle.sync_http.specs.Positions.{IsPosition, position_in}
-use Rattle.sync_http.proofs.PositionsBack.{FitsSigned-generation, IsUtf8-id, IsUtf8-trans_text, position_back, value_of-tree}
+use Rattle.sync_http.proofs.PositionsBack.{FitsSigned-generation, IsUtf8-id, IsUtf8-trans_text, position_back}
+use Rattle.sync_http.proofs.PositionsBack.{value_of-tree}
 use Rattle.sync_stream.specs.Objects.{content_of, doc_in, doc_of, head_in}
 use Rattle.sync_stream.specs.Written.{content_tree, doc_tree, head_tree}
 use Rattle.sync_stream.specs.Laws.{IsSent}
@@ -47,10 +48,13 @@ head_formed Reply p h = (
 pub head_back : (kind : HeadKind) (p : Place) → IsPosition p → head_in kind (canonical (head_tree kind p)) ≡ Some p
 unfolding head_in head_tree
 head_back Request p h =
-    ap (λ d. d >>= position_in (codes "last_known_generation") (codes "last_known_trans_id")) (value_of-tree (head_tree Request p) (head_formed Request p h) (omega arith))
-    ∙ position_back (codes "last_known_generation") (codes "last_known_trans_id") (data_of (head_tree Request p)) p h refl refl
+    ap (λ d. d >>= position_in (codes "last_known_generation") (codes "last_known_trans_id"))
+    (value_of-tree (head_tree Request p) (head_formed Request p h) (omega arith))
+    ∙ position_back (codes "last_known_generation") (codes "last_known_trans_id")
+    (data_of (head_tree Request p)) p h refl refl
 head_back Reply p h =
-    ap (λ d. d >>= position_in (codes "new_generation") (codes "new_transaction_id")) (value_of-tree (head_tree Reply p) (head_formed Reply p h) (omega arith))
+    ap (λ d. d >>= position_in (codes "new_generation") (codes "new_transaction_id"))
+    (value_of-tree (head_tree Reply p) (head_formed Reply p h) (omega arith))
     ∙ position_back (codes "new_generation") (codes "new_transaction_id") (data_of (head_tree Reply p)) p h refl refl
 
 -- ---- documents
@@ -100,8 +104,15 @@ unfolding doc_of doc_tree
 doc_of-tree doc s =
     let at = position_back (codes "gen") (codes "trans_id") (data_of (doc_tree doc)) doc.at s.at refl refl in
     let later = s.later in
-    rw (in_id Document doc.id s.id, reads_back doc.member.rev, content_back doc.member.content s.content, at, lt-ltb 0 doc.at.generation (omega (arith, later))) refl
+    rw (
+      in_id Document doc.id s.id,
+      reads_back doc.member.rev,
+      content_back doc.member.content s.content,
+      at,
+      lt-ltb 0 doc.at.generation (omega (arith, later)),
+    ) refl
 
 pub doc_back : (doc : SyncDoc) → IsSent doc → doc_in (canonical (doc_tree doc)) ≡ Some doc
 unfolding doc_in
-doc_back doc s = ap (λ d. d >>= doc_of) (value_of-tree (doc_tree doc) (doc_formed doc s) (doc_nesting doc)) ∙ doc_of-tree doc s
+doc_back doc s = ap (λ d. d >>= doc_of) (value_of-tree (doc_tree doc) (doc_formed doc s) (doc_nesting doc))
+    ∙ doc_of-tree doc s

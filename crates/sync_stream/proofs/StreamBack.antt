@@ -1,5 +1,7 @@
 -- A stream that was written is whole, and says what it was written for.
-use Rattle.std.proofs.Common.{◌≡◌, ℕ, suc, ◌-◌, ◌^◌, ◌<◌, ◌≤◌, true, false, ◌&&◌, cond, eqb, nat_lt, zero, pos, List, [], ◌∷◌, ◌++◌, length, map, take, get_or, flat_map, decimal, codes, Option, Some, None, IfSome, refl, sym, ap, ap₂, ◌∙◌, subst, arith, inl, append_assoc, unwrap_or}
+use Rattle.std.proofs.Common.{◌≡◌, ℕ, suc, ◌-◌, ◌^◌, ◌<◌, ◌≤◌, true, false, ◌&&◌, cond, eqb, nat_lt, zero, pos, List}
+use Rattle.std.proofs.Common.{[], ◌∷◌, ◌++◌, length, map, take, get_or, flat_map, decimal, codes, Option, Some, None}
+use Rattle.std.proofs.Common.{IfSome, refl, sym, ap, ap₂, ◌∙◌, subst, arith, inl, append_assoc, unwrap_or}
 use Rattle.std.specs.List.{AllByRecursion}
 use Rattle.std.proofs.lemmas.Bool.{and_parts, le-ltb, lt-ltb}
 use Rattle.std.specs.Char.{is_ascii_digit}
@@ -29,7 +31,8 @@ use Rattle.sync_stream.specs.declared.line.Line.TheVariants.{Head, Doc, End}
 use Rattle.sync_stream.specs.declared.line.Next.TheVariants.{Closed}
 use Rattle.sync_stream.specs.declared.line.SyncDoc.{SyncDoc}
 use Rattle.sync_stream.proofs.Bodies.{body_passes}
-use Rattle.sync_stream.proofs.CleanTexts.{EndsIn, IsClean, IsClean-append, no_cr, object_clean, object_end, object_length, quoted_clean, quoted_length}
+use Rattle.sync_stream.proofs.CleanTexts.{EndsIn, IsClean, IsClean-append, no_cr, object_clean, object_end}
+use Rattle.sync_stream.proofs.CleanTexts.{object_length, quoted_clean, quoted_length}
 use Rattle.sync_stream.proofs.ClockTexts.{length-clock_text}
 use Rattle.sync_stream.proofs.ObjectsBack.{doc_back, head_back}
 use Rattle.sync_stream.proofs.Trims.{trim_end-other}
@@ -56,21 +59,34 @@ unfolding head_tree
 head_plain Request p h =
     let less = h.counted in
     let fits : p.generation < 2 ^ 64 = omega (arith, less) in
-    let fs = field (codes "ensure") (boolean false) (field (codes "last_known_generation") (whole (pos p.generation)) (field (codes "last_known_trans_id") (text (trans_text p)) no_fields)) in
+    let fs = field (codes "ensure") (boolean false)
+    (field (codes "last_known_generation") (whole (pos p.generation))
+    (field (codes "last_known_trans_id") (text (trans_text p)) no_fields)) in
     let digits = length-decimal-le 19 p.generation (omega arith) (omega (arith, less)) fits in
     let trans = trans_length p.trans h.id in
     let quote = quoted_length (trans_text p) in
     let all = object_length fs in
-    record { clean = object_clean fs (refl, (number_clean p.generation fits, (quoted_clean (trans_text p), tt))); end = object_end fs; short = omega (arith, digits, trans, quote, all) }
+    record {
+      clean = object_clean fs (refl, (number_clean p.generation fits, (quoted_clean (trans_text p), tt)));
+      end =
+          object_end fs;
+      short = omega (arith, digits, trans, quote, all);
+    }
 head_plain Reply p h =
     let less = h.counted in
     let fits : p.generation < 2 ^ 64 = omega (arith, less) in
-    let fs = field (codes "new_generation") (whole (pos p.generation)) (field (codes "new_transaction_id") (text (trans_text p)) no_fields) in
+    let fs = field (codes "new_generation") (whole (pos p.generation))
+    (field (codes "new_transaction_id") (text (trans_text p)) no_fields) in
     let digits = length-decimal-le 19 p.generation (omega arith) (omega (arith, less)) fits in
     let trans = trans_length p.trans h.id in
     let quote = quoted_length (trans_text p) in
     let all = object_length fs in
-    record { clean = object_clean fs (number_clean p.generation fits, (quoted_clean (trans_text p), tt)); end = object_end fs; short = omega (arith, digits, trans, quote, all) }
+    record {
+      clean = object_clean fs (number_clean p.generation fits, (quoted_clean (trans_text p), tt));
+      end =
+          object_end fs;
+      short = omega (arith, digits, trans, quote, all);
+    }
 
 content_clean : (c : Option Tree) → IsClean (canonical (content_tree c))
 content_clean None = refl
@@ -78,7 +94,8 @@ content_clean (Some t) = quoted_clean (canonical t)
 
 content_length : (c : Option Tree) → IfSome c IsContent → length (canonical (content_tree c)) ≤ 25165826
 content_length None h = omega arith
-content_length (Some t) h = let inside = quoted_length (canonical t) in let short = h.short in omega (arith, inside, short)
+content_length (Some t) h = let inside = quoted_length (canonical t) in let short = h.short
+    in omega (arith, inside, short)
 
 doc_plain : (doc : SyncDoc) → IsSent doc → IsPlain (canonical (doc_tree doc))
 unfolding doc_tree
@@ -86,7 +103,10 @@ doc_plain doc s =
     let less = s.at.counted in
     let fits : doc.at.generation < 2 ^ 64 = omega (arith, less) in
     let rev = clock_text doc.member.rev in
-    let fs = field (codes "content") (content_tree doc.member.content) (field (codes "gen") (whole (pos doc.at.generation)) (field (codes "id") (text doc.id) (field (codes "rev") (text rev) (field (codes "trans_id") (text (trans_text doc.at)) no_fields)))) in
+    let fs = field (codes "content") (content_tree doc.member.content)
+    (field (codes "gen") (whole (pos doc.at.generation))
+    (field (codes "id") (text doc.id)
+    (field (codes "rev") (text rev) (field (codes "trans_id") (text (trans_text doc.at)) no_fields)))) in
     let content = content_length doc.member.content s.content in
     let digits = length-decimal-le 19 doc.at.generation (omega arith) (omega (arith, less)) fits in
     let id = (id_facts Document doc.id s.id).1 in
@@ -97,7 +117,13 @@ doc_plain doc s =
     let quote_trans = quoted_length (trans_text doc.at) in
     let all = object_length fs in
     record {
-      clean = object_clean fs (content_clean doc.member.content, (number_clean doc.at.generation fits, (quoted_clean doc.id, (quoted_clean rev, (quoted_clean (trans_text doc.at), tt)))));
+      clean = object_clean fs (
+        content_clean doc.member.content,
+        (
+          number_clean doc.at.generation fits,
+          (quoted_clean doc.id, (quoted_clean rev, (quoted_clean (trans_text doc.at), tt))),
+        ),
+      );
       end = object_end fs;
       short = omega (arith, content, digits, id, clock, trans, quote_id, quote_rev, quote_trans, all);
     }
@@ -140,7 +166,8 @@ without_comma bytes e = subst (λ (t : List ℕ). object_part t ≡ (t, false)) 
     at_end : (front : List ℕ) → object_part (front ++ 125 ∷ []) ≡ (front ++ 125 ∷ [], false)
     at_end front =
         ap part_comma (trim_end-other front 125 refl)
-        ∙ ap (λ b. cond b (take (length (front ++ 125 ∷ []) - 1) (front ++ 125 ∷ []), true) (front ++ 125 ∷ [], false)) (ends_so front 125)
+        ∙ ap (λ b. cond b (take (length (front ++ 125 ∷ []) - 1) (front ++ 125 ∷ []), true) (front ++ 125 ∷ [], false))
+        (ends_so front 125)
 
 with_comma : (bytes : List ℕ) → object_part (bytes ++ 44 ∷ []) ≡ (bytes, true)
 with_comma bytes =
@@ -160,7 +187,8 @@ objects bytes (doc ∷ docs) = (bytes ++ 44 ∷ []) ∷ objects (canonical (doc_
 abbrev lines_from : List ℕ → List SyncDoc → List (List ℕ)
 lines_from bytes docs = objects bytes docs ++ (93 ∷ []) ∷ []
 
-joined : (bytes : List ℕ) (docs : List SyncDoc) → bytes ++ (flat_map doc_piece docs ++ end_piece) ≡ flat_map ended (lines_from bytes docs)
+joined : (bytes : List ℕ) (docs : List SyncDoc)
+    → bytes ++ (flat_map doc_piece docs ++ end_piece) ≡ flat_map ended (lines_from bytes docs)
 unfolding doc_piece
 joined bytes [] = sym (append_assoc bytes (13 ∷ 10 ∷ []) (93 ∷ 13 ∷ 10 ∷ []))
 joined bytes (doc ∷ docs) =
@@ -171,17 +199,23 @@ joined bytes (doc ∷ docs) =
     ∙ sym (append_assoc (bytes ++ 44 ∷ []) (13 ∷ 10 ∷ []) more ∙ append_assoc bytes (44 ∷ []) (13 ∷ 10 ∷ more))
 
 -- every object line is one line, and fits
-objects_unbroken : (bytes : List ℕ) (docs : List SyncDoc) → IsPlain bytes → AllByRecursion IsSent docs → AllByRecursion IsUnbroken (lines_from bytes docs)
+objects_unbroken : (bytes : List ℕ) (docs : List SyncDoc) → IsPlain bytes → AllByRecursion IsSent docs
+    → AllByRecursion IsUnbroken (lines_from bytes docs)
 objects_unbroken bytes [] plain sent = (unbroken bytes plain.clean, (unbroken (93 ∷ []) refl, tt))
-objects_unbroken bytes (doc ∷ docs) plain sent =
-    (unbroken (bytes ++ 44 ∷ []) (IsClean-append bytes (44 ∷ []) plain.clean refl), objects_unbroken (canonical (doc_tree doc)) docs (doc_plain doc sent.0) sent.1)
+objects_unbroken bytes (doc ∷ docs) plain sent = (
+  unbroken (bytes ++ 44 ∷ []) (IsClean-append bytes (44 ∷ []) plain.clean refl),
+  objects_unbroken (canonical (doc_tree doc)) docs (doc_plain doc sent.0) sent.1,
+)
 
-objects_fit : (bytes : List ℕ) (docs : List SyncDoc) → IsPlain bytes → AllByRecursion IsSent docs → AllByRecursion IsFitting (lines_from bytes docs)
+objects_fit : (bytes : List ℕ) (docs : List SyncDoc) → IsPlain bytes → AllByRecursion IsSent docs
+    → AllByRecursion IsFitting (lines_from bytes docs)
 objects_fit bytes [] plain sent =
     let short = plain.short in (le-ltb max_line (length bytes) (omega (arith, short)), (refl, tt))
 objects_fit bytes (doc ∷ docs) plain sent =
-    let short = plain.short in
-    (le-ltb max_line (length (bytes ++ 44 ∷ [])) (omega (arith, short, length-append bytes (44 ∷ []))), objects_fit (canonical (doc_tree doc)) docs (doc_plain doc sent.0) sent.1)
+    let short = plain.short in (
+      le-ltb max_line (length (bytes ++ 44 ∷ [])) (omega (arith, short, length-append bytes (44 ∷ []))),
+      objects_fit (canonical (doc_tree doc)) docs (doc_plain doc sent.0) sent.1,
+    )
 
 -- ---- what the object lines say
 
@@ -203,7 +237,8 @@ part_of : (bytes : List ℕ) (docs : List SyncDoc) → IsPlain bytes → (object
 part_of bytes [] plain = ap (λ p. p.0) (without_comma bytes plain.end)
 part_of bytes (doc ∷ docs) plain = ap (λ p. p.0) (with_comma bytes)
 
-commas_of : (bytes : List ℕ) (docs : List SyncDoc) → IsPlain bytes → AllByRecursion IsSent docs → map has_comma (objects bytes docs) ≡ commas docs
+commas_of : (bytes : List ℕ) (docs : List SyncDoc) → IsPlain bytes → AllByRecursion IsSent docs
+    → map has_comma (objects bytes docs) ≡ commas docs
 commas_of bytes [] plain sent = ap (λ p. p.1 ∷ []) (without_comma bytes plain.end)
 commas_of bytes (doc ∷ docs) plain sent =
     ap₂ (λ p bs. p.1 ∷ bs) (with_comma bytes) (commas_of (canonical (doc_tree doc)) docs (doc_plain doc sent.0) sent.1)
@@ -213,7 +248,8 @@ later_says [] sent = refl
 later_says (doc ∷ docs) sent =
     let own = canonical (doc_tree doc) in
     ap (map doc_line) (objects_are own docs)
-    ∙ ap₂ (λ x xs. x ∷ xs) (ap doc_in (part_of own docs (doc_plain doc sent.0)) ∙ doc_back doc sent.0) (later_says docs sent.1)
+    ∙ ap₂ (λ x xs. x ∷ xs) (ap doc_in (part_of own docs (doc_plain doc sent.0)) ∙ doc_back doc sent.0)
+    (later_says docs sent.1)
 
 -- the lines are a whole stream
 body : (kind : HeadKind) (head : Place) (docs : List SyncDoc) → IsPosition head → AllByRecursion IsSent docs

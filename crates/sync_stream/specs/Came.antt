@@ -1,5 +1,5 @@
--- What the bytes of a body say that came so far: the lines that are whole, and how the body ends. Serving and syncing speak of
--- this, and not of bytes.
+-- What the bytes of a body say that came so far: the lines that are whole, and how the body ends. Serving and syncing
+-- speak of this, and not of bytes.
 use Rattle.std.specs.Prelude.{◌≡◌, ◌⊎◌, ℕ, ◌+◌, Bool, true, false, List, [], length, Option, Some, None}
 use Rattle.sync_stream.specs.Lines.{IsUnbroken}
 use Rattle.sync_stream.specs.Stream.{Begins, IsFaultyAt, counted, end_fault, is_closed, is_long_rest}
@@ -27,9 +27,11 @@ IsQuiet place rest =
 -- a body ends so behind its good lines, with this rest of line n; `all` says whether all of it came
 pub data EndsSo (kind : HeadKind) (n : ℕ) (place : Next) (rest : List ℕ) (all : Bool) (ending : Ending) : Type 0 where
   -- line n is faulty, however the body goes on
-  at_fault : (fault : LineFault) → IsFaultyAt kind n place rest fault → ending ≡ Faulty fault → EndsSo kind n place rest all ending
+  at_fault : (fault : LineFault) → IsFaultyAt kind n place rest fault → ending ≡ Faulty fault
+      → EndsSo kind n place rest all ending
   -- all of it came: what is left is the last line
-  at_end : all ≡ true → IsQuiet place rest → ending ≡ ending_of (end_fault kind n place rest) → EndsSo kind n place rest all ending
+  at_end : all ≡ true → IsQuiet place rest → ending ≡ ending_of (end_fault kind n place rest)
+      → EndsSo kind n place rest all ending
   -- more was to come: it is cut within line n
   at_cut : all ≡ false → IsQuiet place rest → ending ≡ Cut n → EndsSo kind n place rest all ending
 

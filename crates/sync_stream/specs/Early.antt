@@ -3,7 +3,8 @@ use Rattle.std.specs.Prelude.{ℕ, Bool, true, false, List}
 use Rattle.conflicts.specs.State.{State, Step}
 use Rattle.sync_stream.specs.Came.{Ending, Whole, Faulty, Cut}
 use Rattle.sync_stream.specs.Lines.{GoOn}
-use Rattle.sync_stream.specs.Messages.{Ask, AskInfo, Tell, Exchange, Request, EndsEarly, Refused, Asks, Says, Unread, Short, Over}
+use Rattle.sync_stream.specs.Messages.{Ask, AskInfo, Tell, Exchange, Request, EndsEarly, Refused, Asks, Says, Unread}
+use Rattle.sync_stream.specs.Messages.{Short, Over}
 use Rattle.sync_stream.specs.Serving.{serve}
 
 abbrev pub is_cut : Ending → Bool

@@ -30,7 +30,8 @@ commas (doc ∷ docs) = true ∷ commas docs
 abbrev pub IsFitting : List ℕ → Type 0
 IsFitting line = nat_lt max_line (length line) ≡ false
 
--- the lines are `[`, a head, documents, and `]`, and each object line but the last ends in a comma; 91 is `[` and 93 `]`
+-- the lines are `[`, a head, documents, and `]`, and each object line but the last ends in a comma; 91 is `[` and 93
+-- `]`
 pub record IsBody (kind : HeadKind) (lines : List (List ℕ)) (head : Place) (docs : List SyncDoc) : Type 0 where
   pub opening : List ℕ
   pub head_at : List ℕ
@@ -44,8 +45,8 @@ pub record IsBody (kind : HeadKind) (lines : List (List ℕ)) (head : Place) (do
   pub commas : map has_comma (head_at ∷ doc_lines) ≡ commas docs
   pub fits : AllByRecursion IsFitting lines
 
--- The text is a whole stream, and these are the lines that are given of it: its last line may stand without its CR LF, and
--- is then not given.
+-- The text is a whole stream, and these are the lines that are given of it: its last line may stand without its CR LF,
+-- and is then not given.
 pub record IsStream (kind : HeadKind) (text : List ℕ) (said : List Line) : Type 0 where
   pub lines : List (List ℕ)
   pub each : AllByRecursion IsUnbroken lines

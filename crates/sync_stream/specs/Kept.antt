@@ -1,5 +1,6 @@
 -- What a reader keeps of the pushed text, and what its calls do.
-use Rattle.std.specs.Prelude.{◌≡◌, ◌⊎◌, ℕ, ◌+◌, true, false, if◌then◌else◌, List, [], ◌++◌, length, Option, Some, None, IfSome, Result, Ok, Err}
+use Rattle.std.specs.Prelude.{◌≡◌, ◌⊎◌, ℕ, ◌+◌, true, false, if◌then◌else◌, List, [], ◌++◌, length, Option, Some, None}
+use Rattle.std.specs.Prelude.{IfSome, Result, Ok, Err}
 use Rattle.sync_stream.specs.Lines.{ended, IsUnbroken}
 use Rattle.sync_stream.specs.Stream.{Begins, IsFaultyAt, IsGood, counted, end_fault, is_closed, is_long_rest, said_by}
 use Rattle.sync_stream.specs.declared.line.HeadKind.{HeadKind}
@@ -48,7 +49,8 @@ line_in (Err fault) = []
 abbrev pub lines_given : Next → Result (Option Line) StreamFault → List Line
 lines_given place result = if is_closed place then [] else line_in result
 
--- nothing more is to be given: neither a fault nor the end was given, and no whole line nor a rest that is too long is left
+-- nothing more is to be given: neither a fault nor the end was given, and no whole line nor a rest that is too long is
+-- left
 pub record HasNoMore (reader : Kept) : Type 0 where
   pub no_fault : reader.fault ≡ None
   pub open_ : is_closed reader.place ≡ false

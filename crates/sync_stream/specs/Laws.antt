@@ -35,18 +35,21 @@ abbrev pub OneFirstFault : Type 0
 OneFirstFault =
     (kind : HeadKind) (text : List ℕ) (f g : LineFault) → HasFault kind text f → HasFault kind text g → f ≡ g
 
--- the lines of a whole stream say its head, its documents and the end, and lines that are good up to the end are those of
--- a whole stream
+-- the lines of a whole stream say its head, its documents and the end, and lines that are good up to the end are those
+-- of a whole stream
 pub record BodiesPass : Type 0 where
-  pub passes : (kind : HeadKind) (lines : List (List ℕ)) (head : Place) (docs : List SyncDoc) → IsBody kind lines head docs
+  pub passes : (kind : HeadKind) (lines : List (List ℕ)) (head : Place) (docs : List SyncDoc)
+      → IsBody kind lines head docs
       → Passes kind Opening lines (Head head ∷ map Doc docs ++ End ∷ []) Closed
   pub only : (kind : HeadKind) (lines : List (List ℕ)) (said : List Line) → Passes kind Opening lines said Closed
-      → (head : Place) × (docs : List SyncDoc) × IsBody kind lines head docs × (said ≡ Head head ∷ map Doc docs ++ End ∷ [])
+      → (head : Place) × (docs : List SyncDoc) × IsBody kind lines head docs
+      × (said ≡ Head head ∷ map Doc docs ++ End ∷ [])
 
 -- a body has no fault exactly if it is a whole stream
 pub record WholeStreams : Type 0 where
   pub sound : (kind : HeadKind) (text : List ℕ) (said : List Line) → Ends kind text said None → IsStream kind text said
-  pub complete : (kind : HeadKind) (text : List ℕ) (said : List Line) → IsStream kind text said → Ends kind text said None
+  pub complete : (kind : HeadKind) (text : List ℕ) (said : List Line) → IsStream kind text said
+      → Ends kind text said None
 
 -- ---- what is written
 
@@ -65,14 +68,17 @@ StreamsReadBack =
 
 -- ---- what came of a body
 
--- what a reader stands for is what the bytes say that came: where the source ended, where a fault was found, and where the
--- body is over
+-- what a reader stands for is what the bytes say that came: where the source ended, where a fault was found, and where
+-- the body is over
 pub record ReadersSay : Type 0 where
   pub cut : (reader : Kept) (text : List ℕ) (given : List Line) → StandsFor reader text given → HasNoMore reader
       → SaysBody reader.kind text false given (Cut reader.number)
-  pub faulty : (reader : Kept) (text : List ℕ) (given : List Line) (all : Bool) (fault : LineFault) → StandsFor reader text given
-      → IsFaultyAt reader.kind reader.number reader.place reader.rest fault → SaysBody reader.kind text all given (Faulty fault)
-  pub over : (reader : Kept) (text : List ℕ) (given : List Line) (ending : Option LineFault) → StandsFor reader text given
+  pub faulty : (reader : Kept) (text : List ℕ) (given : List Line) (all : Bool) (fault : LineFault)
+      → StandsFor reader text given
+      → IsFaultyAt reader.kind reader.number reader.place reader.rest fault
+      → SaysBody reader.kind text all given (Faulty fault)
+  pub over : (reader : Kept) (text : List ℕ) (given : List Line) (ending : Option LineFault)
+      → StandsFor reader text given
       → IsQuiet reader.place reader.rest → end_fault reader.kind reader.number reader.place reader.rest ≡ ending
       → SaysBody reader.kind text true given (ending_of ending)
 
@@ -84,7 +90,8 @@ OneSaying =
 
 -- ---- serving
 
--- what is served of an exchange that came in part are the first steps of what is served where more of its documents come
+-- what is served of an exchange that came in part are the first steps of what is served where more of its documents
+-- come
 abbrev pub ServingGoesOn : Type 0
 ServingGoesOn =
     (s : State) (seed : ℕ) (db source : List ℕ) (head : Option Place) (docs later : List SyncDoc) (e f : Ending)

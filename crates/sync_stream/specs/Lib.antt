@@ -1,6 +1,7 @@
 pub mod Lines
 pub mod Seen
 pub mod Objects
+pub mod Fields
 pub mod Says
 pub mod Stream
 pub mod Kept

@@ -1,5 +1,6 @@
 -- What a request and a reply say, as values, as far as their bytes came.
-use Rattle.std.specs.Prelude.{◌≡◌, ◌≢◌, ℕ, ◌≤◌, ◌==◌, nat_lt, Bool, true, false, if◌then◌else◌, List, [], ◌∷◌, length, drop, take, Option, Some, None, Ok, Err}
+use Rattle.std.specs.Prelude.{◌≡◌, ◌≢◌, ℕ, ◌≤◌, ◌==◌, nat_lt, Bool, true, false, if◌then◌else◌, List, [], ◌∷◌, length}
+use Rattle.std.specs.Prelude.{drop, take, Option, Some, None, Ok, Err}
 use Rattle.serde_json.specs.Data.{Data, null, boolean, number, string, array, object}
 use Rattle.content.specs.Faults.{value_of}
 use Rattle.u1_base.specs.Places.{Place}
@@ -100,8 +101,8 @@ ReadsRequest bytes (Asks db source ask) =
 
 -- ---- replies
 
--- what came back: the connection ended within the head, the head has a fault or another status than 200, or it is a reply
--- that says this
+-- what came back: the connection ended within the head, the head has a fault or another status than 200, or it is a
+-- reply that says this
 pub data HeardReply (A : Type 0) : Type 0 where
   NoReply : HeardReply A
   BadReply : WireFault → HeardReply A

@@ -1,5 +1,5 @@
--- What the objects of a stream say. Members come in any order; members of other names are ignored, and of a repeated name
--- the last one counts.
+-- What the objects of a stream say. Members come in any order; members of other names are ignored, and of a repeated
+-- name the last one counts.
 use Rattle.std.specs.Prelude.{ℕ, nat_lt, List, codes, Option, Some, None, option_map}
 use Rattle.serde_json.specs.Data.{Data, null, boolean, number, string, array, object}
 use Rattle.serde_json.specs.Find.{get, as_str}

@@ -98,5 +98,6 @@ reply_body (Refuses refusal) = refusal_text refusal
 -- the bytes of the reply: its head with the length of its body, and the body
 abbrev pub reply_text : Reply → List ℕ
 reply_text reply =
-    grammar.print_response (reply_written (record { status = reply_status reply; body = length (reply_body reply) }) (is_stream reply))
+    grammar.print_response (reply_written (record { status = reply_status reply; body = length (reply_body reply) })
+    (is_stream reply))
     ++ reply_body reply

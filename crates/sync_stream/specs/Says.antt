@@ -1,5 +1,6 @@
 -- What one whole line says at its place in a stream.
-use Rattle.std.specs.Prelude.{◌≡◌, ◌-◌, ◌==◌, ◌||◌, ◌&&◌, ℕ, Bool, true, false, nat_lt, if◌then◌else◌, List, [], ◌∷◌, length, slice_index, take, Option, Some, None}
+use Rattle.std.specs.Prelude.{◌≡◌, ◌-◌, ◌==◌, ◌||◌, ◌&&◌, ℕ, Bool, true, false, nat_lt, if◌then◌else◌, List, [], ◌∷◌}
+use Rattle.std.specs.Prelude.{length, slice_index, take, Option, Some, None}
 use Rattle.std.specs.Str.{bytes_eq}
 use Rattle.u1_base.specs.Places.{Place}
 use Rattle.sync_stream.specs.Objects.{head_in, doc_in}
@@ -38,8 +39,8 @@ ends_in_comma bytes = nat_lt 0 (length bytes) && slice_index bytes (length bytes
 abbrev pub part_comma : List ℕ → List ℕ × Bool
 part_comma bytes = if ends_in_comma bytes then (take (length bytes - 1) bytes, true) else (bytes, false)
 
--- the object of a line, and whether a comma stands behind it. Blanks before the comma, and those at the start, are white
--- space of JSON, which reading the object ignores
+-- the object of a line, and whether a comma stands behind it. Blanks before the comma, and those at the start, are
+-- white space of JSON, which reading the object ignores
 abbrev pub object_part : List ℕ → List ℕ × Bool
 object_part line = part_comma (trim_end line)
 
@@ -68,7 +69,9 @@ says kind Closed line = None
 -- what a line can say at its place
 abbrev pub IsShape : Next → Passed → Type 0
 IsShape Opening passed = passed ≡ record { line = None; place = Heading }
-IsShape Heading passed = (head : Place) × (comma : Bool) × (passed ≡ record { line = Some (Head head); place = After comma })
-IsShape (After true) passed = (doc : SyncDoc) × (comma : Bool) × (passed ≡ record { line = Some (Doc doc); place = After comma })
+IsShape Heading passed = (head : Place) × (comma : Bool)
+    × (passed ≡ record { line = Some (Head head); place = After comma })
+IsShape (After true) passed = (doc : SyncDoc) × (comma : Bool)
+    × (passed ≡ record { line = Some (Doc doc); place = After comma })
 IsShape (After false) passed = passed ≡ record { line = Some End; place = Closed }
 IsShape Closed passed = ⊥

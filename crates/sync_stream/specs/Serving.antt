@@ -1,6 +1,7 @@
--- Serving: what a target replies to a request and which steps it makes, by its state, the request as far as it came, and the
--- seed of its transaction ids.
-use Rattle.std.specs.Prelude.{◌≡◌, ℕ, ◌+◌, Bool, false, not, ◌&&◌, nat_le, if◌then◌else◌, List, [], ◌∷◌, ◌++◌, length, filter, Option, Some, None, unwrap_or}
+-- Serving: what a target replies to a request and which steps it makes, by its state, the request as far as it came,
+-- and the seed of its transaction ids.
+use Rattle.std.specs.Prelude.{◌≡◌, ℕ, ◌+◌, Bool, false, not, ◌&&◌, nat_le, if◌then◌else◌, List, [], ◌∷◌, ◌++◌, length}
+use Rattle.std.specs.Prelude.{filter, Option, Some, None, unwrap_or}
 use Rattle.std.specs.List.{flat_map, list_any}
 use Rattle.u1_base.specs.Ids.{same_id}
 use Rattle.u1_base.specs.NewId.{new_id_text}
@@ -25,8 +26,10 @@ use Rattle.conflicts.specs.declared.receipts.Taken.{Taken}
 use Rattle.sync_http.specs.declared.info.Info.{Info}
 use Rattle.sync_stream.specs.Came.{Ending, Whole, Faulty, Cut}
 use Rattle.sync_stream.specs.Lines.{GoOn}
-use Rattle.sync_stream.specs.Messages.{Ask, AskInfo, Tell, Exchange, Request, EndsEarly, Refused, Asks, ReadsRequest, Says, Unread, Short, Over}
-use Rattle.sync_stream.specs.Replies.{Refusal, BadRequest, NotFound, LogCheck, TooLarge, StoreFailed, StoreFull, NoMemory, Reply, Tells, Keeps, Returns, Refuses, head_refusal, reply_text}
+use Rattle.sync_stream.specs.Messages.{Ask, AskInfo, Tell, Exchange, Request, EndsEarly, Refused, Asks, ReadsRequest}
+use Rattle.sync_stream.specs.Messages.{Says, Unread, Short, Over}
+use Rattle.sync_stream.specs.Replies.{Refusal, BadRequest, NotFound, LogCheck, TooLarge, StoreFailed, StoreFull}
+use Rattle.sync_stream.specs.Replies.{NoMemory, Reply, Tells, Keeps, Returns, Refuses, head_refusal, reply_text}
 use Rattle.sync_stream.specs.declared.fault.LineFault.TheVariants.{At, TooLong}
 use Rattle.sync_stream.specs.declared.line.SyncDoc.{SyncDoc}
 
@@ -87,7 +90,12 @@ is_held held change = list_any (λ h. same_id h.doc change.doc && nat_le change.
 abbrev pub sent_if : Change → Option Member → List SyncDoc
 sent_if change None = []
 sent_if change (Some member) =
-    record { id = change.doc; member = member; at = record { generation = change.generation; trans = Some change.trans } } ∷ []
+    record {
+      id = change.doc;
+      member = member;
+      at =
+          record { generation = change.generation; trans = Some change.trans };
+    } ∷ []
 
 -- the documents that changed, each with its current member
 abbrev pub sent : State → List Change → List SyncDoc
@@ -114,7 +122,8 @@ exchanged s seed source known held (doc ∷ docs) ending =
     if passes (kept_at s Told source) doc.at
     then (let made = steps_for s seed false doc (record { table = Told; uid = source; at = doc.at }) in
     let after = after_all s made in
-    first made (exchanged after seed source known (held ++ held_after (taken_of s doc false).outcome doc.id after) docs ending))
+    first made (exchanged after seed source known
+    (held ++ held_after (taken_of s doc false).outcome doc.id after) docs ending))
     else refused LogCheck
 
 -- the head is checked before the documents; only a body that is not whole has none
@@ -126,7 +135,13 @@ exchange s seed source (Some known) docs ending =
 -- ---- the other asks
 
 abbrev pub info_of : State → Uid → Info
-info_of s source = record { target = s.uid; target_at = end_of s.log; source = source; source_at = kept_at s Told source }
+info_of s source = record {
+  target = s.uid;
+  target_at = end_of s.log;
+  source = source;
+  source_at =
+      kept_at s Told source;
+}
 
 abbrev pub told : State → Uid → Place → Served
 told s source at =

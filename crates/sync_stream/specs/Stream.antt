@@ -1,5 +1,6 @@
 -- A stream: the lines of a text, what they say, and its first faulty line. Lines count from 1.
-use Rattle.std.specs.Prelude.{◌≡◌, ◌≢◌, ◌⊎◌, ℕ, ◌+◌, ◌-◌, ◌^◌, ◌==◌, ◌&&◌, min, Bool, true, false, not, nat_lt, if◌then◌else◌, List, [], ◌∷◌, ◌++◌, length, slice_index, Option, Some, None}
+use Rattle.std.specs.Prelude.{◌≡◌, ◌≢◌, ◌⊎◌, ℕ, ◌+◌, ◌-◌, ◌^◌, ◌==◌, ◌&&◌, min, Bool, true, false, not, nat_lt}
+use Rattle.std.specs.Prelude.{if◌then◌else◌, List, [], ◌∷◌, ◌++◌, length, slice_index, Option, Some, None}
 use Rattle.sync_stream.specs.Lines.{ended, IsUnbroken, Splits}
 use Rattle.sync_stream.specs.Says.{says}
 use Rattle.sync_stream.specs.declared.line.HeadKind.{HeadKind}
@@ -47,7 +48,8 @@ Passes kind from (line ∷ lines) said to =
     × Passes kind passed.place lines later to
 
 -- the text begins with these good lines, which say this and lead to that place, and then has the rest
-pub record Begins (kind : HeadKind) (text : List ℕ) (lines : List (List ℕ)) (said : List Line) (place : Next) (rest : List ℕ) : Type 0 where
+pub record Begins (kind : HeadKind) (text : List ℕ) (lines : List (List ℕ)) (said : List Line) (place : Next)
+    (rest : List ℕ) : Type 0 where
   pub splits : Splits text lines rest
   pub passes : Passes kind Opening lines said place
 
@@ -64,7 +66,8 @@ fault_if n (Some passed) = None
 
 -- why the whole line with number n, which stands before the end of the stream, is faulty
 abbrev pub fault_of : HeadKind → ℕ → Next → List ℕ → Option LineFault
-fault_of kind n place line = if nat_lt max_line (length line) then Some (TooLong n) else fault_if n (says kind place line)
+fault_of kind n place line = if nat_lt max_line (length line) then Some (TooLong n) else fault_if n
+    (says kind place line)
 
 -- an unended rest is too long, whatever comes behind it: a CR at its end may be that of its CR LF
 abbrev pub ends_in_cr : List ℕ → Bool
@@ -95,8 +98,8 @@ pub record HasFault (kind : HeadKind) (text : List ℕ) (fault : LineFault) : Ty
 
 -- ---- whole bodies
 
--- what the rest does as the last line, where nothing comes behind it: a good one that does not close the stream makes the
--- next line missing
+-- what the rest does as the last line, where nothing comes behind it: a good one that does not close the stream makes
+-- the next line missing
 abbrev pub closes : ℕ → Option Passed → Option LineFault
 closes n None = Some (At n)
 closes n (Some passed) = if is_closed passed.place then None else Some (At (counted (n + 1)))

@@ -73,7 +73,12 @@ told at = Some (record { table = Told; uid = a; at = at })
 
 -- a hands over its revision of the document, which stands at generation n of its log, and knows nothing of b
 abbrev exchange_of : Place → Tree → ℕ → Ending → Request
-exchange_of known content n ending = Asks db a (Exchange (record { head = Some known; docs = record { id = d; member = member at_a content; at = place a n } ∷ []; ending = ending }))
+exchange_of known content n ending = Asks db a
+    (Exchange (record {
+      head = Some known;
+      docs = record { id = d; member = member at_a content; at = place a n } ∷ [];
+      ending = ending;
+    }))
 
 abbrev exchange : Tree → ℕ → Request
 exchange content n = exchange_of nowhere content n Whole
@@ -82,7 +87,8 @@ exchange content n = exchange_of nowhere content n Whole
 abbrev crossed : State
 crossed =
     after_all (edited of_b) (Moved (record { table = Told; uid = a; at = place a 1 })
-    ∷ Accepted d (received (member at_a of_a)) (codes "b-") (Some (record { table = Known; uid = a; at = place a 1 })) ∷ [])
+    ∷ Accepted d (received (member at_a of_a)) (codes "b-")
+    (Some (record { table = Known; uid = a; at = place a 1 })) ∷ [])
 
 -- the place of the n-th entry that b makes under a seed
 abbrev made : ℕ → ℕ → Place
@@ -93,9 +99,14 @@ made seed n = record { generation = n; trans = Some (new_id_text seed Trans n) }
 pub record ServesAsWorked : Type 0 where
   -- a document that is new is accepted and its place told in one step, and is not returned
   pub inserted : (seed : ℕ) → serve empty seed (exchange of_a 1)
-      ≡ record { reply = Returns (made seed 1) []; steps = Accepted d (received (member at_a of_a)) (new_id_text seed Trans 1) (told (place a 1)) ∷ [] }
+      ≡ record {
+        reply = Returns (made seed 1) [];
+        steps =
+            Accepted d (received (member at_a of_a)) (new_id_text seed Trans 1) (told (place a 1)) ∷ [];
+      }
   -- handed over once more it makes no step
-  pub again : (seed later : ℕ) → serve (after_all empty (serve empty seed (exchange of_a 1)).steps) later (exchange of_a 1)
+  pub again : (seed later : ℕ)
+      → serve (after_all empty (serve empty seed (exchange of_a 1)).steps) later (exchange of_a 1)
       ≡ record { reply = Returns (made seed 1) []; steps = [] }
   -- a document in conflict is not accepted: its place is told, and the own revision is returned
   pub conflicted : (seed : ℕ) → serve (edited of_b) seed (exchange of_a 1)
@@ -108,18 +119,34 @@ pub record ServesAsWorked : Type 0 where
       ≡ record {
         reply = Returns (made seed 2) (record { id = d; member = member merged of_a; at = made seed 2 } ∷ []);
         steps =
-            Accepted d (record { rev = merged; content = Some of_a; making = Merge; parents = at_a ∷ at_b ∷ []; current = true })
+            Accepted d (record {
+              rev = merged;
+              content = Some of_a;
+              making = Merge;
+              parents = at_a ∷ at_b ∷ [];
+              current = true;
+            })
             (new_id_text seed Trans 2) (told (place a 1)) ∷ [];
       }
   -- what b took of a meanwhile is returned to a, who missed the reply to its first request
-  pub missed : (seed : ℕ) → serve crossed seed (Asks db a (Exchange (record { head = Some nowhere; docs = []; ending = Whole })))
-      ≡ record { reply = Returns (place b 2) (record { id = d; member = member at_a of_a; at = place b 2 } ∷ []); steps = [] }
+  pub missed : (seed : ℕ)
+      → serve crossed seed (Asks db a (Exchange (record { head = Some nowhere; docs = []; ending = Whole })))
+      ≡ record {
+        reply = Returns (place b 2) (record { id = d; member = member at_a of_a; at = place b 2 } ∷ []);
+        steps = [];
+      }
   -- a document from before the told place is refused, and so is a told place with another id at its generation
-  pub old : (seed : ℕ) → serve (after_all empty (Moved (record { table = Told; uid = a; at = place a 2 }) ∷ [])) seed (exchange of_a 1) ≡ refused LogCheck
-  pub other : (seed : ℕ) → serve (after_all empty (Moved (record { table = Told; uid = a; at = place a 1 }) ∷ [])) seed (Asks db a (Tell (Says (place b 1)))) ≡ refused LogCheck
+  pub old : (seed : ℕ) → serve (after_all empty (Moved (record { table = Told; uid = a; at = place a 2 }) ∷ [])) seed
+      (exchange of_a 1) ≡ refused LogCheck
+  pub other : (seed : ℕ) → serve (after_all empty (Moved (record { table = Told; uid = a; at = place a 1 }) ∷ [])) seed
+      (Asks db a (Tell (Says (place b 1)))) ≡ refused LogCheck
   -- the document before a faulty line is accepted, and a faulty line behind a refusal does not count
   pub before : (seed : ℕ) → serve empty seed (exchange_of nowhere of_a 1 (Faulty (TooLong 4)))
-      ≡ record { reply = Refuses TooLarge; steps = Accepted d (received (member at_a of_a)) (new_id_text seed Trans 1) (told (place a 1)) ∷ [] }
+      ≡ record {
+        reply = Refuses TooLarge;
+        steps =
+            Accepted d (received (member at_a of_a)) (new_id_text seed Trans 1) (told (place a 1)) ∷ [];
+      }
   pub behind : (seed : ℕ) → serve empty seed (exchange_of (place b 1) of_a 1 (Faulty (TooLong 4))) ≡ refused LogCheck
   -- another database is not found
   pub elsewhere : (seed : ℕ) → serve empty seed (Asks d a AskInfo) ≡ refused NotFound

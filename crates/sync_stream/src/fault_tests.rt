@@ -1,4 +1,5 @@
-//! Made streams, each with one line that ends otherwise: which line is faulty then, and what is given before it.
+//! Made streams, each with one line that ends otherwise: which line is faulty then, and what is
+//! given before it.
 use crate::HeadKind;
 use crate::telling::{tells, tells_cut};
 use std::alloc::{AllocError, Global};
@@ -32,7 +33,8 @@ impl Made {
             String::from_str(alloc, r#"{"new_generation":9,"new_transaction_id":"T"}"#)
         } else if self.is_object(number) {
             format!(in alloc;
-                "{{\"content\":null,\"gen\":{number},\"id\":\"d{number}\",\"rev\":\"a:{number}\",\"trans_id\":\"T\"}}"
+                "{{\"content\":null,\"gen\":{number},\"id\":\"d{number}\",\"rev\":\"a:{number}\",\"\
+                  trans_id\":\"T\"}}"
             )
         } else {
             String::from_str(alloc, "]")
@@ -65,7 +67,8 @@ impl Made {
         Ok(text)
     }
 
-    // The faulty line then. An object line that ends as another one may is good, and the next one stands out of place.
+    // The faulty line then. An object line that ends as another one may is good, and the next one
+    // stands out of place.
     fn faulty(self, other: u32, end: &str) -> Option<u32> {
         if end == self.end_of(other) {
             None

@@ -1,5 +1,6 @@
 //! What holds of all streams, each as the contract of a function that does nothing.
-ghost use Rattle.sync_stream.specs.Laws.{BodiesPass, OneFirstFault, OneReading, OneSaying, ReadersSay, ServingIs, StreamsReadBack, WholeStreams};
+ghost use Rattle.sync_stream.specs.Laws.{BodiesPass, OneFirstFault, OneReading, OneSaying};
+ghost use Rattle.sync_stream.specs.Laws.{ReadersSay, ServingIs, StreamsReadBack, WholeStreams};
 
 /// A text says one list of lines, however it is cut.
 pub fn law_one_reading()

@@ -1,13 +1,16 @@
-//! The stream of documents that two replicas exchange: lines of JSON parted by CR LF, which come in any pieces.
+//! The stream of documents that two replicas exchange: lines of JSON parted by CR LF, which come in
+//! any pieces.
 //!
-//! A stream says a list of lines: a head, documents, an end. A reader gives the same lines however the stream is cut, names
-//! the first line that is not as it must be, and keeps no more than the unfinished line. What is written is read as itself.
+//! A stream says a list of lines: a head, documents, an end. A reader gives the same lines however
+//! the stream is cut, names the first line that is not as it must be, and keeps no more than the
+//! unfinished line. What is written is read as itself.
 #![tactic(auto)]
 
 mod buffer;
 mod fault;
 #[cfg(test)]
 mod fault_tests;
+mod fields;
 mod laws;
 mod line;
 mod objects;

@@ -1,19 +1,22 @@
 //! What the objects of a stream say.
 ghost use Rattle.std.specs.Prelude.{◌≡◌, ◌≢◌, Some, None, IfOk, IfErr, option_map};
-ghost use Rattle.serde_json.specs.View.{view};
 ghost use Rattle.u1_base.specs.Ids.{id_in};
-ghost use Rattle.u1_base.specs.declared.ids.Form.TheVariants.{Document};
+ghost use Rattle.u1_base.specs.declared.ids.Form.TheVariants.{Document, Transaction};
 ghost use Rattle.content.specs.Reading.{content_in};
 ghost use Rattle.vector_rev.specs.ClockText.{clock_in};
-ghost use Rattle.sync_stream.specs.Objects.{content_of, doc_in, doc_of, head_in, text_in};
+ghost use Rattle.sync_stream.specs.Fields.{content_said, doc_said, generation_said, place_said};
+ghost use Rattle.sync_stream.specs.Fields.{text_said, told, told_of};
+ghost use Rattle.sync_stream.specs.Objects.{doc_in, head_in};
 
+use crate::fields::{Field, Fields, fields_of, plain_fields};
 use crate::{HeadKind, SyncDoc};
 use conflicts::Member;
 use content::{Content, ContentFault};
-use serde_json::Value;
+use json::Scratch;
 use std::alloc::Global;
 use sync_http::parts::{position_in, value_in};
-use u1_base::{DocId, IdFault, Memory, Position};
+use u1_base::limits::GREATEST_COUNT;
+use u1_base::{DocId, IdFault, Memory, Position, TransId};
 use vector_rev::{Clock, ClockFault};
 
 /// The position that the bytes of a head's object say, if they say one.
@@ -40,44 +43,45 @@ pub(crate) fn head_in(
 }
 
 /// The document that the bytes of its object say, if they say one.
-#[tactic(auto, unfolding(crate::specs::Objects::doc_in))]
-pub(crate) fn doc_in(alloc: Global, bytes: &[u8]) -> Result<Option<SyncDoc>, Memory>
+#[tactic(auto, using(crate::proofs::Sayings::doc_in_said, crate::proofs::Sayings::doc_in_none))]
+pub(crate) fn doc_in(
+    alloc: Global,
+    scratch: &mut Scratch<Global>,
+    bytes: &[u8],
+) -> Result<Option<SyncDoc>, Memory>
     ensures { IfOk result (λ doc. doc ≡ doc_in bytes.now) }
 {
+    if let Some(fields) = plain_fields(bytes, scratch)? {
+        return doc_of(alloc, fields);
+    }
     let Some(value) = value_in(alloc, bytes)? else {
         return Ok(None);
     };
-    doc_of(alloc, &value)
+    doc_of(alloc, fields_of(&value))
 }
 
-#[tactic(auto, unfolding(crate::specs::Objects::doc_of))]
-fn doc_of(alloc: Global, value: &Value) -> Result<Option<SyncDoc>, Memory>
-    ensures { IfOk result (λ doc. doc ≡ doc_of (view value.now)) }
+#[tactic(auto, unfolding(crate::specs::Fields::doc_said))]
+fn doc_of(alloc: Global, fields: Fields<'_>) -> Result<Option<SyncDoc>, Memory>
+    ensures { IfOk result (λ doc. doc ≡ doc_said (told_of fields.entry)) }
 {
-    let Some(text) = text_in(value, "id") else {
+    let Some(text) = text_in(fields.id) else {
         return Ok(None);
     };
     let Some(id) = id_of(alloc, text)? else {
         return Ok(None);
     };
-    let Some(text) = text_in(value, "rev") else {
+    let Some(text) = text_in(fields.rev) else {
         return Ok(None);
     };
     let Some(rev) = clock_of(alloc, text)? else {
         return Ok(None);
     };
-    let Some(member) = value.get("content") else {
+    let Some(content) = content_of(alloc, fields.content)? else {
         return Ok(None);
     };
-    let Some(content) = content_of(alloc, member)? else {
+    let Some(at) = place_of(alloc, fields.generation, fields.trans)? else {
         return Ok(None);
     };
-    let Some(at) = position_in(alloc, value, "gen", "trans_id")? else {
-        return Ok(None);
-    };
-    if at.generation == 0 {
-        return Ok(None);
-    }
     Ok(Some(SyncDoc {
         id,
         member: Member { rev, content },
@@ -85,12 +89,57 @@ fn doc_of(alloc: Global, value: &Value) -> Result<Option<SyncDoc>, Memory>
     }))
 }
 
-fn text_in<'a>(value: &'a Value, name: &str) -> Option<&'a str>
-    ensures { option_map (λ s. s.now) result ≡ text_in name.now (view value.now) }
+fn text_in<'a>(field: Field<'a>) -> Option<&'a str>
+    ensures { option_map (λ s. s.now) result ≡ text_said (told field.entry) }
 {
-    match value.get(name) {
-        Some(member) => member.as_str(),
-        None => None,
+    match field {
+        Field::Text(text) => Some(text),
+        Field::Absent => None,
+        Field::Null => None,
+        Field::Whole(_) => None,
+        Field::Other => None,
+    }
+}
+
+// The position of a document in the log of its sender.
+#[tactic(auto, unfolding(crate::specs::Fields::place_said))]
+fn place_of(
+    alloc: Global,
+    generation: Field<'_>,
+    trans: Field<'_>,
+) -> Result<Option<Position>, Memory>
+    ensures { IfOk result (λ at. at ≡ place_said (told generation.entry) (told trans.entry)) }
+{
+    let Some(generation) = generation_in(generation) else {
+        return Ok(None);
+    };
+    let Some(text) = text_in(trans) else {
+        return Ok(None);
+    };
+    let Some(trans) = trans_of(alloc, text)? else {
+        return Ok(None);
+    };
+    Ok(Some(Position {
+        generation,
+        trans: Some(trans),
+    }))
+}
+
+fn generation_in(field: Field<'_>) -> Option<u64>
+    ensures { result ≡ generation_said (told field.entry) }
+{
+    match field {
+        Field::Whole(number) => {
+            if number > 0 && number <= GREATEST_COUNT {
+                Some(number)
+            } else {
+                None
+            }
+        }
+        Field::Absent => None,
+        Field::Null => None,
+        Field::Text(_) => None,
+        Field::Other => None,
     }
 }
 
@@ -114,20 +163,29 @@ fn clock_of(alloc: Global, text: &str) -> Result<Option<Clock>, Memory>
     }
 }
 
-// What a member says of a content: null that there is none, a string the content that its text is.
-fn content_of(alloc: Global, value: &Value) -> Result<Option<Option<Content>>, Memory>
-    ensures { IfOk result (λ content. content ≡ content_of (view value.now)) }
+fn trans_of(alloc: Global, text: &str) -> Result<Option<TransId>, Memory>
+    ensures { IfOk result (λ id. id ≡ id_in Transaction text.now) }
 {
-    match value {
-        Value::Null => Ok(Some(None)),
-        Value::String(text) => match content_in(alloc, text.as_bytes())? {
+    match TransId::read(alloc, text) {
+        Ok(id) => Ok(Some(id)),
+        Err(IdFault::Memory) => Err(Memory),
+        Err(_) => Ok(None),
+    }
+}
+
+// What a field says of a content: null that there is none, a text the content that it is.
+fn content_of(alloc: Global, field: Field<'_>) -> Result<Option<Option<Content>>, Memory>
+    ensures { IfOk result (λ content. content ≡ content_said (told field.entry)) }
+{
+    match field {
+        Field::Null => Ok(Some(None)),
+        Field::Text(text) => match content_in(alloc, text.as_bytes())? {
             Some(content) => Ok(Some(Some(content))),
             None => Ok(None),
         },
-        Value::Bool(_) => Ok(None),
-        Value::Number(_) => Ok(None),
-        Value::Array(_) => Ok(None),
-        Value::Object(_) => Ok(None),
+        Field::Absent => Ok(None),
+        Field::Whole(_) => Ok(None),
+        Field::Other => Ok(None),
     }
 }
 

@@ -1,8 +1,11 @@
 //! Reads a stream that comes in pieces.
-ghost use Rattle.std.specs.Prelude.{◌≡◌, ◌≢◌, ◌++◌, ◌⊎◌, ◌<◌, ◌≤◌, false, Err, None, Some, ℕ, List, [], IfErr, IfOk, IfSome, OnErr, OnOk, length};
-ghost use Rattle.sync_stream.specs.Kept.{Answers, Finishes, IsReadUp, Kept, PassesOne, StandsFor, fresh, line_in, lines_given, lines_passed};
+ghost use Rattle.std.specs.Prelude.{◌≡◌, ◌≢◌, ◌++◌, ◌⊎◌, ◌<◌, ◌≤◌, false, Err, None, Some, ℕ, List};
+ghost use Rattle.std.specs.Prelude.{[], IfErr, IfOk, IfSome, OnErr, OnOk, length};
+ghost use Rattle.sync_stream.specs.Kept.{Answers, Finishes, IsReadUp, Kept, PassesOne, StandsFor};
+ghost use Rattle.sync_stream.specs.Kept.{fresh, line_in, lines_given, lines_passed};
 ghost use Rattle.sync_stream.specs.Says.{IsShape};
-ghost use Rattle.sync_stream.specs.Stream.{Ends, IsGood, answered, end_fault, fault_of, is_closed, is_long_rest};
+ghost use Rattle.sync_stream.specs.Stream.{Ends, IsGood, answered, end_fault, fault_of, is_closed};
+ghost use Rattle.sync_stream.specs.Stream.{is_long_rest};
 ghost use Rattle.sync_stream.specs.declared.fault.LineFault.{LineFault as Fault};
 ghost use Rattle.sync_stream.specs.declared.fault.LineFault.TheVariants.{At};
 ghost use Rattle.sync_stream.specs.declared.fault.StreamFault.TheVariants.{Memory as NoMemory};
@@ -14,12 +17,14 @@ use crate::buffer::Buffer;
 use crate::line::{HeadKind, Line, Next, Passed};
 use crate::says::says;
 use crate::{LineFault, StreamFault};
+use json::Scratch;
 use std::alloc::Global;
 use std::marker::Model;
 use u1_base::Memory;
 use u1_base::limits::MOST_LINE_BYTES;
 
-/// Reads a stream in any pieces. It keeps only the unfinished line, and the fault that it gave.
+/// Reads a stream in any pieces. It keeps only the unfinished line, the fault that it gave, and
+/// memory for the texts of one line.
 #[derive(Drop)]
 pub struct Reader {
     kind: HeadKind,
@@ -27,6 +32,7 @@ pub struct Reader {
     place: Next,
     fault: Option<LineFault>,
     rest: Buffer,
+    scratch: Scratch<Global>,
 }
 
 impl Model for Reader {
@@ -34,7 +40,14 @@ impl Model for Reader {
 
     ghost Value = { Kept };
 
-    ghost view = { λ r. record { kind = r.kind; number = r.number; place = r.place; fault = r.fault; rest = r.rest } };
+    ghost view = { λ r. record {
+      kind = r.kind;
+      number = r.number;
+      place = r.place;
+      fault =
+          r.fault;
+      rest = r.rest;
+    } };
 }
 
 impl Reader {
@@ -49,14 +62,17 @@ impl Reader {
             place: Next::Opening,
             fault: None,
             rest: Buffer::new(alloc),
+            scratch: Scratch::new(alloc),
         }
     }
 
     /// Adds the piece to the pushed bytes. It never finds a fault first.
     pub fn push(&mut self, piece: &[u8]) -> Result<(), StreamFault>
-        ensures ok { OnOk result ((text : List ℕ) (given : List Said) → StandsFor self.old text given
+        ensures ok { OnOk result ((text : List ℕ) (given : List Said)
+            → StandsFor self.old text given
             → StandsFor self.new (text ++ piece.now) given) }
-        ensures err { IfErr result (λ e. (e ≡ NoMemory) ⊎ IfSome self.old.fault (λ f. e ≡ answered f)) }
+        ensures err { IfErr result (λ e. (e ≡ NoMemory)
+            ⊎ IfSome self.old.fault (λ f. e ≡ answered f)) }
         ensures left { OnErr result (self.new ≡ self.old) }
         ensures again { IfSome self.old.fault
             (λ f. (result ≡ Err (answered f)) × (self.new ≡ self.old)) }
@@ -141,7 +157,8 @@ impl Reader {
         requires no_fault { self.old.fault ≡ None }
         requires open_ { is_closed self.old.place ≡ false }
         ensures passes { IfOk result (λ r. PassesOne self.old self.new r) }
-        ensures stands { IfOk result (λ r. (text : List ℕ) (given : List Said) → StandsFor self.old text given
+        ensures stands { IfOk result (λ r. (text : List ℕ) (given : List Said)
+            → StandsFor self.old text given
             → StandsFor self.new text (given ++ lines_passed r)) }
         ensures shape { IfOk result
             (λ r. IfOk r (λ o. IfSome o (λ passed. IsShape self.old.place passed))) }
@@ -168,6 +185,7 @@ impl Reader {
         };
         match read_line(
             alloc,
+            &mut self.scratch,
             self.kind,
             self.number,
             self.place,
@@ -193,16 +211,25 @@ impl Reader {
         ensures finishes { Finishes self.old self.new result }
         ensures again { IfSome self.old.fault
             (λ f. (result ≡ Err (answered f)) × (self.new ≡ self.old)) }
-        ensures whole { OnOk result ((text : List ℕ) (given : List Said) → StandsFor self.old text given
+        ensures whole { OnOk result ((text : List ℕ) (given : List Said)
+            → StandsFor self.old text given
             → Ends self.old.kind text given None) }
         ensures faulty { IfErr result (λ e. self.old.fault ≡ None
             → (text : List ℕ) (given : List Said) → StandsFor self.old text given
-            → (e ≡ NoMemory) ⊎ ((f : Fault) × (e ≡ answered f) × Ends self.old.kind text given (Some f))) }
+            → (e ≡ NoMemory) ⊎ ((f : Fault) × (e ≡ answered f)
+            × Ends self.old.kind text given (Some f))) }
     {
         if let Some(fault) = self.fault {
             return Err(fault.into());
         }
-        match end_fault(alloc, self.kind, self.number, self.place, self.rest.rest())? {
+        match end_fault(
+            alloc,
+            &mut self.scratch,
+            self.kind,
+            self.number,
+            self.place,
+            self.rest.rest(),
+        )? {
             None => Ok(()),
             Some(fault) => {
                 self.fault = Some(fault);
@@ -231,6 +258,7 @@ fn is_long_rest(bytes: &[u8]) -> bool
 #[tactic(auto, using(crate::proofs::Stands::shape_of))]
 fn read_line(
     alloc: Global,
+    scratch: &mut Scratch<Global>,
     kind: HeadKind,
     number: u64,
     place: Next,
@@ -243,7 +271,7 @@ fn read_line(
     if line.len() > MOST_LINE_BYTES {
         return Ok(Err(LineFault::TooLong(number)));
     }
-    match says(alloc, kind, place, line)? {
+    match says(alloc, scratch, kind, place, line)? {
         Some(passed) => Ok(Ok(passed)),
         None => Ok(Err(LineFault::At(number))),
     }
@@ -252,6 +280,7 @@ fn read_line(
 // The fault of a body that ends with this rest.
 fn end_fault(
     alloc: Global,
+    scratch: &mut Scratch<Global>,
     kind: HeadKind,
     number: u64,
     place: Next,
@@ -269,7 +298,7 @@ fn end_fault(
     if rest.len() > MOST_LINE_BYTES {
         return Ok(Some(LineFault::TooLong(number)));
     }
-    match says(alloc, kind, place, rest)? {
+    match says(alloc, scratch, kind, place, rest)? {
         None => Ok(Some(LineFault::At(number))),
         Some(passed) => Ok(if passed.place == Next::Closed {
             None

@@ -6,6 +6,7 @@ ghost use Rattle.sync_stream.specs.Says.{is_blank, object_part, says, trim_end, 
 use crate::HeadKind;
 use crate::line::{Line, Next, Passed};
 use crate::objects::{doc_in, head_in};
+use json::Scratch;
 use std::alloc::Global;
 use u1_base::Memory;
 
@@ -13,6 +14,7 @@ use u1_base::Memory;
 #[tactic(auto, unfolding(crate::specs::Says::says))]
 pub(crate) fn says(
     alloc: Global,
+    scratch: &mut Scratch<Global>,
     kind: HeadKind,
     place: Next,
     line: &[u8],
@@ -40,7 +42,7 @@ pub(crate) fn says(
         }
         Next::After(true) => {
             let (bytes, comma) = object_part(line);
-            match doc_in(alloc, bytes)? {
+            match doc_in(alloc, scratch, bytes)? {
                 Some(doc) => Ok(Some(Passed {
                     line: Some(Line::Doc(doc)),
                     place: Next::After(comma),

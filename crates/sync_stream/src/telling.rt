@@ -1,4 +1,5 @@
-//! What tests tell of a stream in one line: the lines that a reader gives, and that the stream is whole, or its fault.
+//! What tests tell of a stream in one line: the lines that a reader gives, and that the stream is
+//! whole, or its fault.
 use crate::{HeadKind, Line, Reader, StreamFault, SyncDoc};
 use std::alloc::{AllocError, Global};
 use std::str;
@@ -88,7 +89,8 @@ impl Telling {
         }
     }
 
-    // Pushes a piece, and tells the lines that are whole then. A fault is told at the end, since the reader keeps it.
+    // Pushes a piece, and tells the lines that are whole then. A fault is told at the end, since
+    // the reader keeps it.
     fn take(&mut self, alloc: Global, piece: &[u8]) -> Result<(), Fail> {
         if self.reader.push(piece).is_err() {
             return Ok(());

@@ -1,7 +1,8 @@
 //! Worked streams in pieces of several sizes.
 //!
-//! A row is a stream and what is told of it: its lines, and that it is whole or its fault. In a row `~` stands for CR LF,
-//! `$t`, `$n` and `$r` for a tab, LF and CR, and `$h`, `$1` and `$2` for a head and two documents.
+//! A row is a stream and what is told of it: its lines, and that it is whole or its fault. In a row
+//! `~` stands for CR LF, `$t`, `$n` and `$r` for a tab, LF and CR, and `$h`, `$1` and `$2` for a
+//! head and two documents.
 use crate::telling::{tells, tells_cut};
 use crate::{HeadKind, Reader, StreamFault};
 use std::alloc::{AllocError, Global};
@@ -166,8 +167,8 @@ fn missing_lines(rt: HostRuntime) -> Result<(), Fail> {
     Ok(())
 }
 
-// The line `]` may stand without its line end, and nothing behind it. Blanks and tabs may stand round a line, and white
-// space of JSON within one.
+// The line `]` may stand without its line end, and nothing behind it. Blanks and tabs may stand
+// round a line, and white space of JSON within one.
 const ENDS: &str = r#"
 [~$h~] => head 2 T-2; whole
 [~$h~]~ => head 2 T-2; end; whole
@@ -206,11 +207,14 @@ fn heads(rt: HostRuntime) -> Result<(), Fail> {
     Ok(())
 }
 
-// Members come in any order and with others, and the last of a name counts.
+// Members come in any order and with others, and the last of a name counts. Texts may be escaped.
 const READ: &str = r#"
 {"trans_id":"T-1","x":1,"rev":"a:1","id":"d","gen":7,"gen":1,"content":"{ }"} => d a:1 {} 1 T-1; end; whole
 $t{"content":"{}",$r"gen":1,$n"id":"d%2F","rev":"a:1","trans_id":"T"}  => d%2F a:1 {} 1 T; end; whole
 {"content":null,"gen":9223372036854775807,"id":"d","rev":"a:1","trans_id":"T"} => d a:1 deleted 9223372036854775807 T; end; whole
+{"x":{"id":"e","y":[1.5,true]},"content":"{}","gen":1,"id":"d","rev":"a:1","trans_id":"T"} => d a:1 {} 1 T; end; whole
+{"id":["e"],"gen":2.5,"content":"{}","gen":1,"id":"d","rev":"a:1","trans_id":"T"} => d a:1 {} 1 T; end; whole
+{"content":"{\u0022v\":7}","gen":1,"\u0069d":"d\u0031","rev":"a\u003a1","trans_id":"T"} => d1 a:1 {"v":7} 1 T; end; whole
 "#;
 
 #[test]
@@ -246,6 +250,7 @@ const NAMES: &str = r#"
 {"content":"{}","gen":1,"id":"d","rev":"","trans_id":"T"} => At(3)
 {"content":"{}","gen":1,"id":"d","rev":null,"trans_id":"T"} => At(3)
 {"content":"{}","gen":1,"id":"d","trans_id":"T"} => At(3)
+{"content":"{}","gen":1,"id":"d","rev":"a:1","trans_id":"T","id":null} => At(3)
 "#;
 
 #[test]
@@ -261,6 +266,8 @@ const CONTENTS: &str = r#"
 {"content":"{\"a\":1.5}","gen":1,"id":"d","rev":"a:1","trans_id":"T"} => At(3)
 {"content":false,"gen":1,"id":"d","rev":"a:1","trans_id":"T"} => At(3)
 {"gen":1,"id":"d","rev":"a:1","trans_id":"T"} => At(3)
+{"content":"{}","gen":1,"id":"d","rev":"a:1","trans_id":"T","x":1e400} => At(3)
+{"content":"{}","gen":1,"id":"d","rev":"a:1","trans_id":"T"}{} => At(3)
 [] => At(3)
  => At(3)
 "#;

@@ -4,7 +4,8 @@ ghost use Rattle.json.specs.Tree.{json_tokens};
 ghost use Rattle.serde_json.specs.Written.{outline};
 ghost use Rattle.content.specs.Canonical.{data_of};
 ghost use Rattle.sync_stream.specs.declared.line.HeadKind.TheVariants.{Reply, Request};
-ghost use Rattle.sync_stream.specs.Written.{content_tree, doc_piece, doc_tree, end_piece, head_piece, head_tree};
+ghost use Rattle.sync_stream.specs.Written.{content_tree, doc_piece, doc_tree, end_piece};
+ghost use Rattle.sync_stream.specs.Written.{head_piece, head_tree};
 
 use crate::{HeadKind, SyncDoc};
 use content::Content;
@@ -27,7 +28,8 @@ pub fn write_head(alloc: Global, kind: HeadKind, at: &Position) -> Result<Bytes,
 
 fn write_head_object(kind: HeadKind, at: &Position, out: &mut Writer) -> Result<(), Memory>
     ensures tokens { OnOk result
-        (out.new.tokens ≡ out.old.tokens ++ json_tokens (outline (data_of (head_tree kind at.now)))) }
+        (out.new.tokens ≡ out.old.tokens
+        ++ json_tokens (outline (data_of (head_tree kind at.now)))) }
     ensures before { out.new.before ≡ out.old.before }
 {
     match kind {
@@ -38,7 +40,8 @@ fn write_head_object(kind: HeadKind, at: &Position, out: &mut Writer) -> Result<
 
 fn write_request_head(at: &Position, out: &mut Writer) -> Result<(), Memory>
     ensures tokens { OnOk result
-        (out.new.tokens ≡ out.old.tokens ++ json_tokens (outline (data_of (head_tree Request at.now)))) }
+        (out.new.tokens ≡ out.old.tokens
+        ++ json_tokens (outline (data_of (head_tree Request at.now)))) }
     ensures before { out.new.before ≡ out.old.before }
 {
     out.begin_object()?;
@@ -54,7 +57,8 @@ fn write_request_head(at: &Position, out: &mut Writer) -> Result<(), Memory>
 
 fn write_reply_head(at: &Position, out: &mut Writer) -> Result<(), Memory>
     ensures tokens { OnOk result
-        (out.new.tokens ≡ out.old.tokens ++ json_tokens (outline (data_of (head_tree Reply at.now)))) }
+        (out.new.tokens ≡ out.old.tokens
+        ++ json_tokens (outline (data_of (head_tree Reply at.now)))) }
     ensures before { out.new.before ≡ out.old.before }
 {
     out.begin_object()?;
@@ -66,7 +70,8 @@ fn write_reply_head(at: &Position, out: &mut Writer) -> Result<(), Memory>
     Ok(())
 }
 
-/// A document: the comma and the CR LF that part it from the line before, and its line without the line end.
+/// A document: the comma and the CR LF that part it from the line before, and its line without the
+/// line end.
 pub fn write_doc(alloc: Global, doc: &SyncDoc) -> Result<Bytes, Memory>
     requires { 1 ≤ doc.now.at.generation }
     ensures { IfOk result (λ bytes. bytes ≡ doc_piece doc.now) }
@@ -101,7 +106,8 @@ fn write_object(doc: &SyncDoc, out: &mut Writer) -> Result<(), Memory>
 
 fn write_content(content: &Option<Content>, out: &mut Writer) -> Result<(), Memory>
     ensures tokens { OnOk result
-        (out.new.tokens ≡ out.old.tokens ++ json_tokens (outline (data_of (content_tree content.now)))) }
+        (out.new.tokens ≡ out.old.tokens
+        ++ json_tokens (outline (data_of (content_tree content.now)))) }
     ensures before { out.new.before ≡ out.old.before }
 {
     match content {

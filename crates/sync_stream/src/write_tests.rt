@@ -152,7 +152,8 @@ fn deletion(alloc: Global) -> Result<SyncDoc, Fail> {
 }
 
 const DELETION: &[u8] =
-    b",\r\n{\"content\":null,\"gen\":9223372036854775807,\"id\":\"d1\",\"rev\":\"a:1|b:2\",\"trans_id\":\"T\"}";
+    b",\r\n{\"content\":null,\"gen\":9223372036854775807,\"id\":\"d1\",\"rev\":\"a:1|b:2\",\"trans_\
+      id\":\"T\"}";
 
 fn deletion_is_written(alloc: Global) -> Result<bool, Fail> {
     let doc = deletion(alloc)?;
@@ -170,7 +171,8 @@ fn a_deletion(rt: HostRuntime) -> Result<(), Fail> {
 }
 
 const EMPTY_REPLY: &[u8] =
-    b"[\r\n{\"new_generation\":1,\"new_transaction_id\":\"T-00000000000000000000000000000000\"}\r\n]\r\n";
+    b"[\r\n{\"new_generation\":1,\"new_transaction_id\":\"T-00000000000000000000000000000000\"}\r\n\
+      ]\r\n";
 
 fn empty_reply_is_written(alloc: Global) -> Result<bool, Fail> {
     let at = position(alloc, 1, "T-00000000000000000000000000000000")?;

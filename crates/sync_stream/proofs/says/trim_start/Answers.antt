@@ -7,11 +7,16 @@ use Rattle.sync_stream.proofs.says.trim_start.Goals.{then-loop-start-test+else-i
 pub loop-start-preserved : goal.loop-start-preserved
 loop-start-preserved c = record {
   fits = omega (arith, c.loop-start-test.true);
-  same = start_step c.args.bytes.now c.loop-start.start (omega (arith, c.loop-start-test.true)) (sym c.is_blank.ensures ∙ c.if-is_blank.true) ∙ c.loop-start.invariant.same;
+  same = start_step c.args.bytes.now c.loop-start.start (omega (arith, c.loop-start-test.true))
+      (sym c.is_blank.ensures ∙ c.if-is_blank.true) ∙ c.loop-start.invariant.same;
 }
 
 pub returns : goal.returns
 returns c = elim c.loop-start-test.branch [
-  | then-loop-start-test+else-is_blank w ↦ take_rest c.args.bytes.now c.loop-start.start ∙ start_stop c.args.bytes.now c.loop-start.start (omega (arith, w.loop-start-test.true)) (sym w.is_blank.ensures ∙ w.if-is_blank.false) ∙ c.loop-start.invariant.same
-  | else-loop-start-test w ↦ take_rest c.args.bytes.now c.loop-start.start ∙ start_none c.args.bytes.now c.loop-start.start (omega (arith, w.loop-start-test.false)) ∙ c.loop-start.invariant.same
+  | then-loop-start-test+else-is_blank w ↦ take_rest c.args.bytes.now c.loop-start.start
+      ∙ start_stop c.args.bytes.now c.loop-start.start (omega (arith, w.loop-start-test.true))
+      (sym w.is_blank.ensures ∙ w.if-is_blank.false) ∙ c.loop-start.invariant.same
+  | else-loop-start-test w ↦ take_rest c.args.bytes.now c.loop-start.start
+      ∙ start_none c.args.bytes.now c.loop-start.start (omega (arith, w.loop-start-test.false))
+      ∙ c.loop-start.invariant.same
 ]

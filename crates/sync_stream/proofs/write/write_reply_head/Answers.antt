@@ -5,5 +5,14 @@ use Rattle.sync_stream.proofs.write.write_reply_head.Goals as goal
 pub returns-clause-tokens : goal.returns-clause-tokens
 unfolding head_tree
 returns-clause-tokens c =
-    rw (c.in_ok-end_object.ensures.ok, c.in_ok-string.ensures.ok, c.in_ok-key-2.ensures.ok, c.in_ok-u64.ensures.ok, c.in_ok-key.ensures.ok, c.in_ok-begin_object.ensures.ok, c.generation.ensures, c.trans_text.ensures)
+    rw (
+      c.in_ok-end_object.ensures.ok,
+      c.in_ok-string.ensures.ok,
+      c.in_ok-key-2.ensures.ok,
+      c.in_ok-u64.ensures.ok,
+      c.in_ok-key.ensures.ok,
+      c.in_ok-begin_object.ensures.ok,
+      c.generation.ensures,
+      c.trans_text.ensures,
+    )
     (simp append_assoc refl)

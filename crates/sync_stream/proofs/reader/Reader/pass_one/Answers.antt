@@ -8,5 +8,6 @@ returns-in-Err-clause-passes c =
     let now = c.args.self.now in (
       search rules,
       subst (λ k. IsFaultyAt k.kind k.number k.place k.rest c.in-Err.fault) c.self.view_is
-          (faulty_line c.self.inside.kind c.self.inside.number c.self.inside.place c.self.inside.rest c.in-Some.at c.in-Err.fault (search rules) c.in-Some.ensures.found (search rules)),
+          (faulty_line c.self.inside.kind c.self.inside.number c.self.inside.place c.self.inside.rest c.in-Some.at
+          c.in-Err.fault (search rules) c.in-Some.ensures.found (search rules)),
     )
