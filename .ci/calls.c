@@ -3,6 +3,7 @@
 //
 // FAIL: the noted call of this number, from 1, is not made, and fails by the errno in ERRNO, else by EIO.
 // STOP: at the noted call of this number the process is killed before the call is made.
+// WAIT: at the noted call of this number the process waits until there is the file that GO names.
 // INTERRUPT: so many reads fail at first, as where a signal interrupts them.
 // NO_SEED: the system gives no random bytes.
 #define _GNU_SOURCE
@@ -49,6 +50,8 @@ static int fails(const char *format, ...) {
     va_end(values);
     calls += 1;
     if (calls == number_of("STOP")) kill(getpid(), SIGKILL);
+    if (calls == number_of("WAIT"))
+        while (access(getenv("GO"), F_OK) != 0) usleep(10000);
     errno = before;
     if (calls != number_of("FAIL")) return 0;
     errno = getenv("ERRNO") ? (int)number_of("ERRNO") : EIO;

@@ -1,77 +1,100 @@
 //! What tests want of a command. These functions borrow, and answer `false` where memory runs out:
 //! that keeps the proofs of the tests short.
-use crate::harness::{NONE, Ran, created_image, run_on};
-use disk_model::{Choice, MemDisk};
-use replica_cli::{Outcome, outcome_status};
+use crate::harness::{BLANK, Failing, Files, Ran, bytes_of, run_on};
+use command_lines::outcome_status;
 use std::alloc::Global;
+use u1_base::{Bytes, Memory};
 
-/// How a call may leave what was not synced.
-pub const CHOICES: [Choice; 5] = [
-    Choice::Nothing,
-    Choice::Whole,
-    Choice::FirstHalf,
-    Choice::Fill(0),
-    Choice::Fill(1),
-];
+/// A command, its input, what it prints, and its status.
+pub type Row = (&'static str, &'static [u8], &'static str, u8);
+
+/// The bytes of the three files of a store.
+#[derive(Drop)]
+pub struct Stored {
+    pub root: Bytes,
+    pub left: Bytes,
+    pub right: Bytes,
+}
+
+impl Stored {
+    /// A copy of these files.
+    pub fn of(alloc: Global, files: Files<'_>) -> Result<Stored, Memory> {
+        Ok(Stored {
+            root: bytes_of(alloc, files.root)?,
+            left: bytes_of(alloc, files.left)?,
+            right: bytes_of(alloc, files.right)?,
+        })
+    }
+
+    pub fn files(&self) -> Files<'_> {
+        Files {
+            root: self.root.as_slice(),
+            left: self.left.as_slice(),
+            right: self.right.as_slice(),
+        }
+    }
+}
 
 pub fn are(bytes: &[u8], want: &[u8]) -> bool {
     bytes == want
 }
 
-/// Whether these are the bytes after `create d1`.
-pub fn are_created(alloc: Global, bytes: &[u8]) -> bool {
-    match created_image(alloc) {
-        Ok(image) => are(bytes, image.as_slice()),
+/// Whether these are the bytes of those files.
+pub fn same(files: Files<'_>, want: Files<'_>) -> bool {
+    are(files.root, want.root) && are(files.left, want.left) && are(files.right, want.right)
+}
+
+/// Whether a command printed this and ended with this status.
+pub fn ended(ran: &Ran, printed: &str, status: u8) -> bool {
+    outcome_status(&ran.outcome) == status && are(ran.printed.bytes(), printed.as_bytes())
+}
+
+/// Whether the command prints this over these files, and ends with this status.
+pub fn prints(alloc: Global, stored: Files<'_>, row: Row) -> bool {
+    match run_on(alloc, row.0, stored, row.1, Failing::Nothing) {
+        Ok(ran) => ended(&ran, row.2, row.3),
         Err(_) => false,
     }
 }
 
-/// Whether a command ended so, printed this, and left these bytes.
-pub fn left(ran: &Ran, outcome: &Outcome, printed: &[u8], bytes: &[u8]) -> bool {
-    ran.outcome == *outcome && are(ran.printed.bytes(), printed) && are(ran.disk.bytes(), bytes)
-}
-
-/// Whether the words over these bytes are done with this line, and leave those.
-pub fn is_done(
-    alloc: Global,
-    words: &[&str],
-    stored: &[u8],
-    input: &[u8],
-    line: &str,
-    bytes: &[u8],
-) -> bool {
-    match run_on(alloc, words, stored, input, NONE) {
-        Ok(ran) => left(&ran, &Outcome::Done, line.as_bytes(), bytes),
+/// Whether the command does so, and leaves the files as they are.
+pub fn refuses(alloc: Global, stored: Files<'_>, row: Row) -> bool {
+    match run_on(alloc, row.0, stored, row.1, Failing::Nothing) {
+        Ok(ran) => ended(&ran, row.2, row.3) && same(ran.files(), stored),
         Err(_) => false,
     }
 }
 
-/// Whether the words are refused over these bytes, which stay, by this line and status.
-pub fn refuses(
-    alloc: Global,
-    words: &[&str],
-    stored: &[u8],
-    input: &[u8],
-    line: &str,
-    status: u8,
-) -> bool {
-    match run_on(alloc, words, stored, input, NONE) {
-        Ok(ran) => {
-            outcome_status(&ran.outcome) == status
-                && are(ran.printed.bytes(), line.as_bytes())
-                && are(ran.disk.bytes(), stored)
+/// What the row leaves of the store, if it ends as the row says.
+fn next(alloc: Global, stored: &Stored, row: Row) -> Option<Stored> {
+    match run_on(alloc, row.0, stored.files(), row.1, Failing::Nothing) {
+        Ok(ran) if ended(&ran, row.2, row.3) => Stored::of(alloc, ran.files()).ok(),
+        _ => None,
+    }
+}
+
+// What the rows leave of these files, if each ends as it says; else the place of the first that
+// does not.
+fn played(alloc: Global, start: Files<'_>, rows: &[Row]) -> Result<Stored, usize> {
+    let Ok(mut stored) = Stored::of(alloc, start) else {
+        return Err(rows.len());
+    };
+    for (place, row) in rows.iter().enumerate() {
+        match next(alloc, &stored, *row) {
+            Some(left) => stored = left,
+            None => return Err(place),
         }
-        Err(_) => false,
     }
+    Ok(stored)
 }
 
-/// Whether a stop during that call leaves these bytes by this choice.
-pub fn is_left(alloc: Global, disk: &MemDisk, call: u64, choice: Choice, bytes: &[u8]) -> bool {
-    if call >= disk.calls() {
-        return false;
-    }
-    match disk.crash_image(alloc, call, choice) {
-        Ok(image) => are(image.as_slice(), bytes),
-        Err(_) => false,
-    }
+/// The place of the first row that does not end as it says, where they are run one after the other
+/// over these files.
+pub fn fails_at(alloc: Global, start: Files<'_>, rows: &[Row]) -> Option<usize> {
+    played(alloc, start, rows).err()
+}
+
+/// The same over no store.
+pub fn story_fails_at(alloc: Global, rows: &[Row]) -> Option<usize> {
+    fails_at(alloc, BLANK, rows)
 }

@@ -1,139 +1,118 @@
-//! A stop at each device call, with each image that it may leave.
-use crate::checks::{CHOICES, are_created};
-use crate::harness::{CONTENT, CREATE, Failing, INIT, NONE, Ran, empty_image, run_on};
-use disk_model::{Choice, MemDisk};
-use replica_cli::{Outcome, Refusal};
+//! What a stop now leaves of the three disks, each by some choices, and what the next command
+//! finds then.
+use crate::checks::are;
+use crate::faults::answer;
+use crate::harness::Files;
+use disk_model::{Choice, Disk, MemDisk};
+use disks::{DiskName, Disks};
 use std::alloc::Global;
+use u1_base::{Bytes, Memory};
 
-// What has to hold of the images that a stop may leave.
-#[derive(Clone, Copy)]
-enum Wanted {
-    // The store has the document or is as it was: creating it again is done or finds the entry.
-    WholeStore,
-    // The disk is empty, or does not read, or is the empty image: no image is taken for a store
-    // with a document.
-    NoDocument,
-}
+/// How a stop may leave what was not synced.
+const CHOICES: [Choice; 5] = [
+    Choice::Nothing,
+    Choice::Whole,
+    Choice::FirstHalf,
+    Choice::Fill(0),
+    Choice::Fill(1),
+];
 
-#[test]
-fn a_stop_inside_create_leaves_a_whole_store(rt: HostRuntime) {
-    assert!(rt; create_leaves_a_whole_store(rt.alloc()));
-}
-
-#[test]
-fn a_stop_inside_init_leaves_no_document(rt: HostRuntime) {
-    assert!(rt; leaves(rt.alloc(), INIT, &[], b"", Wanted::NoDocument));
-}
-
-fn create_leaves_a_whole_store(alloc: Global) -> bool {
-    match empty_image(alloc) {
-        Ok(empty) => {
-            let stored = empty.as_slice();
-            leaves(alloc, CREATE, stored, CONTENT, Wanted::WholeStore)
-        }
-        Err(_) => false,
-    }
-}
-
-// Whether this holds of each stop, and where a call has failed too.
-fn leaves(alloc: Global, words: &[&str], stored: &[u8], input: &[u8], wanted: Wanted) -> bool {
-    match run_on(alloc, words, stored, input, NONE) {
-        Ok(whole) => {
-            whole.outcome == Outcome::Done
-                && each_stop_leaves(alloc, &whole.disk, wanted)
-                && each_failing_call_leaves(alloc, words, stored, input, wanted, &whole)
-        }
-        Err(_) => false,
-    }
-}
-
-fn each_failing_call_leaves(
+/// Whether the question is answered by one of these two texts, whatever a stop now leaves: the
+/// root by each choice, and the two images by each choice.
+pub fn leaves(
     alloc: Global,
-    words: &[&str],
-    stored: &[u8],
-    input: &[u8],
-    wanted: Wanted,
-    whole: &Ran,
+    disks: &mut Disks<MemDisk>,
+    question: &str,
+    one: &[u8],
+    other: &[u8],
 ) -> bool {
-    for call in 0..whole.disk.calls() {
-        if !failing_call_leaves(alloc, words, stored, input, wanted, call) {
-            return false;
-        }
-    }
-    true
-}
-
-fn failing_call_leaves(
-    alloc: Global,
-    words: &[&str],
-    stored: &[u8],
-    input: &[u8],
-    wanted: Wanted,
-    call: u64,
-) -> bool {
-    let failing = Failing {
-        disk: &[call],
-        ..NONE
-    };
-    match run_on(alloc, words, stored, input, failing) {
-        Ok(ran) => {
-            ran.outcome == Outcome::DiskFault && each_stop_leaves(alloc, &ran.disk, wanted)
-        }
+    match Left::of(alloc, disks) {
+        Ok(left) => left.all_answer(alloc, question, one, other),
         Err(_) => false,
     }
 }
 
-fn each_stop_leaves(alloc: Global, disk: &MemDisk, wanted: Wanted) -> bool {
-    for call in 0..disk.calls() {
-        if !each_choice_leaves(alloc, disk, call, wanted) {
-            return false;
-        }
-    }
-    true
+// What a stop leaves of each disk, by each choice.
+#[derive(Drop)]
+struct Left {
+    roots: Vec<Bytes>,
+    lefts: Vec<Bytes>,
+    rights: Vec<Bytes>,
 }
 
-fn each_choice_leaves(alloc: Global, disk: &MemDisk, call: u64, wanted: Wanted) -> bool {
+impl Left {
+    fn of(alloc: Global, disks: &mut Disks<MemDisk>) -> Result<Left, Memory> {
+        Ok(Left {
+            roots: all_left(alloc, disks, DiskName::Root)?,
+            lefts: all_left(alloc, disks, DiskName::Left)?,
+            rights: all_left(alloc, disks, DiskName::Right)?,
+        })
+    }
+
+    fn all_answer(&self, alloc: Global, question: &str, one: &[u8], other: &[u8]) -> bool {
+        for root in &self.roots {
+            if !self.answer_with(alloc, root.as_slice(), question, one, other) {
+                return false;
+            }
+        }
+        true
+    }
+
+    fn answer_with(
+        &self,
+        alloc: Global,
+        root: &[u8],
+        question: &str,
+        one: &[u8],
+        other: &[u8],
+    ) -> bool {
+        for (left, right) in self.lefts.iter().zip(self.rights.iter()) {
+            let files = Files {
+                root,
+                left: left.as_slice(),
+                right: right.as_slice(),
+            };
+            if !answers(alloc, question, files, one, other) {
+                return false;
+            }
+        }
+        true
+    }
+}
+
+fn answers(alloc: Global, question: &str, files: Files<'_>, one: &[u8], other: &[u8]) -> bool {
+    match answer(alloc, question, files) {
+        Ok(found) => are(found.as_slice(), one) || are(found.as_slice(), other),
+        Err(_) => false,
+    }
+}
+
+fn all_left(
+    alloc: Global,
+    disks: &mut Disks<MemDisk>,
+    name: DiskName,
+) -> Result<Vec<Bytes>, Memory> {
+    let mut all = Vec::new(alloc);
     for choice in CHOICES {
-        if !stop_leaves(alloc, disk, call, choice, wanted) {
-            return false;
-        }
+        all.push(left_now(alloc, disks, name, choice)?)?;
     }
-    true
+    Ok(all)
 }
 
-fn stop_leaves(alloc: Global, disk: &MemDisk, call: u64, choice: Choice, wanted: Wanted) -> bool {
+// What a stop now leaves of the disk by this choice. A look is noted first, whose image is the one
+// before it.
+fn left_now(
+    alloc: Global,
+    disks: &mut Disks<MemDisk>,
+    name: DiskName,
+    choice: Choice,
+) -> Result<Bytes, Memory> {
+    let call = disks.disk(name).calls();
+    disks.turn_to(name);
+    let _ = disks.length();
+    let disk = disks.disk(name);
     if call >= disk.calls() {
-        return false;
+        return Err(Memory);
     }
-    match disk.crash_image(alloc, call, choice) {
-        Ok(image) => is_as_wanted(alloc, image.as_slice(), wanted),
-        Err(_) => false,
-    }
-}
-
-fn is_as_wanted(alloc: Global, image: &[u8], wanted: Wanted) -> bool {
-    match run_on(alloc, CREATE, image, CONTENT, NONE) {
-        Ok(again) => match wanted {
-            Wanted::WholeStore => is_whole_store(alloc, &again),
-            Wanted::NoDocument => has_no_document(&again.outcome),
-        },
-        Err(_) => false,
-    }
-}
-
-fn is_whole_store(alloc: Global, again: &Ran) -> bool {
-    let ended = match again.outcome {
-        Outcome::Done => true,
-        Outcome::Refused(refusal) => refusal == Refusal::NotBuilt,
-        _ => false,
-    };
-    ended && are_created(alloc, again.disk.bytes())
-}
-
-fn has_no_document(outcome: &Outcome) -> bool {
-    match outcome {
-        Outcome::Done | Outcome::Damaged(_) => true,
-        Outcome::Refused(refusal) => *refusal == Refusal::NoDatabase,
-        _ => false,
-    }
+    disk.crash_image(alloc, call, choice)
 }

@@ -1,137 +1,205 @@
-//! Each device call failing in turn: the outcome is that device's fault, and nothing that was there is lost.
-use crate::checks::{are, left};
-use crate::harness::{CONTENT, CREATE, Failing, INIT, NONE, created_image, empty_image, run_on};
-use replica_cli::Outcome;
+//! Each device call of each command failing in turn: the outcome is that device's fault, and the
+//! next command finds the store as before or as after the command. A stop at that moment leaves
+//! no other store, whatever is lost then.
+use crate::checks::{Stored, are, ended, same};
+use crate::crashes::leaves;
+use crate::harness::{BLANK, Failing, Files, Ran, run_on};
+use crate::images::{on_the_left, prepared};
+use crate::table::{COMMANDS, Command, INIT};
+use command_lines::Outcome;
+use disks::{DiskName, Disks};
 use std::alloc::Global;
-use u1_base::Memory;
+use u1_base::{Bytes, Memory};
 
-#[test]
-fn a_failing_disk_is_told(rt: HostRuntime) {
-    assert!(rt; tells_each_disk_fault(rt.alloc(), INIT, &[], b""));
-    assert!(rt; create_tells_each_disk_fault(rt.alloc()));
+pub const DISKS: [DiskName; 3] = [DiskName::Root, DiskName::Left, DiskName::Right];
+
+/// What a next command prints of the store before the command and after it.
+#[derive(Drop)]
+pub struct Told {
+    pub before: Bytes,
+    pub after: Bytes,
 }
 
-fn create_tells_each_disk_fault(alloc: Global) -> bool {
-    match empty_image(alloc) {
-        Ok(empty) => tells_each_disk_fault(alloc, CREATE, empty.as_slice(), CONTENT),
-        Err(_) => false,
-    }
+/// What the question prints over these files.
+pub fn answer(alloc: Global, question: &str, stored: Files<'_>) -> Result<Bytes, Memory> {
+    let ran = run_on(alloc, question, stored, b"", Failing::Nothing)?;
+    let mut told = Bytes::new(alloc);
+    told.extend(ran.printed.bytes())?;
+    Ok(told)
 }
 
-fn tells_each_disk_fault(alloc: Global, words: &[&str], stored: &[u8], input: &[u8]) -> bool {
-    match run_on(alloc, words, stored, input, NONE) {
-        Ok(whole) => {
-            let calls = whole.disk.calls();
-            whole.outcome == Outcome::Done && tells_faults(alloc, words, stored, input, calls)
+/// Whether the question is answered as before or as after the command.
+pub fn is_told(alloc: Global, question: &str, stored: Files<'_>, told: &Told) -> bool {
+    match answer(alloc, question, stored) {
+        Ok(found) => {
+            are(found.as_slice(), told.before.as_slice())
+                || are(found.as_slice(), told.after.as_slice())
         }
         Err(_) => false,
     }
 }
 
-fn tells_faults(alloc: Global, words: &[&str], stored: &[u8], input: &[u8], calls: u64) -> bool {
-    for call in 0..calls {
-        if !tells_disk_fault(alloc, words, stored, input, call) {
-            return false;
+// The calls of one disk, for each command of the table and for `init`.
+#[test]
+fn each_device_call_fails_in_turn(rt: HostRuntime) {
+    let alloc = rt.alloc();
+    assert!(rt; fails_in_turn(alloc, BLANK, &INIT));
+    assert_eq!(rt; commands_fail_in_turn(alloc), None);
+}
+
+// The number of the first command that does not end as it should.
+fn commands_fail_in_turn(alloc: Global) -> Option<usize> {
+    match prepared(alloc) {
+        Ok(left) => first_that_fails(alloc, on_the_left(left.as_slice())),
+        Err(_) => Some(COMMANDS.len()),
+    }
+}
+
+fn first_that_fails(alloc: Global, stored: Files<'_>) -> Option<usize> {
+    for (number, command) in COMMANDS.iter().enumerate() {
+        if !fails_in_turn(alloc, stored, command) {
+            return Some(number);
+        }
+    }
+    None
+}
+
+fn fails_in_turn(alloc: Global, stored: Files<'_>, command: &Command) -> bool {
+    match run_on(
+        alloc,
+        command.words,
+        stored,
+        command.input,
+        Failing::Nothing,
+    ) {
+        Ok(mut ran) => {
+            ended(&ran, command.printed, 0) && each_fails(alloc, stored, command, &mut ran)
+        }
+        Err(_) => false,
+    }
+}
+
+fn each_fails(alloc: Global, stored: Files<'_>, command: &Command, ran: &mut Ran) -> bool {
+    match told_of(alloc, stored, command, ran) {
+        Ok(told) => {
+            disks_fail(alloc, stored, command, ran, &told)
+                && inputs_fail(alloc, stored, command)
+                && outputs_fail(alloc, stored, command, ran)
+                && stands(alloc, command, ran, &told)
+        }
+        Err(_) => false,
+    }
+}
+
+fn told_of(alloc: Global, stored: Files<'_>, command: &Command, ran: &Ran) -> Result<Told, Memory> {
+    Ok(Told {
+        before: answer(alloc, command.question, stored)?,
+        after: answer(alloc, command.question, ran.files())?,
+    })
+}
+
+// A stop right after the answer leaves just what was answered.
+fn stands(alloc: Global, command: &Command, ran: &mut Ran, told: &Told) -> bool {
+    match Stored::of(alloc, ran.files()) {
+        Ok(_) => leaves(
+            alloc,
+            &mut ran.disks,
+            command.question,
+            told.after.as_slice(),
+            told.after.as_slice(),
+        ),
+        Err(_) => false,
+    }
+}
+
+// ---- disks
+
+fn disks_fail(alloc: Global, stored: Files<'_>, command: &Command, ran: &Ran, told: &Told) -> bool {
+    for name in DISKS {
+        for call in 0..ran.disks.disk(name).calls() {
+            if !disk_fails(alloc, stored, command, Failing::Disk(name, call), told) {
+                return false;
+            }
         }
     }
     true
 }
 
-fn tells_disk_fault(alloc: Global, words: &[&str], stored: &[u8], input: &[u8], call: u64) -> bool {
-    let failing = Failing {
-        disk: &[call],
-        ..NONE
-    };
-    match run_on(alloc, words, stored, input, failing) {
-        Ok(ran) => {
-            ran.outcome == Outcome::DiskFault && are(ran.printed.bytes(), b"failed disk\n")
-        }
-        Err(_) => false,
-    }
-}
-
-// How many calls `create d1` makes on the disk of an empty store.
-fn calls_of(alloc: Global, input: &[u8]) -> Result<u64, Memory> {
-    let empty = empty_image(alloc)?;
-    let ran = run_on(alloc, CREATE, empty.as_slice(), input, NONE)?;
-    Ok(ran.disk.calls())
-}
-
-fn calls_of_an_append(alloc: Global) -> Result<u64, Memory> {
-    let refused = calls_of(alloc, b"[]")?;
-    Ok(calls_of(alloc, CONTENT)?.wrapping_sub(refused))
-}
-
-#[test]
-fn an_append_makes_four_calls(rt: HostRuntime) {
-    assert_eq!(rt; calls_of_an_append(rt.alloc()), Ok(4));
-}
-
-fn tells_input_fault(alloc: Global, call: u64) -> bool {
-    let failing = Failing {
-        input: &[call],
-        ..NONE
-    };
-    match empty_image(alloc) {
-        Ok(empty) => {
-            let stored = empty.as_slice();
-            creates(
-                alloc,
-                stored,
-                failing,
-                &Outcome::SourceFault,
-                b"failed input\n",
-                stored,
-            )
-        }
-        Err(_) => false,
-    }
-}
-
-// Whether `create d1` over these bytes ends so, prints this and leaves those.
-fn creates(
+fn disk_fails(
     alloc: Global,
-    stored: &[u8],
-    failing: Failing<'_>,
-    outcome: &Outcome,
-    printed: &[u8],
-    bytes: &[u8],
+    stored: Files<'_>,
+    command: &Command,
+    failing: Failing,
+    told: &Told,
 ) -> bool {
-    match run_on(alloc, CREATE, stored, CONTENT, failing) {
-        Ok(ran) => left(&ran, outcome, printed, bytes),
-        Err(_) => false,
-    }
-}
-
-#[test]
-fn a_failing_input_is_told(rt: HostRuntime) {
-    assert!(rt; tells_input_fault(rt.alloc(), 0));
-    assert!(rt; tells_input_fault(rt.alloc(), 1));
-}
-
-fn tells_output_fault(alloc: Global, call: u64, printed: &[u8]) -> bool {
-    match empty_image(alloc) {
-        Ok(empty) => leaves_the_document(alloc, empty.as_slice(), call, printed),
-        Err(_) => false,
-    }
-}
-
-fn leaves_the_document(alloc: Global, stored: &[u8], call: u64, printed: &[u8]) -> bool {
-    let failing = Failing {
-        output: &[call],
-        ..NONE
-    };
-    match created_image(alloc) {
-        Ok(created) => {
-            let bytes = created.as_slice();
-            creates(alloc, stored, failing, &Outcome::SinkFault, printed, bytes)
+    match run_on(alloc, command.words, stored, command.input, failing) {
+        Ok(mut ran) => {
+            ended(&ran, "failed disk\n", 5)
+                && is_told(alloc, command.question, ran.files(), told)
+                && leaves(
+                    alloc,
+                    &mut ran.disks,
+                    command.question,
+                    told.before.as_slice(),
+                    told.after.as_slice(),
+                )
         }
         Err(_) => false,
     }
 }
 
-#[test]
-fn a_failing_output_leaves_the_document(rt: HostRuntime) {
-    assert!(rt; tells_output_fault(rt.alloc(), 0, b"d1 "));
-    assert!(rt; tells_output_fault(rt.alloc(), 1, b"d1 a:1\n"));
+// ---- the input
+
+// A command that reads an input makes two reads: of its bytes, and of its end.
+fn inputs_fail(alloc: Global, stored: Files<'_>, command: &Command) -> bool {
+    if command.input.is_empty() {
+        return true;
+    }
+    input_fails(alloc, stored, command, 0) && input_fails(alloc, stored, command, 1)
+}
+
+fn input_fails(alloc: Global, stored: Files<'_>, command: &Command, call: u64) -> bool {
+    match run_on(
+        alloc,
+        command.words,
+        stored,
+        command.input,
+        Failing::Input(call),
+    ) {
+        Ok(ran) => ended(&ran, "failed input\n", 6) && same(ran.files(), stored),
+        Err(_) => false,
+    }
+}
+
+// ---- the output
+
+// Each call of the output fails in turn, until none does. The command is done, and the beginning of
+// its text was printed.
+fn outputs_fail(alloc: Global, stored: Files<'_>, command: &Command, whole: &Ran) -> bool {
+    for call in 0..200 {
+        match run_on(
+            alloc,
+            command.words,
+            stored,
+            command.input,
+            Failing::Output(call),
+        ) {
+            Ok(ran) => {
+                if ran.outcome == Outcome::Done {
+                    return call > 1;
+                }
+                if !output_failed(&ran, whole) {
+                    return false;
+                }
+            }
+            Err(_) => return false,
+        }
+    }
+    false
+}
+
+fn output_failed(ran: &Ran, whole: &Ran) -> bool {
+    ran.outcome == Outcome::SinkFault
+        && whole.printed.bytes().starts_with(ran.printed.bytes())
+        && same(ran.files(), whole.files())
 }

@@ -1,49 +1,43 @@
 //! One command over objects in memory.
+use command_lines::Outcome;
 use disk_model::MemDisk;
+use disks::{DiskName, Disks};
 use link::{MemSink, MemSource};
-use replica_cli::{Outcome, run};
+use replica_cli::run;
 use std::alloc::Global;
 use u1_base::{Bytes, Memory, Numbers, Text, Texts};
 
-/// What one command left: how it ended, what it printed, and the disk.
+/// What one command left: how it ended, what it printed, and the disks.
 #[derive(Drop)]
 pub struct Ran {
     pub outcome: Outcome,
     pub printed: MemSink,
-    pub disk: MemDisk,
+    pub disks: Disks<MemDisk>,
 }
 
-/// Which calls of each object fail, by their numbers.
+/// The bytes of the three files of a store.
 #[derive(Clone, Copy)]
-pub struct Failing<'a> {
-    pub disk: &'a [u64],
-    pub input: &'a [u64],
-    pub output: &'a [u64],
+pub struct Files<'a> {
+    pub root: &'a [u8],
+    pub left: &'a [u8],
+    pub right: &'a [u8],
 }
 
-/// No call fails.
-pub const NONE: Failing<'static> = Failing {
-    disk: &[],
-    input: &[],
-    output: &[],
+/// There is no store.
+pub const BLANK: Files<'static> = Files {
+    root: b"",
+    left: b"",
+    right: b"",
 };
 
-/// The words of the worked commands.
-pub const INIT: &[&str] = &[".", "init", "db", "a"];
-
-pub const CREATE: &[&str] = &[".", "create", "d1"];
-
-/// The content of the worked commands.
-pub const CONTENT: &[u8] = b"{\"b\":1,\"a\":\"x\"}";
-
-/// The image of a store of database `db`, replica `a` and the default limit, up to its gate.
-pub const HEADER: [u8; 23] = [
-    0x55, 0x31, 0x44, 0x42, 0x56, 0x4f, 0x4c, 2, 0, 2, 0x64, 0x62, 0, 1, 0x61, 0, 0, 1, 0, 0, 0, 0,
-    0,
-];
-
-/// The transaction id of the first entry where all bits of the seed are 0, as Python's `uuid` makes it.
-pub const TRANS: &[u8] = b"T-a12aa9bff3485ffcbd67876eea76a865";
+/// The call that fails, by its number.
+#[derive(Clone, Copy, Debug, PartialEq, Eq)]
+pub enum Failing {
+    Nothing,
+    Disk(DiskName, u64),
+    Input(u64),
+    Output(u64),
+}
 
 pub fn bytes_of(alloc: Global, bytes: &[u8]) -> Result<Bytes, Memory> {
     let mut list = Bytes::new(alloc);
@@ -51,59 +45,105 @@ pub fn bytes_of(alloc: Global, bytes: &[u8]) -> Result<Bytes, Memory> {
     Ok(list)
 }
 
-fn numbers_of(alloc: Global, numbers: &[u64]) -> Result<Numbers, Memory> {
+// The number, where it is a failing call of the object that is wanted.
+fn numbers_of(alloc: Global, is_wanted: bool, number: u64) -> Result<Numbers, Memory> {
     let mut list = Numbers::new(alloc);
-    for number in numbers {
-        list.push(*number)?;
+    if is_wanted {
+        list.push(number)?;
     }
     Ok(list)
 }
 
-/// A disk that holds these bytes.
-pub fn disk_of(alloc: Global, bytes: &[u8], failing: &[u64]) -> Result<MemDisk, Memory> {
-    Ok(MemDisk::new(alloc, bytes_of(alloc, bytes)?, numbers_of(alloc, failing)?))
+fn failing_of_disk(alloc: Global, name: DiskName, failing: Failing) -> Result<Numbers, Memory> {
+    match failing {
+        Failing::Disk(other, number) => numbers_of(alloc, other == name, number),
+        _ => Ok(Numbers::new(alloc)),
+    }
 }
 
-/// Runs one command over a disk that holds these bytes. All bits of the seed are 0.
+fn disk_of(
+    alloc: Global,
+    name: DiskName,
+    bytes: &[u8],
+    failing: Failing,
+) -> Result<MemDisk, Memory> {
+    let numbers = failing_of_disk(alloc, name, failing)?;
+    Ok(MemDisk::new(alloc, bytes_of(alloc, bytes)?, numbers))
+}
+
+fn disks_of(alloc: Global, stored: Files<'_>, failing: Failing) -> Result<Disks<MemDisk>, Memory> {
+    Ok(Disks::new(
+        disk_of(alloc, DiskName::Root, stored.root, failing)?,
+        disk_of(alloc, DiskName::Left, stored.left, failing)?,
+        disk_of(alloc, DiskName::Right, stored.right, failing)?,
+    ))
+}
+
+fn source_of(alloc: Global, input: &[u8], failing: Failing) -> Result<MemSource, Memory> {
+    let numbers = match failing {
+        Failing::Input(number) => numbers_of(alloc, true, number)?,
+        _ => Numbers::new(alloc),
+    };
+    Ok(MemSource::new(bytes_of(alloc, input)?, numbers))
+}
+
+fn sink_of(alloc: Global, failing: Failing) -> Result<MemSink, Memory> {
+    let numbers = match failing {
+        Failing::Output(number) => numbers_of(alloc, true, number)?,
+        _ => Numbers::new(alloc),
+    };
+    Ok(MemSink::new(alloc, numbers))
+}
+
+// The words of a command line behind the directory. They are parted by blanks; a `~` is a blank
+// in a word.
+fn words_of(alloc: Global, words: &str) -> Result<Texts, Memory> {
+    let mut texts = Texts::new(alloc);
+    texts.push(Text::copy(alloc, ".")?)?;
+    if words.is_empty() {
+        return Ok(texts);
+    }
+    for word in words.split(' ') {
+        texts.push(word_of(alloc, word)?)?;
+    }
+    Ok(texts)
+}
+
+fn word_of(alloc: Global, word: &str) -> Result<Text, Memory> {
+    let mut text = String::new(alloc);
+    for letter in word.chars() {
+        text.push(if letter == '~' { ' ' } else { letter })?;
+    }
+    Text::from_string(text)
+}
+
+/// Runs one command over a store of these files. All bits of the seed are 0.
 pub fn run_on(
     alloc: Global,
-    words: &[&str],
-    stored: &[u8],
+    words: &str,
+    stored: Files<'_>,
     input: &[u8],
-    failing: Failing<'_>,
+    failing: Failing,
 ) -> Result<Ran, Memory> {
-    let mut texts = Texts::new(alloc);
-    for word in words {
-        texts.push(Text::copy(alloc, word)?)?;
-    }
-    let disk = disk_of(alloc, stored, failing.disk)?;
-    let mut source = MemSource::new(bytes_of(alloc, input)?, numbers_of(alloc, failing.input)?);
-    let mut printed = MemSink::new(alloc, numbers_of(alloc, failing.output)?);
-    let (outcome, disk) = run(alloc, texts.as_slice(), 0, disk, &mut source, &mut printed);
+    let words = words_of(alloc, words)?;
+    let disks = disks_of(alloc, stored, failing)?;
+    let mut source = source_of(alloc, input, failing)?;
+    let mut printed = sink_of(alloc, failing)?;
+    let (outcome, disks) = run(alloc, words.as_slice(), 0, disks, &mut source, &mut printed);
     Ok(Ran {
         outcome,
         printed,
-        disk,
+        disks,
     })
 }
 
-/// The empty image, of 24 bytes.
-pub fn empty_image(alloc: Global) -> Result<Bytes, Memory> {
-    let mut image = bytes_of(alloc, &HEADER)?;
-    image.push(0)?;
-    Ok(image)
-}
-
-/// The image after `create d1` of the worked content, of 110 bytes.
-pub fn created_image(alloc: Global) -> Result<Bytes, Memory> {
-    let mut image = bytes_of(alloc, &HEADER)?;
-    image.extend(&[1, 0, 0, 0, 0x51])?;
-    image.extend(&[1, 0, 2, 0x64, 0x31])?;
-    image.extend(&[1, 0, 0, 0, 0, 0, 0, 0, 0, 0, 0, 0, 1])?;
-    image.extend(&[0, 0, 0, 0, 0, 1, 1, 0, 0, 0, 0x0f])?;
-    image.extend(b"{\"a\":\"x\",\"b\":1}")?;
-    image.extend(&[0, 0x22])?;
-    image.extend(TRANS)?;
-    image.extend(&[0, 0])?;
-    Ok(image)
+impl Ran {
+    /// What the disks hold.
+    pub fn files(&self) -> Files<'_> {
+        Files {
+            root: self.disks.disk(DiskName::Root).bytes(),
+            left: self.disks.disk(DiskName::Left).bytes(),
+            right: self.disks.disk(DiskName::Right).bytes(),
+        }
+    }
 }

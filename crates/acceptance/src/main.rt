@@ -1,27 +1,31 @@
-//! Tests that go through all crates: the worked commands, every device call failing in turn, and every image that a
-//! crash may leave.
+//! Tests that go through all crates: whole commands, every device call failing in turn, and what
+//! a stop at each moment may leave.
 //!
-//! The program runs one command over objects in memory, for the check in which each call for memory fails in turn.
-//! Standard input has `init` or `create`, and how many calls for memory are made before all else: where the call of
-//! one number fails, these move the failure to an earlier place of the command.
+//! The program runs one command over objects in memory, for the check in which each call for
+//! memory fails in turn. Standard input has `init`, or the number of a command of the table, and
+//! how many calls for memory are made before all else: where the call of one number fails, these
+//! move the failure to an earlier place of the command.
 //!
-//! It prints `STATUS DISK AGAIN DOCUMENT`: the status of the command; whether the disk is as `before`, as `after` it,
-//! or in `between`; the status of `create d1` on what the disk holds then; and whether it then holds just this
-//! `document`. Where a call fails before the command has begun, it prints `unprepared`.
+//! It prints `STATUS PRINTED STORE`: the status of the command; whether it printed its `whole`
+//! text, a `front` of it or something `other`; and whether a next command finds the store as
+//! `before`, as `after` it, or the `same`, where the command changes nothing. Where a call fails
+//! outside of the command it prints `unprepared`.
 #![tactic(auto)]
 
 #[cfg(test)]
-mod answers;
-#[cfg(test)]
 mod checks;
-#[cfg(test)]
-mod commands;
 #[cfg(test)]
 mod crashes;
 #[cfg(test)]
 mod faults;
 mod harness;
+mod images;
+#[cfg(test)]
+mod order;
 mod starved;
+#[cfg(test)]
+mod stories;
+mod table;
 
 use crate::starved::line_of;
 use std::process::ExitCode;

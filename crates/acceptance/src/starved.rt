@@ -1,19 +1,29 @@
 //! One command behind a number of calls for memory.
-use crate::harness::{CONTENT, CREATE, INIT, NONE, Ran, created_image, empty_image, run_on};
-use replica_cli::outcome_status;
+use crate::harness::{BLANK, Failing, Files, Ran, run_on};
+use crate::images::{on_the_left, prepared};
+use crate::table::{COMMANDS, Command, INIT};
+use command_lines::outcome_status;
 use std::alloc::Global;
-use u1_base::{Bytes, Memory};
+use u1_base::Memory;
 
 /// Does what the order says, and tells what came of it.
 pub fn line_of(alloc: Global, order: &str) -> Result<String, Memory> {
-    let Some((command, number)) = order.trim().split_once(' ') else {
+    let Some((command, spent)) = order.trim().split_once(' ') else {
         return Ok(String::from_str(alloc, "no order")?);
     };
-    call_for_memory(alloc, number.parse().unwrap_or(0))?;
-    match command {
-        "init" => told(alloc, INIT, Bytes::new(alloc), empty_image(alloc)?),
-        _ => told(alloc, CREATE, empty_image(alloc)?, created_image(alloc)?),
+    call_for_memory(alloc, spent.parse().unwrap_or(0))?;
+    match command.parse::<usize>() {
+        Ok(number) => match COMMANDS.get(number) {
+            Some(command) => over_prepared(alloc, command),
+            None => Ok(String::from_str(alloc, "no command")?),
+        },
+        Err(_) => told(alloc, &INIT, BLANK),
     }
+}
+
+fn over_prepared(alloc: Global, command: &Command) -> Result<String, Memory> {
+    let left = prepared(alloc)?;
+    told(alloc, command, on_the_left(left.as_slice()))
 }
 
 // So many calls for memory.
@@ -24,25 +34,70 @@ fn call_for_memory(alloc: Global, number: u32) -> Result<(), Memory> {
     Ok(())
 }
 
-// Runs the command over a disk that holds what was before, and then makes the document.
-fn told(alloc: Global, words: &[&str], before: Bytes, after: Bytes) -> Result<String, Memory> {
-    let ran = run_on(alloc, words, before.as_slice(), CONTENT, NONE)?;
-    let again = run_on(alloc, CREATE, ran.disk.bytes(), CONTENT, NONE)?;
+// Runs the command over these files, and tells its status, what it printed, and what the question
+// finds then.
+fn told(alloc: Global, command: &Command, stored: Files<'_>) -> Result<String, Memory> {
+    let ran = run_on(
+        alloc,
+        command.words,
+        stored,
+        command.input,
+        Failing::Nothing,
+    )?;
+    let store = found_behind(alloc, command, stored, &ran)?;
     let status = outcome_status(&ran.outcome);
-    let disk = place_of(&ran, &before, &after);
-    let then = outcome_status(&again.outcome);
-    let document = again.disk.bytes() == created_image(alloc)?.as_slice();
-    let found = if document { "document" } else { "none" };
-    Ok(format!(in alloc; "{status} {disk} {then} {found}")?)
+    let printed = printed_as(&ran, command);
+    Ok(format!(in alloc; "{status} {printed} {store}")?)
 }
 
-// Where between the two the disk is.
-fn place_of(ran: &Ran, before: &Bytes, after: &Bytes) -> &'static str {
-    if ran.disk.bytes() == before.as_slice() {
+fn found_behind(
+    alloc: Global,
+    command: &Command,
+    stored: Files<'_>,
+    ran: &Ran,
+) -> Result<&'static str, Memory> {
+    let before = ample(alloc, command.question, stored, b"")?;
+    let after = answer_after(alloc, command, stored)?;
+    let found = ample(alloc, command.question, ran.files(), b"")?;
+    Ok(found_as(&found, &before, &after))
+}
+
+// What the question finds where the whole command was done.
+fn answer_after(alloc: Global, command: &Command, stored: Files<'_>) -> Result<Ran, Memory> {
+    let whole = ample(alloc, command.words, stored, command.input)?;
+    ample(alloc, command.question, whole.files(), b"")
+}
+
+// The same run where memory was ample: it is done, or refused.
+fn ample(alloc: Global, words: &str, stored: Files<'_>, input: &[u8]) -> Result<Ran, Memory> {
+    let ran = run_on(alloc, words, stored, input, Failing::Nothing)?;
+    if outcome_status(&ran.outcome) > 1 {
+        return Err(Memory);
+    }
+    Ok(ran)
+}
+
+// What was printed: all of the text, or something else.
+fn printed_as(ran: &Ran, command: &Command) -> &'static str {
+    if ran.printed.bytes() == command.printed.as_bytes() {
+        "whole"
+    } else if command.printed.as_bytes().starts_with(ran.printed.bytes()) {
+        "front"
+    } else {
+        "other"
+    }
+}
+
+// What the next command finds: the store as before the command, or as after it.
+fn found_as(found: &Ran, before: &Ran, after: &Ran) -> &'static str {
+    let found = found.printed.bytes();
+    if before.printed.bytes() == after.printed.bytes() && found == after.printed.bytes() {
+        "same"
+    } else if found == before.printed.bytes() {
         "before"
-    } else if ran.disk.bytes() == after.as_slice() {
+    } else if found == after.printed.bytes() {
         "after"
     } else {
-        "between"
+        "neither"
     }
 }

@@ -1,9 +1,4 @@
-pub mod Body
-pub mod Commands
-pub mod Lines
-pub mod Outcome
-pub mod Printed
+pub mod Store
+pub mod Told
+pub mod Faults
 pub mod Run
-pub mod Seen
-pub mod Verbs
-pub mod Words

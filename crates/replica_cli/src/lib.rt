@@ -1,19 +1,13 @@
-//! The commands of the program, each from its words to its printed line and its status.
+//! The commands of the program over three disks, each from its words to its printed lines and its
+//! status.
 //!
-//! `run` is the top call. Its one clause, `Runs`, says for each outcome when it comes, what it leaves in the
-//! store and what is printed.
+//! `run` is the top call. Its one clause, `Runs`, says how the words read, and what their command
+//! leaves of the disks, of the input and of the output: it cites the contract of `store_commands`
+//! over what is known of the three disks.
 #![tactic(auto)]
 
-mod body;
-mod create;
-mod decision;
-mod init;
-mod lines;
-mod outcome;
+mod store;
 mod top;
-mod words;
 
-pub use lines::outcome_text;
-pub use outcome::{Outcome, Refusal, UsageKind, outcome_status};
+pub use store::StoreOnDisks;
 pub use top::run;
-pub use words::{Command, WordsFault, read_words};

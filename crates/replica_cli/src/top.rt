@@ -1,91 +1,66 @@
 //! The top call.
-ghost use Rattle.std.specs.Prelude.{◌≡◌, string_bytes};
-ghost use Rattle.replica_cli.specs.Run.{Decides, Runs};
-ghost use Rattle.replica_cli.specs.Verbs.{unspoken_outcome};
-ghost use Rattle.replica_cli.specs.Words.{IsCommand};
+ghost use Rattle.std.specs.Prelude.{◌≡◌};
+ghost use Rattle.replica_cli.specs.Run.{Runs, RunsCommand, around, words_end};
 
-use crate::create::create;
-use crate::decision::{Decision, answer};
-use crate::init::init;
-use crate::words::read_words;
-use crate::{Command, Outcome, WordsFault};
+use crate::StoreOnDisks;
+use cli_words::{Command, WordsFault, read_words};
+use command_lines::{Outcome, UsageKind};
 use disk_model::Disk;
+use disks::Disks;
 use link::{Sink, Source};
 use std::alloc::Global;
+use store_commands::{finish, run_over};
 use u1_base::Text;
 
-/// Does the one command of the words over the disk, and prints its line.
+/// Does the command of the words over the store on three disks, and prints its lines.
 ///
-/// `words` are all words behind the program's name; the first is the store's directory, which is not looked into.
-/// Ids are made of the seed. The disk is handed back beside the outcome.
+/// `words` are all words behind the program's name; the first is the store's directory, which is
+/// not looked into. Ids are made of the seed. The disks are handed back beside the outcome.
 pub fn run<D: Disk, S: Source, K: Sink>(
     alloc: Global,
     words: &[Text],
     seed: u128,
-    disk: D,
+    disks: Disks<D>,
     input: &mut S,
     out: &mut K,
-) -> (Outcome, D)
+) -> (Outcome, Disks<D>)
     ensures { Runs D.tells words.now seed
-        (record { disk = D.known disk; input = S.known input.old })
-        (record { disk = D.known result.1; input = S.known input.new })
-        (K.known out.old) (K.known out.new)
+        (around D.known disks (S.known input.old) (K.known out.old))
+        (around D.known result.1 (S.known input.new) (K.known out.new))
         result.0 }
 {
-    let mut disk = disk;
-    let decision = decide(alloc, words, seed, &mut disk, input);
-    let outcome = answer(alloc, decision, out);
-    (outcome, disk)
-}
-
-// Reads the words and does their command.
-fn decide<D: Disk, S: Source>(
-    alloc: Global,
-    words: &[Text],
-    seed: u128,
-    disk: &mut D,
-    input: &mut S,
-) -> Decision
-    ensures { Decides D.tells words.now seed
-        (record { disk = D.known disk.old; input = S.known input.old })
-        (record { disk = D.known disk.new; input = S.known input.new })
-        result.outcome (string_bytes result.text) }
-{
     match read_words(alloc, words) {
-        Ok(command) => carry_out(alloc, words, &command, seed, disk, input),
-        Err(fault) => Decision {
-            outcome: unspoken(fault),
-            text: String::new(alloc),
-        },
+        Ok(command) => run_command(alloc, &command, seed, disks, input, out),
+        Err(fault) => (finish(Err(words_end(fault)), out), disks),
     }
 }
 
-fn unspoken(fault: WordsFault) -> Outcome
-    ensures { result ≡ unspoken_outcome fault }
-{
-    match fault {
-        WordsFault::Usage(kind) => Outcome::Usage(kind),
-        WordsFault::Memory => Outcome::Memory,
-    }
-}
-
-// Does the command of the words.
-fn carry_out<D: Disk, S: Source>(
+// Does the command.
+fn run_command<D: Disk, S: Source, K: Sink>(
     alloc: Global,
-    words: &[Text],
     command: &Command,
     seed: u128,
-    disk: &mut D,
+    disks: Disks<D>,
     input: &mut S,
-) -> Decision
-    requires { IsCommand words.now command.now }
-    ensures { Decides D.tells words.now seed
-        (record { disk = D.known disk.old; input = S.known input.old })
-        (record { disk = D.known disk.new; input = S.known input.new })
-        result.outcome (string_bytes result.text) }
+    out: &mut K,
+) -> (Outcome, Disks<D>)
+    ensures { RunsCommand D.tells command.now seed
+        (around D.known disks (S.known input.old) (K.known out.old))
+        (around D.known result.1 (S.known input.new) (K.known out.new))
+        result.0 }
 {
-    match command {
-        Command::Init { name, uid } => init(alloc, name, uid, disk),
-        Command::Create { id } => create(alloc, seed, id, disk, input),
+    let store = StoreOnDisks::new(disks);
+    let (outcome, store) = run_over(alloc, command, seed, store, input, out);
+    (outcome, store.into_disks())
+}
+
+// How a run ends whose words are no command.
+fn words_end(fault: WordsFault) -> Outcome
+    ensures { result ≡ words_end fault }
+{
+    match fault {
+        WordsFault::Words => Outcome::Usage(UsageKind::Words),
+        WordsFault::Value(place) => Outcome::Usage(UsageKind::Value(place)),
+        WordsFault::Memory => Outcome::Memory,
     }
 }

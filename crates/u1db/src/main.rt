@@ -1,25 +1,36 @@
 //! The program: `u1db DIR COMMAND ..`.
 //!
-//! It makes the store's disk, the streams and the seed, calls `run`, and ends with the status of
-//! its outcome. For people it says on standard error why a run gave no answer.
+//! It makes the three disks of the store, the streams and the seed, calls `run`, and ends with
+//! the status of its outcome. For people it says on standard error why a run gave no answer.
 #![tactic(auto)]
 
+mod files;
+mod folder;
 mod output;
 mod sentence;
+mod usage;
 
+use crate::files::{Files, disks_of};
+use crate::folder::hold_folder;
 use crate::output::{Output, hold_closed};
-use crate::sentence::{damaged, disk_fault, failed, full, say, synopsis};
-use disk_model::FileDisk;
-use link::{Sink, StdSink, StdSource};
-use replica_cli::{Command, Outcome, outcome_status, outcome_text, read_words, run};
+use crate::sentence::{damaged, disk_fault, failed, folder_fault, full, say};
+use crate::usage::usage;
+use cli_words::{Command, WordsFault, read_words};
+use command_lines::{Outcome, outcome_status};
+use disk_model::FileFault;
+use link::{StdSink, StdSource};
+use replica_cli::run;
+use std::alloc::Global;
 use std::env;
+use std::fs::File;
 use std::io::{self, BufWriter, ErrorKind};
 use std::process::ExitCode;
 use std::random::RandomSource;
 use std::rt::Stdout;
+use store_commands::finish;
 use u1_base::{Memory, Text, Texts};
 
-/// The standard output, whose lines are handed on at once.
+/// The standard output. What is printed is handed on in pieces of 8 KiB, and the rest at the end.
 type Printed = StdSink<BufWriter<Output<Stdout>>>;
 
 fn main(rt: HostRuntime) -> ExitCode {
@@ -35,8 +46,8 @@ fn main(rt: HostRuntime) -> ExitCode {
 // Does the command of the words, and says why where it gave no answer.
 fn do_command(rt: &HostRuntime) -> Outcome {
     let outcome = match prepare(rt) {
-        Ok((words, path, out)) => carry_out(rt, words.as_slice(), path, out),
-        Err(outcome) => outcome,
+        Ok((words, disks, out)) => carry_out(rt, words.as_slice(), disks, out),
+        Err(Memory) => Outcome::Memory,
     };
     if let Outcome::Memory = outcome {
         say(rt, Err(Memory));
@@ -44,18 +55,14 @@ fn do_command(rt: &HostRuntime) -> Outcome {
     outcome
 }
 
-// The words, the path of the store's file, and the standard output.
-fn prepare(rt: &HostRuntime) -> Result<(Texts, Text, Printed), Outcome> {
-    let Ok(words) = words_of(rt) else {
-        return Err(Outcome::Memory);
-    };
-    let Ok(path) = path_of(rt, words.as_slice()) else {
-        return Err(Outcome::Memory);
-    };
+// The words, the store's files, and the standard output.
+fn prepare(rt: &HostRuntime) -> Result<(Texts, Files, Printed), Memory> {
+    let words = words_of(rt)?;
+    let disks = disks_of(rt, words.as_slice())?;
     let output = Output::new(rt, rt.stdout(), "/proc/self/fd/1");
     match BufWriter::new(rt.alloc(), output) {
-        Ok(writer) => Ok((words, path, StdSink::new(writer))),
-        Err(_) => Err(Outcome::Memory),
+        Ok(writer) => Ok((words, disks, StdSink::new(writer))),
+        Err(_) => Err(Memory),
     }
 }
 
@@ -78,71 +85,110 @@ fn words_of(rt: &HostRuntime) -> Result<Texts, Memory> {
     }
 }
 
-// The path of the store's file; without words there is none, and it is never used.
-fn path_of(rt: &HostRuntime, words: &[Text]) -> Result<Text, Memory> {
-    let mut path = match words.first() {
-        Some(folder) => String::from_str(rt.alloc(), folder.as_str())?,
-        None => String::new(rt.alloc()),
-    };
-    path.push_str("/left")?;
-    Text::from_string(path)
+// What a command needs before it is run.
+#[derive(Clone, Copy)]
+struct Needs {
+    // It makes an id: of a replica, of a document, or of a transaction.
+    seed: bool,
+    // It makes a store.
+    folder: bool,
 }
 
-// Runs the command with a seed, or tells that the system gave none.
-fn carry_out(rt: &HostRuntime, words: &[Text], path: Text, out: Printed) -> Outcome {
+// Words that are no command need nothing.
+fn needs_of(alloc: Global, words: &[Text]) -> Result<Needs, Memory> {
+    match read_words(alloc, words) {
+        Ok(command) => Ok(Needs {
+            seed: makes_ids(&command),
+            folder: makes_store(&command),
+        }),
+        Err(WordsFault::Memory) => Err(Memory),
+        Err(_) => Ok(Needs {
+            seed: false,
+            folder: false,
+        }),
+    }
+}
+
+fn makes_ids(command: &Command) -> bool {
+    match command {
+        Command::Init { uid, .. } => uid.is_none(),
+        Command::Create { .. }
+        | Command::Put { .. }
+        | Command::Delete { .. }
+        | Command::Resolve { .. }
+        | Command::ResolveDeleted { .. } => true,
+        _ => false,
+    }
+}
+
+fn makes_store(command: &Command) -> bool {
+    match command {
+        Command::Init { .. } => true,
+        _ => false,
+    }
+}
+
+// Runs the command with what it needs, or tells what of it the system did not give.
+fn carry_out(rt: &HostRuntime, words: &[Text], disks: Files, out: Printed) -> Outcome {
     let mut out = out;
-    match seed_for(rt, words) {
-        Ok(seed) => run_on_file(rt, words, seed, path, &mut out),
+    let Ok(needs) = needs_of(rt.alloc(), words) else {
+        return Outcome::Memory;
+    };
+    let seed = match seed_for(rt, needs) {
+        Ok(seed) => seed,
         Err(error) => {
             say(rt, failed(rt.alloc(), "random bytes", Some(error)));
-            print_source_fault(rt, &mut out)
+            return finish(Err(Outcome::SourceFault), &mut out);
+        }
+    };
+    let held = folder_for(rt, words, needs);
+    match &held {
+        Ok(_) => run_on_files(rt, words, seed, disks, &mut out),
+        Err(fault) => {
+            say(rt, folder_fault(rt.alloc(), words, fault));
+            finish(Err(Outcome::DiskFault), &mut out)
         }
     }
 }
 
-// The seed, where the command makes ids of one.
-fn seed_for(rt: &HostRuntime, words: &[Text]) -> io::Result<u128> {
+// The seed: random bytes, where ids are made of it.
+fn seed_for(rt: &HostRuntime, needs: Needs) -> io::Result<u128> {
     let mut seed = [0; 16];
-    match read_words(rt.alloc(), words) {
-        Ok(Command::Create { .. }) => rt.fill_bytes(&mut seed)?,
-        Ok(Command::Init { .. }) | Err(_) => {}
+    if needs.seed {
+        rt.fill_bytes(&mut seed)?;
     }
     Ok(u128::from_le_bytes(seed))
 }
 
-fn run_on_file(
+// The lock under which a store is made.
+fn folder_for(rt: &HostRuntime, words: &[Text], needs: Needs) -> Result<Option<File>, FileFault> {
+    match words.first() {
+        Some(store) if needs.folder => hold_folder(rt, store.as_str()),
+        _ => Ok(None),
+    }
+}
+
+fn run_on_files(
     rt: &HostRuntime,
     words: &[Text],
     seed: u128,
-    path: Text,
+    disks: Files,
     out: &mut Printed,
 ) -> Outcome {
     let alloc = rt.alloc();
     let mut input = StdSource::new(rt.stdin());
-    let (outcome, disk) = run(
-        alloc,
-        words,
-        seed,
-        FileDisk::new(*rt, path),
-        &mut input,
-        out,
-    );
+    let (outcome, disks) = run(alloc, words, seed, disks, &mut input, out);
     match &outcome {
-        Outcome::Usage(_) => say(rt, synopsis(alloc)),
-        Outcome::Damaged(place) => say(rt, damaged(alloc, disk.path(), *place)),
-        Outcome::StoreFull { need, limit } => say(rt, full(alloc, disk.path(), *need, *limit)),
-        Outcome::DiskFault => say(rt, disk_fault(alloc, &disk)),
+        Outcome::Usage(kind) => say(rt, usage(alloc, words, *kind)),
+        Outcome::Damaged { disk, place } => say(
+            rt,
+            damaged(alloc, disks.disk(*disk).path(), *place),
+        ),
+        Outcome::StoreFull { need, limit } => say(rt, full(alloc, words, *need, *limit)),
+        Outcome::DiskFault => say(rt, disk_fault(alloc, words, &disks)),
         Outcome::SourceFault => say(rt, failed(alloc, "standard input", input.fault())),
         Outcome::SinkFault => say(rt, failed(alloc, "standard output", out.fault())),
-        Outcome::Done | Outcome::BadContent(_) | Outcome::Refused(_) | Outcome::Memory => {}
+        _ => {}
     }
     outcome
-}
-
-fn print_source_fault(rt: &HostRuntime, out: &mut Printed) -> Outcome {
-    match outcome_text(rt.alloc(), &Outcome::SourceFault) {
-        Ok(line) if out.put(line.as_bytes()).is_ok() && out.flush().is_ok() => Outcome::SourceFault,
-        Ok(_) => Outcome::SinkFault,
-        Err(Memory) => Outcome::Memory,
-    }
 }

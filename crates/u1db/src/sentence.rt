@@ -1,15 +1,12 @@
 //! What is said on standard error, for people, where a run gave no answer: which file it was, what
 //! was tried, and why it failed. Where it cannot be said nothing else changes.
+use crate::files::Files;
 use crate::output::Output;
-use disk_model::FileDisk;
+use disk_model::{FileDisk, FileFault};
+use disks::DiskName;
 use std::alloc::Global;
 use std::io::{self, Write};
-use u1_base::Memory;
-
-/// What is said where the words are no command.
-const SYNOPSIS: &str = "usage: u1db DIR init NAME UID
-       u1db DIR create ID    with the content, a JSON object, on standard input
-";
+use u1_base::{Memory, Text};
 
 /// Says a sentence, and that there was no memory where there was none for it.
 pub fn say(rt: &HostRuntime, sentence: Result<String, Memory>) {
@@ -20,24 +17,41 @@ pub fn say(rt: &HostRuntime, sentence: Result<String, Memory>) {
     };
 }
 
-pub fn synopsis(alloc: Global) -> Result<String, Memory> {
-    Ok(String::from_str(alloc, SYNOPSIS)?)
-}
-
 pub fn damaged(alloc: Global, path: &str, place: u64) -> Result<String, Memory> {
     Ok(format!(in alloc; "u1db: {path}: it is damaged, from byte {place} on\n")?)
 }
 
-pub fn full(alloc: Global, path: &str, need: u64, limit: u64) -> Result<String, Memory> {
-    Ok(format!(in alloc; "u1db: {path}: it would have {need} bytes, and may have {limit}\n")?)
+pub fn full(alloc: Global, words: &[Text], need: u64, limit: u64) -> Result<String, Memory> {
+    let folder = folder_of(words);
+    Ok(format!(in alloc;
+        "u1db: {folder}: its image would have {need} bytes, and may have {limit}\n"
+    )?)
 }
 
-pub fn disk_fault(alloc: Global, disk: &FileDisk<HostRuntime>) -> Result<String, Memory> {
-    let path = disk.path();
-    match disk.fault() {
-        Some(fault) => Ok(format!(in alloc; "u1db: {path}: {fault}\n")?),
-        None => Ok(format!(in alloc; "u1db: {path}: it failed\n")?),
+pub fn disk_fault(alloc: Global, words: &[Text], disks: &Files) -> Result<String, Memory> {
+    for name in [DiskName::Root, DiskName::Left, DiskName::Right] {
+        let disk = disks.disk(name);
+        if let Some(fault) = disk.fault() {
+            return file_fault(alloc, disk, &fault);
+        }
     }
+    let folder = folder_of(words);
+    Ok(format!(in alloc; "u1db: {folder}: a file failed\n")?)
+}
+
+fn file_fault(
+    alloc: Global,
+    disk: &FileDisk<HostRuntime>,
+    fault: &FileFault,
+) -> Result<String, Memory> {
+    let path = disk.path();
+    Ok(format!(in alloc; "u1db: {path}: {fault}\n")?)
+}
+
+/// Of the store's folder.
+pub fn folder_fault(alloc: Global, words: &[Text], fault: &FileFault) -> Result<String, Memory> {
+    let folder = folder_of(words);
+    Ok(format!(in alloc; "u1db: {folder}: {fault}\n")?)
 }
 
 /// Of what has this name, which is no file of the store.
@@ -45,5 +59,12 @@ pub fn failed(alloc: Global, name: &str, error: Option<io::Error>) -> Result<Str
     match error {
         Some(error) => Ok(format!(in alloc; "u1db: {name}: {error}\n")?),
         None => Ok(format!(in alloc; "u1db: {name}: it failed\n")?),
+    }
+}
+
+fn folder_of(words: &[Text]) -> &str {
+    match words.first() {
+        Some(folder) => folder.as_str(),
+        None => "",
     }
 }

@@ -1,0 +1,13 @@
+pub mod Kept
+pub mod Parts
+pub mod Again
+pub mod Repeated
+pub mod Backward
+pub mod Noting
+pub mod InOrder
+pub mod Bodies
+pub mod Texts
+pub mod FieldSizes
+pub mod BodySizes
+pub mod Sizes
+pub mod Worked

@@ -1,0 +1,201 @@
+-- What is found of three files: in the words of a volume, and as commands find it.
+use Rattle.std.specs.Prelude.{IsTrue}
+use Rattle.std.proofs.Common.{◌≡◌, ◌≢◌, ℕ, Bool, true, false, ◌==◌, ◌+◌, if◌then◌else◌, List, [], ◌∷◌, length, Some}
+use Rattle.std.proofs.Common.{None, IfSome, Result, Ok, Err, refl, sym, ◌∙◌, ap}
+use Rattle.conflicts.specs.State.{History, State, Text}
+use Rattle.disk_model.specs.Device.{Device}
+use Rattle.disks.specs.declared.name.DiskName.{DiskName}
+use Rattle.disks.specs.declared.trio.Trio.{Trio}
+use Rattle.disks.specs.Trio.{pick}
+use Rattle.disks.specs.Joint.{seen_of}
+use Rattle.journal.specs.Image.{Head, up_to_gate}
+use Rattle.journal.specs.Journal.{need}
+use Rattle.journal.specs.Reader.{Reading, read_image}
+use Rattle.journal.specs.Reader.Reading.{Damaged as Broken, Stands as Reads}
+use Rattle.record_codec.specs.Bodies.{body_of}
+use Rattle.replica_core.specs.Replica.{Found as Left}
+use Rattle.replica_state.specs.Held.{meaning}
+use Rattle.replica_volume.specs.Steps.{Chronicle, state_at, steps_of}
+use Rattle.replica_volume.specs.Store.{StoreFound, holds_steps, with_steps}
+use Rattle.replica_volume.specs.Store.StoreFound.{Blank as NoStore, Damaged as BrokenStore, Holds}
+use Rattle.replica_volume.specs.Volume.{KeepsHistory, devices, limit_in, limit_of, volume_known}
+use Rattle.replica_volume.specs.declared.replica.Volume.{Volume}
+use Rattle.store_commands.specs.Changes.{HasLimit, IsNow, limit_of as limit_left}
+use Rattle.store_commands.specs.Found.{Blank, Damaged, Former, Found, IsTold, Standing, Stands, in_short, standing_in}
+use Rattle.store_commands.specs.Store.{is_blank}
+use Rattle.volume.specs.Store.{Found as FoundImages, chosen, found_by, found_in as image_found, found_of}
+use Rattle.volume.specs.Store.Found.{Blank as NoImages, Damaged as BrokenImage, Stands as StandingImage}
+use Rattle.volume.proofs.Finding.{found_blank}
+use Rattle.volume.proofs.Standing.{store_stands}
+use Rattle.replica_cli.specs.Store.{found_in, image_as, images_as, standing_of}
+
+-- ---- what a volume finds is what commands find
+
+-- damage, and an image of format 1, in the words of commands; the rest does not matter
+abbrev damage_in : StoreFound → Found
+damage_in NoStore = Blank
+damage_in (BrokenStore disk place) = Damaged disk place
+damage_in (Holds side format head h) = Blank
+
+abbrev former_in : StoreFound → Found
+former_in NoStore = Blank
+former_in (BrokenStore disk place) = Blank
+former_in (Holds side format head h) = Former (state_at head h)
+
+abbrev format_in : StoreFound → ℕ
+format_in NoStore = 0
+format_in (BrokenStore disk place) = 0
+format_in (Holds side format head h) = format
+
+holds_some : (side : DiskName) (format : ℕ) (head : Head) (r : Result Chronicle ℕ)
+    → holds_steps side format head r ≢ NoStore
+holds_some side format head (Ok read) e = absurd (cc e)
+holds_some side format head (Err place) e = absurd (cc e)
+
+pub blank_as : (f : FoundImages) → with_steps f ≡ NoStore → images_as f ≡ Blank
+blank_as NoImages e = refl
+blank_as (BrokenImage disk place) e = absurd (cc e)
+blank_as (StandingImage side format head bodies) e =
+    absurd (holds_some side format head (steps_of format head bodies) e)
+
+damaged_image : (side : DiskName) (format : ℕ) (head : Head) (bodies : List (List ℕ)) (r : Result Chronicle ℕ)
+    (disk : DiskName) (place : ℕ)
+    → holds_steps side format head r ≡ BrokenStore disk place → image_as side format head bodies r ≡ Damaged disk place
+damaged_image side format head bodies (Ok read) disk place e = absurd (cc e)
+damaged_image side format head bodies (Err at) disk place e = ap damage_in e
+
+pub damaged_as : (f : FoundImages) (disk : DiskName) (place : ℕ) → with_steps f ≡ BrokenStore disk place
+    → images_as f ≡ Damaged disk place
+damaged_as NoImages disk place e = absurd (cc e)
+damaged_as (BrokenImage other at) disk place e = ap damage_in e
+damaged_as (StandingImage side format head bodies) disk place e =
+    damaged_image side format head bodies (steps_of format head bodies) disk place e
+
+former_image : (side : DiskName) (format : ℕ) (head : Head) (bodies : List (List ℕ)) (r : Result Chronicle ℕ)
+    (other : DiskName) (h : Head) (history : History)
+    → holds_steps side format head r ≡ Holds other 1 h history
+    → image_as side format head bodies r ≡ Former (state_at h history)
+former_image side format head bodies (Ok read) other h history e =
+    ap (λ (n : ℕ). if n == 1 then Former (state_at head read.steps) else Stands (standing_of head bodies read))
+    (ap format_in e)
+    ∙ ap former_in e
+former_image side format head bodies (Err at) other h history e = absurd (cc e)
+
+pub former_as : (f : FoundImages) (other : DiskName) (h : Head) (history : History)
+    → with_steps f ≡ Holds other 1 h history
+    → images_as f ≡ Former (state_at h history)
+former_as NoImages other h history e = absurd (cc e)
+former_as (BrokenImage disk place) other h history e = absurd (cc e)
+former_as (StandingImage side format head bodies) other h history e =
+    former_image side format head bodies (steps_of format head bodies) other h history e
+
+-- ---- what stands in an open volume
+
+abbrev standing_with : List Text → State → ℕ → ℕ → Found
+standing_with uids s e l =
+    Stands (record {
+      state = s;
+      need = λ x. need (record { length = e; limit = l }) (length (body_of uids x));
+      limit = l;
+    })
+
+same_standing : (uids : List Text) (s t : State) (e f l m : ℕ) → s ≡ t → e ≡ f → l ≡ m
+    → standing_with uids s e l ≡ standing_with uids t f m
+same_standing uids s t e f l m state length limit =
+    ap (λ (x : State). standing_with uids x e l) state
+    ∙ ap (λ (n : ℕ). standing_with uids t n l) length
+    ∙ ap (λ (n : ℕ). standing_with uids t f n) limit
+
+pub stands_as : {D : Type 0} (tells : Bool) (known : D → Device) (v : Volume D) → IsTrue tells
+    → (k : KeepsHistory v (devices known v).files)
+    → found_in (seen_of (devices known v).files) ≡ Stands (standing_in (volume_known tells known v))
+stands_as tells known v t k =
+    let files = (devices known v).files in
+    let read = (store_stands v.journal v.side 2 k.head k.bodies files k.stands).read in
+    let limit : limit_of tells known v ≡ k.head.limit =
+    ap (λ (b : Bool). if b then limit_in (found_of (seen_of files)) else v.journal.limit) t ∙ ap limit_in read
+    in
+    ap images_as read
+    ∙ ap (λ (r : Result Chronicle ℕ). image_as v.side 2 k.head k.bodies r) k.says
+    ∙ same_standing v.uids.uids (state_at k.head k.history) (meaning v.state)
+    (length (up_to_gate 2 k.head k.bodies) + 1) v.journal.length
+    k.head.limit (limit_of tells known v) (sym k.leaves) (sym k.stands.image.extent.all) (sym limit)
+
+-- its limit is that of its journal
+pub journal_limit : {D : Type 0} (tells : Bool) (known : D → Device) (v : Volume D) → IsTrue tells
+    → (k : KeepsHistory v (devices known v).files)
+    → limit_of tells known v ≡ v.journal.limit
+journal_limit tells known v t k =
+    let files = (devices known v).files in
+    ap (λ (b : Bool). if b then limit_in (found_of (seen_of files)) else v.journal.limit) t
+    ∙ ap limit_in (store_stands v.journal v.side 2 k.head k.bodies files k.stands).read
+    ∙ sym k.stands.image.extent.limit
+
+-- ---- the limit of what is found
+
+limit_if : (b : Bool) (s : State) (x : Standing) → HasLimit x.limit (if b then Former s else Stands x)
+limit_if true s x = tt
+limit_if false s x = refl
+
+limit_image : (side : DiskName) (format : ℕ) (head : Head) (bodies : List (List ℕ)) (r : Result Chronicle ℕ)
+    → HasLimit head.limit (image_as side format head bodies r)
+limit_image side format head bodies (Ok read) =
+    limit_if (format == 1) (state_at head read.steps) (standing_of head bodies read)
+limit_image side format head bodies (Err place) = tt
+
+pub has_limit : (f : FoundImages) → HasLimit (limit_in f) (images_as f)
+has_limit NoImages = tt
+has_limit (BrokenImage disk place) = tt
+has_limit (StandingImage side format head bodies) = limit_image side format head bodies (steps_of format head bodies)
+
+pub own_limit : (f : Found) → HasLimit (limit_left f []) f
+own_limit Blank = tt
+own_limit (Damaged disk place) = tt
+own_limit (Former state) = tt
+own_limit (Stands x) = refl
+
+-- what a closed volume tells has its limit
+pub limit_told : {D : Type 0} (tells : Bool) (known : D → Device) (v : Volume D)
+    → IfSome (if tells then Some (found_in (seen_of (devices known v).files)) else None)
+    (HasLimit (limit_of tells known v))
+limit_told true known v = has_limit (found_of (seen_of (devices known v).files))
+limit_told false known v = tt
+
+-- ---- where there is no store, and where there is one
+
+pub blank_in : (files : Trio (List ℕ)) → files.root ≡ [] → found_in files ≡ Blank
+blank_in files e = ap images_as (found_blank files e)
+
+blank_if : (b : Bool) (s : State) (x : Standing) → is_blank (if b then Former s else Stands x) ≡ false
+blank_if true s x = refl
+blank_if false s x = refl
+
+some_image : (side : DiskName) (format : ℕ) (head : Head) (bodies : List (List ℕ)) (r : Result Chronicle ℕ)
+    → is_blank (image_as side format head bodies r) ≡ false
+some_image side format head bodies (Ok read) =
+    blank_if (format == 1) (state_at head read.steps) (standing_of head bodies read)
+some_image side format head bodies (Err place) = refl
+
+some_reading : (side : DiskName) (r : Reading) → is_blank (images_as (image_found side r)) ≡ false
+some_reading side (Broken place) = refl
+some_reading side (Reads format head bodies) = some_image side format head bodies (steps_of format head bodies)
+
+some_by : (root : List ℕ) (files : Trio (List ℕ)) → root ≢ [] → is_blank (images_as (found_by root files)) ≡ false
+some_by [] files ne = absurd (ne refl)
+some_by (byte ∷ []) files ne = some_reading (chosen byte) (read_image (pick (chosen byte) files))
+some_by (byte ∷ second ∷ rest) files ne = refl
+
+pub some_in : (files : Trio (List ℕ)) → files.root ≢ [] → is_blank (found_in files) ≡ false
+some_in files ne = some_by files.root files ne
+
+-- ---- what is told
+
+pub told_if : (tells : Bool) (f g : Found) → (IsTrue tells → f ≡ g) → IsTold (if tells then Some f else None) g
+told_if true f g h = h refl
+told_if false f g h = tt
+
+pub now_if : (tells : Bool) (f : Found) (now : Left State) (limit : ℕ)
+    → (IsTrue tells → (in_short f ≡ now) × HasLimit limit f)
+    → IsNow now limit (if tells then Some f else None)
+now_if true f now limit h = h refl
+now_if false f now limit h = tt

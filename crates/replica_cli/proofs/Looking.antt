@@ -1,0 +1,117 @@
+-- A store that was only looked at: what stands is what stood, and a crash leaves no more than it might.
+use Rattle.std.specs.Prelude.{IsTrue}
+use Rattle.std.proofs.Common.{◌≡◌, inl, ℕ, ◌<◌, ◌≤◌, Bool, true, false, if◌then◌else◌, List, [], length, Option, refl}
+use Rattle.std.proofs.Common.{sym, ◌∙◌, ap, subst, arith, length-append}
+use Rattle.conflicts.specs.State.{State}
+use Rattle.disks.specs.declared.trio.Trio.{Trio}
+use Rattle.disks.specs.Joint.{AreCrashImages, Devices, JointMoment, now_of, seen_of}
+use Rattle.disks.specs.Moments.{LeavesTogether}
+use Rattle.disks.proofs.Runs.{at_moment, begins, earlier}
+use Rattle.replica_core.specs.Replica.{Found as Left}
+use Rattle.replica_volume.specs.Settled.{now_at}
+use Rattle.replica_volume.specs.Store.{MayOpenAs, opens_as}
+use Rattle.replica_volume.specs.Volume.{moments}
+use Rattle.store_commands.specs.Changes.{HasLimit, IsNow, Passes, limit_of}
+use Rattle.store_commands.specs.Found.{Found, in_short}
+use Rattle.store_commands.specs.Store.{Finds, FindsSome}
+use Rattle.volume.specs.Crashes.{OnlyLooks}
+use Rattle.replica_cli.specs.Store.{found_in, store_seen}
+use Rattle.replica_cli.proofs.Files.{now_if, own_limit, told_if}
+
+pub told_at : (tells : Bool) (d : Devices) → IsTrue tells → moments tells d ≡ length d.past
+told_at tells d t = ap (λ (b : Bool). if b then length d.past else 0) t
+
+-- moments only pass
+pub later_if : (tells : Bool) (old new : Devices) → (IsTrue tells → length old.past ≤ length new.past)
+    → moments tells old ≤ moments tells new
+later_if true old new h = h refl
+later_if false old new h = omega arith
+
+pub grows : (old new : Devices) (Q : Trio (List ℕ) → Type 0) → LeavesTogether old new Q
+    → length old.past ≤ length new.past
+grows old new Q run = omega (arith, ap length run.added ∙ length-append old.past run.fresh)
+
+-- an earlier moment leaves what it left
+pub earlier_crash : (tells : Bool) (old new : Devices) → (Q : Trio (List ℕ) → Type 0)
+    → (IsTrue tells → LeavesTogether old new Q)
+    → (k : ℕ) (o : Left State) → k < moments tells old → (store_seen tells new).crash k o
+    → (store_seen tells old).crash k o
+earlier_crash tells old new Q run k o low crash =
+    let t = crash.0 in let files = crash.1.0 in let r = run t in (
+      t,
+      (
+        files,
+        subst (λ (m : JointMoment). AreCrashImages m files)
+            (earlier old new r.fresh r.added k (subst (λ (n : ℕ). k < n) (told_at tells old t) low)) crash.1.1,
+        crash.1.2,
+      ),
+    )
+
+-- what a crash at a moment of the run leaves has what the run says
+pub crash_since : (tells : Bool) (old new : Devices) (Q : Trio (List ℕ) → Type 0)
+    → (IsTrue tells → LeavesTogether old new Q)
+    → (k : ℕ) (o : Left State) → moments tells old ≤ k → (store_seen tells new).crash k o
+    → IsTrue tells × ((files : Trio (List ℕ)) × Q files × (o ≡ opens_as files))
+crash_since tells old new Q run k o low crash =
+    let t = crash.0 in let files = crash.1.0 in (
+      t,
+      (
+        files,
+        at_moment old new Q (run t) k (subst (λ (n : ℕ). n ≤ k) (told_at tells old t) low) files crash.1.1,
+        crash.1.2,
+      ),
+    )
+
+-- what a crash now may leave
+pub crash_now : (tells : Bool) (d : Devices) (o : Left State) → IsTrue tells → MayOpenAs (now_of d.files) o
+    → (store_seen tells d).crash (moments tells d) o
+crash_now tells d o t may = (t, subst (λ (m : JointMoment). MayOpenAs m o) (sym (now_at tells d t)) may)
+
+-- ---- the whole
+
+pub looked : (tells : Bool) (old new : Devices) (found : Found) (told : Option Found)
+    → IsNow (in_short found) (limit_of found []) told
+    → (IsTrue tells → OnlyLooks old new) → old.faults ≤ new.faults
+    → Passes found [] 0 0 (store_seen tells old) (record (store_seen tells new) { found = told })
+looked tells old new found told now looks faults = record {
+  stood_reached = omega arith;
+  within = omega arith;
+  later = later_if tells old new (λ t. grows old new (AreCrashImages (now_of old.files)) (looks t).leaves);
+  earlier = earlier_crash tells old new (AreCrashImages (now_of old.files)) (λ t. (looks t).leaves);
+  since = λ k o low high crash.
+      let c = crash_since tells old new (AreCrashImages (now_of old.files)) (λ t. (looks t).leaves) k o low crash in
+      inl (crash_now tells old o c.0 (c.1.0, c.1.1, c.1.2));
+  now = now;
+  faults = faults;
+}
+
+-- The same of the disks as they are then: what opening would find is what it would have found.
+pub looked_as : (tells : Bool) (old new : Devices) (found : Found)
+    → (IsTrue tells → found_in (seen_of old.files) ≡ found)
+    → (IsTrue tells → OnlyLooks old new) → old.faults ≤ new.faults
+    → Passes found [] 0 0 (store_seen tells old) (store_seen tells new)
+looked_as tells old new found is looks faults =
+    looked tells old new found (store_seen tells new).found
+    (now_if tells (found_in (seen_of new.files)) (in_short found) (limit_of found [])
+    (λ t. subst (λ (f : Found). (in_short f ≡ in_short found) × HasLimit (limit_of found []) f)
+    (sym (ap found_in (looks t).seen ∙ is t)) (refl, own_limit found)))
+    looks faults
+
+pub finds : (tells : Bool) (old new : Devices) (found : Found) → (IsTrue tells → found_in (seen_of old.files) ≡ found)
+    → (IsTrue tells → OnlyLooks old new) → old.faults ≤ new.faults
+    → Finds found (store_seen tells old) (store_seen tells new)
+finds tells old new found is looks faults = record {
+  told = told_if tells (found_in (seen_of old.files)) found is;
+  keeps = looked_as tells old new found is looks faults;
+}
+
+pub finds_some : (tells : Bool) (old new : Devices) → (IsTrue tells → OnlyLooks old new) → old.faults ≤ new.faults
+    → FindsSome (store_seen tells old) (store_seen tells new)
+finds_some tells old new looks faults =
+    let found = found_in (seen_of old.files) in
+    let f = finds tells old new found (λ t. refl) looks faults in
+    record { found = found; told = f.told; keeps = f.keeps }
+
+-- nothing was called
+pub no_call : (d : Devices) → OnlyLooks d d
+no_call d = record { seen = refl; leaves = begins d (AreCrashImages (now_of d.files)) (λ images i. i) }

@@ -1,0 +1,108 @@
+//! Three disks as a store that a command opens, makes and closes.
+ghost use Rattle.std.specs.Prelude.{◌≡◌, ◌≤◌, IfOk};
+ghost use Rattle.u1_base.specs.declared.limits.TheConstants.{GREATEST_IMAGE_LIMIT};
+ghost use Rattle.u1_base.specs.declared.limits.TheConstants.{LEAST_IMAGE_LIMIT};
+ghost use Rattle.replica_cli.specs.Faults.{make_fault, open_fault};
+
+use disk_model::Disk;
+use disks::Disks;
+use journal::Header;
+use replica_volume::{Volume, VolumeFault};
+use std::alloc::Global;
+use store_commands::{MakeFault, OpenFault, Store};
+use u1_base::{DbName, Memory, ReplicaUid};
+use volume::InitFault;
+
+/// A store that is not open: its three disks.
+#[derive(Drop)]
+pub struct StoreOnDisks<D: Disk> {
+    disks: Disks<D>,
+}
+
+impl<D: Disk> StoreOnDisks<D> {
+    /// The store on these disks, if there is one.
+    pub fn new(disks: Disks<D>) -> StoreOnDisks<D>
+        ensures { result.disks ≡ disks }
+    {
+        StoreOnDisks { disks }
+    }
+
+    /// Gives the disks back.
+    pub fn into_disks(self) -> Disks<D>
+        ensures { result ≡ self.disks }
+    {
+        self.disks
+    }
+}
+
+impl<D: Disk> Store for StoreOnDisks<D> {
+    ghost use Rattle.replica_cli.specs.Store.{store_known};
+    ghost use Rattle.replica_cli.specs.Told.{may_stay};
+
+    type Opened = Volume<D>;
+
+    ghost known = { store_known D.tells D.known };
+
+    fn open(self, alloc: Global) -> Result<Volume<D>, (OpenFault, StoreOnDisks<D>)> {
+        match Volume::open_volume(alloc, self.disks) {
+            Ok(volume) => Ok(volume),
+            Err((disks, fault)) => Err((open_fault(fault), StoreOnDisks::new(disks))),
+        }
+    }
+
+    fn make(
+        self,
+        alloc: Global,
+        name: &DbName,
+        uid: &ReplicaUid,
+        limit: u64,
+    ) -> (Result<(), MakeFault>, StoreOnDisks<D>) {
+        let Ok(header) = header_of(name, uid, limit) else {
+            return (Err(MakeFault::Memory), self);
+        };
+        match Volume::init(alloc, self.disks, header) {
+            Ok(volume) => (Ok(()), StoreOnDisks::new(volume.into_disks())),
+            Err((disks, fault)) => (Err(make_fault(fault)), StoreOnDisks::new(disks)),
+        }
+    }
+
+    fn close(opened: Volume<D>) -> StoreOnDisks<D> {
+        StoreOnDisks::new(opened.into_disks())
+    }
+
+    ghost told = { may_stay D.tells D.known D.seen_may_stay };
+}
+
+// The header of a new image.
+fn header_of(name: &DbName, uid: &ReplicaUid, limit: u64) -> Result<Header, Memory>
+    requires least { LEAST_IMAGE_LIMIT ≤ limit }
+    requires greatest { limit ≤ GREATEST_IMAGE_LIMIT }
+    ensures { IfOk result (λ header. header
+        ≡ record { name = name.now; uid = uid.now; limit = limit }) }
+{
+    let name = name.copy()?;
+    let uid = uid.copy()?;
+    Ok(Header { name, uid, limit })
+}
+
+fn open_fault(fault: VolumeFault) -> OpenFault
+    ensures { result ≡ open_fault fault }
+{
+    match fault {
+        VolumeFault::Blank => OpenFault::Blank,
+        VolumeFault::Damaged { disk, place } => OpenFault::Damaged { disk, place },
+        VolumeFault::Former => OpenFault::Former,
+        VolumeFault::Disk => OpenFault::Disk,
+        VolumeFault::Memory => OpenFault::Memory,
+    }
+}
+
+fn make_fault(fault: InitFault) -> MakeFault
+    ensures { result ≡ make_fault fault }
+{
+    match fault {
+        InitFault::Exists => MakeFault::Exists,
+        InitFault::Disk => MakeFault::Disk,
+        InitFault::Memory => MakeFault::Memory,
+    }
+}

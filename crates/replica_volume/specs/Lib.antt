@@ -1,0 +1,9 @@
+pub mod Steps
+pub mod Store
+pub mod Volume
+pub mod Settled
+pub mod Opening
+pub mod Making
+pub mod Faults
+pub mod Replaying
+pub mod Committing

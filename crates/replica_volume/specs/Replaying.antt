@@ -1,0 +1,49 @@
+-- Private words: what going through the bodies of an image leaves.
+use Rattle.std.specs.Prelude.{◌≡◌, ◌≢◌, ℕ, ◌+◌, List, length, Result, Ok, Err}
+use Rattle.conflicts.specs.State.{History}
+use Rattle.disks.specs.declared.name.DiskName.{DiskName}
+use Rattle.journal.specs.Image.{header_bytes}
+use Rattle.journal.specs.Stored.{StoredImage}
+use Rattle.replica_state.specs.Held.{meaning}
+use Rattle.record_codec.specs.Bodies.{Recorded}
+use Rattle.record_codec.specs.Decoding.{recorded}
+use Rattle.record_codec.specs.declared.decoding.Decoded.{Decoded}
+use Rattle.record_codec.specs.declared.decoding.RecordFault.{RecordFault}
+use Rattle.record_codec.specs.declared.decoding.RecordFault.TheVariants as record_fault
+use Rattle.replica_volume.specs.Steps.{steps_of, state_at}
+use Rattle.replica_volume.specs.declared.fault.VolumeFault.{VolumeFault}
+use Rattle.replica_volume.specs.declared.fault.VolumeFault.TheVariants as fault
+use Rattle.replica_volume.specs.declared.replaying.Replayed.{Replayed}
+
+-- what a body says, which begins at this place of the file; or the place of its first field that has no reading
+abbrev pub DecodesAt : ℕ → Result Recorded ℕ → Result Decoded RecordFault → Type 0
+DecodesAt start read (Ok d) = read ≡ Ok (recorded d)
+DecodesAt start read (Err (record_fault.Bad place)) = (at : ℕ) × (read ≡ Err at) × (place ≡ start + at)
+DecodesAt start read (Err record_fault.Memory) = Unit {0}
+
+-- these bodies of the image say a history, which leaves the state and these uids
+pub record IsReplayed (image : StoredImage) (bodies : List (List ℕ)) (r : Replayed) : Type 0 where
+  pub history : History
+  pub says : steps_of image.format image.header bodies ≡ Ok (record { steps = history; uids = r.uids.uids })
+  pub leaves : meaning r.state ≡ state_at image.header history
+
+-- one of its bodies has no reading, at this place of the file
+pub record IsBadAt (image : StoredImage) (place : ℕ) : Type 0 where
+  pub at : ℕ
+  pub bad : steps_of image.format image.header image.bodies ≡ Err at
+  pub there : place ≡ length (header_bytes image.format image.header) + at
+
+-- all its bodies were made steps; or one has no reading, at the place
+abbrev pub Replays : StoredImage → Result Replayed RecordFault → Type 0
+Replays image (Ok r) = IsReplayed image image.bodies r
+Replays image (Err (record_fault.Bad place)) = IsBadAt image place
+Replays image (Err record_fault.Memory) = Unit {0}
+
+-- the same of an image on this side, which has to have format 2
+abbrev pub ReplaysOn : DiskName → StoredImage → Result Replayed VolumeFault → Type 0
+ReplaysOn side image (Ok r) = (image.format ≡ 2) × IsReplayed image image.bodies r
+ReplaysOn side image (Err (fault.Damaged disk place)) = (disk ≡ side) × IsBadAt image place
+ReplaysOn side image (Err fault.Former) = (image.format ≢ 2) × ((r : Replayed) × IsReplayed image image.bodies r)
+ReplaysOn side image (Err fault.Memory) = Unit {0}
+ReplaysOn side image (Err fault.Blank) = ⊥
+ReplaysOn side image (Err fault.Disk) = ⊥

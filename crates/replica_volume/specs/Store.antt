@@ -1,0 +1,47 @@
+-- What is found of three files, with the steps that the bodies say.
+use Rattle.std.specs.Prelude.{◌≡◌, ℕ, ◌+◌, List, length, Result, Ok, Err}
+use Rattle.conflicts.specs.State.{History, State}
+use Rattle.disks.specs.declared.name.DiskName.{DiskName}
+use Rattle.disks.specs.declared.trio.Trio.{Trio}
+use Rattle.disks.specs.Joint.{JointMoment, AreCrashImages}
+use Rattle.journal.specs.Image.{Head, header_bytes}
+use Rattle.volume.specs.Store.{Found as FoundImages, found_of}
+use Rattle.volume.specs.Store.Found.{Blank as NoImages, Damaged as BrokenImage, Stands as StandingImage}
+use Rattle.replica_core.specs.Replica.{Found}
+use Rattle.replica_core.specs.Replica.Found.{Blank as Nothing, Damaged as Broken, Stands}
+use Rattle.replica_volume.specs.Steps.{Chronicle, steps_of, state_at}
+
+-- What is found of a store: no database; damage of one of the files, at a place; or a history, with the side and the
+-- format of its image, and its header.
+pub data StoreFound : Type 0 where
+  Blank : StoreFound
+  Damaged : DiskName → ℕ → StoreFound
+  Holds : DiskName → ℕ → Head → History → StoreFound
+
+-- the steps that the image on this side says; or it is damaged where a body has no reading
+abbrev pub holds_steps : DiskName → ℕ → Head → Result Chronicle ℕ → StoreFound
+holds_steps side format head (Ok read) = Holds side format head read.steps
+holds_steps side format head (Err place) = Damaged side (length (header_bytes format head) + place)
+
+abbrev pub with_steps : FoundImages → StoreFound
+with_steps NoImages = Blank
+with_steps (BrokenImage disk place) = Damaged disk place
+with_steps (StandingImage side format head bodies) = holds_steps side format head (steps_of format head bodies)
+
+-- what is found of three files
+abbrev pub store_of : Trio (List ℕ) → StoreFound
+store_of files = with_steps (found_of files)
+
+-- the same as a replica is opened: a history leaves a state
+abbrev pub opened_as : StoreFound → Found State
+opened_as Blank = Nothing
+opened_as (Damaged disk place) = Broken
+opened_as (Holds side format head h) = Stands (state_at head h)
+
+-- what opening three files finds
+abbrev pub opens_as : Trio (List ℕ) → Found State
+opens_as files = opened_as (store_of files)
+
+-- opening finds this after some crash at this moment
+abbrev pub MayOpenAs : JointMoment → Found State → Type 0
+MayOpenAs moment o = (files : Trio (List ℕ)) × AreCrashImages moment files × (o ≡ opens_as files)

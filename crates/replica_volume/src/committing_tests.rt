@@ -1,0 +1,409 @@
+//! Commits: the worked images, full ones, each call that fails, and what a crash leaves at each
+//! moment.
+ghost use Rattle.std.specs.Prelude.{IsTrue};
+
+use crate::Volume;
+use crate::tests::{
+    CREATED, EMPTY, Found, NOTHING, ONE, Three, are, calls, disks_of, has, header, hold, leave,
+    look,
+};
+use content::Content;
+use disk_model::MemDisk;
+use disks::{DiskName, Disks};
+use journal::Header;
+use record_codec::{Uids, decode};
+use replica_core::{PutFault, Replica, get_doc, put_doc};
+use replica_state::{State, Step};
+use std::alloc::Global;
+use u1_base::limits::GREATEST_IMAGE_LIMIT;
+use u1_base::{Bytes, DocId, Memory, ReplicaUid};
+use vector_rev::Clock;
+
+// ---- a document is created
+
+const CONTENT: &[u8] = b"{\"b\":1,\"a\":\"x\"}";
+
+// What creating the document answers: its first revision, or a fault.
+#[derive(Clone, Copy, Debug, PartialEq, Eq)]
+enum Done {
+    First,
+    Full(u64, u64),
+    Disk,
+    Other,
+}
+
+// What it answers, and what the replica is then: what its state has, and whether it is open.
+#[derive(Clone, Copy, Debug, PartialEq, Eq)]
+struct After {
+    done: Done,
+    has: (u64, u64),
+    open: bool,
+}
+
+const DONE: After = After {
+    done: Done::First,
+    has: (1, 1),
+    open: true,
+};
+
+const FAILED: After = After {
+    done: Done::Disk,
+    has: (0, 0),
+    open: false,
+};
+
+const NOT_DONE: After = After {
+    done: Done::Other,
+    has: (0, 0),
+    open: false,
+};
+
+fn reads_as(clock: &Clock, text: &[u8]) -> bool {
+    match clock.text() {
+        Ok(read) => are(read.as_str().as_bytes(), text),
+        Err(_) => false,
+    }
+}
+
+fn has_text(content: &Content, text: &[u8]) -> bool {
+    match content.text() {
+        Ok(read) => are(read.as_slice(), text),
+        Err(_) => false,
+    }
+}
+
+fn done_by(answer: &Result<Clock, PutFault>) -> Done {
+    match answer {
+        Ok(clock) => {
+            if reads_as(clock, b"a:1") {
+                Done::First
+            } else {
+                Done::Other
+            }
+        }
+        Err(PutFault::Full { need, limit }) => Done::Full(*need, *limit),
+        Err(PutFault::Disk) => Done::Disk,
+        Err(_) => Done::Other,
+    }
+}
+
+fn document(alloc: Global) -> Result<DocId, Memory> {
+    match DocId::read(alloc, "d1") {
+        Ok(id) => Ok(id),
+        Err(_) => Err(Memory),
+    }
+}
+
+fn put_at<R: Replica>(alloc: Global, replica: &mut R, id: &DocId, content: &Content) -> Done
+    requires { R.is_open replica.old }
+{
+    let answer = put_doc(alloc, replica, 0, id, None, content);
+    done_by(&answer)
+}
+
+// Creates the document d1.
+fn put<R: Replica>(alloc: Global, replica: &mut R, content: &Content) -> After
+    requires { R.is_open replica.old }
+{
+    let done = match document(alloc) {
+        Ok(id) => put_at(alloc, replica, &id, content),
+        Err(_) => Done::Other,
+    };
+    After {
+        done,
+        has: has(replica.state()),
+        open: replica.is_open(),
+    }
+}
+
+// Makes the store, and creates the document in it.
+fn make_and_put(
+    alloc: Global,
+    disks: Disks<MemDisk>,
+    header: Header,
+    content: &Content,
+) -> (Disks<MemDisk>, After) {
+    match Volume::init(alloc, disks, header) {
+        Ok(mut volume) => {
+            let after = put(alloc, &mut volume, content);
+            (volume.into_disks(), after)
+        }
+        Err((disks, _)) => (disks, NOT_DONE),
+    }
+}
+
+// Opens the store, and creates the document in it.
+fn open_and_put(
+    alloc: Global,
+    disks: Disks<MemDisk>,
+    content: &Content,
+) -> (Disks<MemDisk>, After) {
+    match Volume::open_volume(alloc, disks) {
+        Ok(mut volume) => {
+            let after = put(alloc, &mut volume, content);
+            (volume.into_disks(), after)
+        }
+        Err((disks, _)) => (disks, NOT_DONE),
+    }
+}
+
+// The same in a store that is made with this limit, and with the text of a content.
+fn make_small_and_put(
+    alloc: Global,
+    disks: Disks<MemDisk>,
+    limit: u64,
+    text: &[u8],
+) -> (Disks<MemDisk>, After) {
+    let Ok(content) = Content::read(alloc, text) else {
+        return (disks, NOT_DONE);
+    };
+    match header(alloc, limit) {
+        Ok(header) => make_and_put(alloc, disks, header, &content),
+        Err(_) => (disks, NOT_DONE),
+    }
+}
+
+fn is_the_document(alloc: Global, state: &State, id: &DocId) -> bool {
+    let Some(member) = get_doc(state, id, false) else {
+        return false;
+    };
+    match &member.content {
+        Some(content) => {
+            reads_as(&member.rev, b"a:1") && has_text(content, b"{\"a\":\"x\",\"b\":1}")
+        }
+        None => false,
+    }
+}
+
+fn has_the_document(alloc: Global, state: &State) -> bool {
+    match document(alloc) {
+        Ok(id) => is_the_document(alloc, state, &id),
+        Err(_) => false,
+    }
+}
+
+// Whether the document is found in these disks when they are opened again.
+fn is_kept(alloc: Global, disks: Disks<MemDisk>) -> bool {
+    match Volume::open_volume(alloc, disks) {
+        Ok(volume) => has_the_document(alloc, volume.state()),
+        Err(_) => false,
+    }
+}
+
+// Making the store is four calls of the root and three of each image; the commit is four of the
+// left.
+fn creates_the_first(alloc: Global) -> bool {
+    match disks_of(alloc, (b"", b"", b""), DiskName::Root, &[]) {
+        Ok(disks) => {
+            let (disks, after) = make_small_and_put(alloc, disks, GREATEST_IMAGE_LIMIT, CONTENT);
+            after == DONE
+                && hold(&disks, (&[0], CREATED, EMPTY))
+                && calls(&disks) == (4, 7, 3)
+                && is_kept(alloc, disks)
+        }
+        Err(_) => false,
+    }
+}
+
+#[test]
+fn adds_the_body_of_the_step(rt: HostRuntime) {
+    assert!(rt; creates_the_first(rt.alloc()));
+}
+
+// ---- full images
+
+// A content of 8 bytes and so many letters.
+fn letters(alloc: Global, count: usize) -> Result<Bytes, Memory> {
+    let mut text = Bytes::new(alloc);
+    text.extend(b"{\"t\":\"")?;
+    for _ in 0..count {
+        text.extend(b"X")?;
+    }
+    text.extend(b"\"}")?;
+    Ok(text)
+}
+
+// What is answered where an image may have 4,096 bytes, and how many the left one has then.
+fn fill_with(alloc: Global, text: &[u8]) -> (After, usize) {
+    match disks_of(alloc, (b"", b"", b""), DiskName::Root, &[]) {
+        Ok(disks) => {
+            let (disks, after) = make_small_and_put(alloc, disks, 4096, text);
+            (after, disks.disk(DiskName::Left).bytes().len())
+        }
+        Err(_) => (NOT_DONE, 0),
+    }
+}
+
+fn fill(alloc: Global, count: usize) -> (After, usize) {
+    match letters(alloc, count) {
+        Ok(text) => fill_with(alloc, text.as_slice()),
+        Err(_) => (NOT_DONE, 0),
+    }
+}
+
+const FULL: After = After {
+    done: Done::Full(4097, 4096),
+    has: (0, 0),
+    open: true,
+};
+
+#[test]
+fn is_full_above_its_limit(rt: HostRuntime) {
+    assert!(rt; fill(rt.alloc(), 3994) == (FULL, 24));
+    assert!(rt; fill(rt.alloc(), 3993) == (DONE, 4096));
+}
+
+// ---- uids get numbers
+
+// A revision of another replica, with the move of its place: 119 bytes. It gives b the number 1.
+const TAKEN: &[u8] =
+    b"\x01\0\x02d1\x01\0\0\0\x01\0\x01b\0\0\0\0\0\0\0\x01\x03\0\0\0\0\x01\x01\0\0\0\x02{}\0\x22T-a1\
+      2aa9bff3485ffcbd67876eea76a865\x02\0\0\0\x01\0\0\0\0\0\0\0\x01\0\x22T-a12aa9bff3485ffcbd67876\
+      eea76a865";
+
+// Where b has its number: the position of b moves to its second entry.
+const MOVED: &[u8] = b"\x03\x01\0\0\0\x01\0\0\0\0\0\0\0\x02\0\x01T";
+
+// The same where b has none.
+const MOVED_ALONE: &[u8] = b"\x03\x01\0\0\0\x01\0\x01b\0\0\0\0\0\0\0\x02\0\x01T";
+
+fn own(alloc: Global) -> Result<Uids, Memory> {
+    match ReplicaUid::read(alloc, "a") {
+        Ok(uid) => Uids::new(alloc, &uid),
+        Err(_) => Err(Memory),
+    }
+}
+
+// The step of this body, where no other uid has a number.
+fn step_of(alloc: Global, body: &[u8]) -> Result<Step, Memory> {
+    let uids = own(alloc)?;
+    match decode(alloc, body, &uids) {
+        Ok(decoded) => Ok(decoded.step),
+        Err(_) => Err(Memory),
+    }
+}
+
+fn commits_step<R: Replica>(replica: &mut R, step: Step) -> bool
+    requires { R.is_open replica.old }
+    ensures { IsTrue result → R.is_open replica.new }
+{
+    if !replica.state().fits(&step) {
+        return false;
+    }
+    replica.commit(step).is_ok()
+}
+
+// Commits the step of this body.
+fn commits<R: Replica>(alloc: Global, replica: &mut R, body: &[u8]) -> bool
+    requires { R.is_open replica.old }
+    ensures { IsTrue result → R.is_open replica.new }
+{
+    match step_of(alloc, body) {
+        Ok(step) => commits_step(replica, step),
+        Err(_) => false,
+    }
+}
+
+fn commits_both<R: Replica>(alloc: Global, replica: &mut R) -> bool
+    requires { R.is_open replica.old }
+{
+    commits(alloc, replica, TAKEN) && commits(alloc, replica, MOVED_ALONE)
+}
+
+// Opens the store, and commits the two steps.
+fn open_and_commit(alloc: Global, disks: Disks<MemDisk>) -> (Disks<MemDisk>, bool) {
+    match Volume::open_volume(alloc, disks) {
+        Ok(mut volume) => {
+            let done = commits_both(alloc, &mut volume);
+            (volume.into_disks(), done)
+        }
+        Err((disks, _)) => (disks, false),
+    }
+}
+
+// The entry of the body stands at the place, and behind it a gate.
+fn has_entry(image: &[u8], place: usize, body: &[u8]) -> bool {
+    let start = place.saturating_add(5);
+    let end = start.saturating_add(body.len());
+    match image.get(place..end) {
+        Some(entry) => {
+            are(&entry[..4], &[1, 0, 0, 0])
+                && entry[4] as usize == body.len()
+                && are(&entry[5..], body)
+        }
+        None => false,
+    }
+}
+
+fn has_both(disks: &Disks<MemDisk>) -> bool {
+    let image = disks.disk(DiskName::Right).bytes();
+    image.len() == 170 && has_entry(image, 23, TAKEN) && has_entry(image, 147, MOVED)
+}
+
+fn opens_as_one(alloc: Global, disks: Disks<MemDisk>) -> bool {
+    let (_disks, found) = look(alloc, disks);
+    found == ONE
+}
+
+fn numbers(alloc: Global) -> bool {
+    match disks_of(alloc, (&[1], b"other", EMPTY), DiskName::Root, &[]) {
+        Ok(disks) => {
+            let (disks, done) = open_and_commit(alloc, disks);
+            done && has_both(&disks) && opens_as_one(alloc, disks)
+        }
+        Err(_) => false,
+    }
+}
+
+// The second body names b by its number alone.
+#[test]
+fn gives_numbers_to_uids(rt: HostRuntime) {
+    assert!(rt; numbers(rt.alloc()));
+}
+
+// ---- calls that fail
+
+const FILES: Three = (&[0], EMPTY, CREATED);
+
+fn put_again(alloc: Global, disks: Disks<MemDisk>) -> (Disks<MemDisk>, After) {
+    match Content::read(alloc, CONTENT) {
+        Ok(content) => open_and_put(alloc, disks, &content),
+        Err(_) => (disks, NOT_DONE),
+    }
+}
+
+// Whether this comes of a commit where the call of this number of the left disk fails, and a crash
+// leaves just what is listed. Three of its calls open the store, and four add the body.
+fn leaves(alloc: Global, number: u64, want: After, is: &[Found]) -> bool {
+    match disks_of(alloc, FILES, DiskName::Left, &[number]) {
+        Ok(disks) => {
+            let (mut disks, after) = put_again(alloc, disks);
+            after == want && leave(alloc, &mut disks, is)
+        }
+        Err(_) => false,
+    }
+}
+
+// Before the gate is opened the step is not there.
+#[test]
+fn leaves_the_state_before_the_step_at_first(rt: HostRuntime) {
+    for number in 3..5u64 {
+        assert!(rt; leaves(rt.alloc(), number, FAILED, &[NOTHING]), "{number}");
+    }
+}
+
+#[test]
+fn leaves_the_state_before_the_step_or_after_it(rt: HostRuntime) {
+    for number in 5..7u64 {
+        assert!(rt;
+            leaves(rt.alloc(), number, FAILED, &[NOTHING, ONE]),
+            "{number}"
+        );
+    }
+}
+
+// After the last sync it is there.
+#[test]
+fn leaves_the_step_once_it_is_committed(rt: HostRuntime) {
+    assert!(rt; leaves(rt.alloc(), 7, DONE, &[ONE]));
+}

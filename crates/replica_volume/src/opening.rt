@@ -1,0 +1,74 @@
+//! Opening the store that stands.
+ghost use Rattle.std.specs.Prelude.{◌≡◌, ℕ, List, IfOk, IsTrue};
+ghost use Rattle.u1_base.specs.Causes.{HasCauseOf};
+ghost use Rattle.disks.specs.declared.trio.Trio.{Trio};
+ghost use Rattle.disks.specs.Disks.{disks_known};
+ghost use Rattle.disks.specs.Joint.{seen_of};
+ghost use Rattle.volume.specs.Crashes.{OnlyLooks};
+ghost use Rattle.replica_volume.specs.Opening.{LeavesAsBefore, OpensVolume};
+ghost use Rattle.replica_volume.specs.Replaying.{ReplaysOn};
+ghost use Rattle.replica_volume.specs.Volume.{IsOpenVolume, disks_in, fault_in};
+
+use crate::replaying::{Replayed, replay};
+use crate::{Volume, VolumeFault};
+use disk_model::Disk;
+use disks::{DiskName, Disks};
+use journal::Stored;
+use record_codec::RecordFault;
+use std::alloc::Global;
+use volume::{OpenedImages, open_images};
+
+impl<D: Disk> Volume<D> {
+    /// Opens the store: it has the state of the steps that the bodies of the image say which the
+    /// root names.
+    ///
+    /// Nothing is written, and a crash on the way leaves no more than one at the start might.
+    pub fn open_volume(alloc: Global, disks: Disks<D>) -> Result<Volume<D>, (Disks<D>, VolumeFault)>
+        ensures reads { (files : Trio (List ℕ))
+            × (IsTrue D.tells → files ≡ seen_of (disks_known D.known disks).files)
+            × OpensVolume files result }
+        ensures open { IfOk result (IsOpenVolume D.tells D.known) }
+        ensures looks { IsTrue D.tells → OnlyLooks
+            (disks_known D.known disks) (disks_known D.known (disks_in result)) }
+        ensures any_moment { IsTrue D.tells → LeavesAsBefore
+            (disks_known D.known disks) (disks_known D.known (disks_in result)) }
+        ensures cause { HasCauseOf VolumeFault.Disk (disks_known D.known disks).faults
+            (disks_known D.known (disks_in result)).faults (fault_in result) }
+    {
+        let mut disks = disks;
+        let OpenedImages { side, image } = match open_images(alloc, &mut disks) {
+            Ok(opened) => opened,
+            Err(fault) => return Err((disks, VolumeFault::from(fault))),
+        };
+        let Replayed { state, uids } = match replay_on(alloc, side, &image) {
+            Ok(replayed) => replayed,
+            Err(fault) => return Err((disks, fault)),
+        };
+        let journal = image.journal();
+        Ok(Volume {
+            alloc,
+            disks,
+            side,
+            journal,
+            uids,
+            state,
+            open: true,
+        })
+    }
+}
+
+// The state of the steps that this image says, which lies on this side and has to have format 2.
+fn replay_on(alloc: Global, side: DiskName, image: &Stored) -> Result<Replayed, VolumeFault>
+    ensures { ReplaysOn side image.now result }
+{
+    match replay(alloc, image) {
+        Ok(replayed) => {
+            if image.format() != 2 {
+                return Err(VolumeFault::Former);
+            }
+            Ok(replayed)
+        }
+        Err(RecordFault::Bad(place)) => Err(VolumeFault::Damaged { disk: side, place }),
+        Err(RecordFault::Memory) => Err(VolumeFault::Memory),
+    }
+}

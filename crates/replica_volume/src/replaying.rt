@@ -1,0 +1,104 @@
+//! The state of the steps that the bodies of an image say.
+ghost use Rattle.std.specs.Prelude.{◌≡◌, ◌+◌, ◌<◌, ◌^◌, ◌++◌, ◌∷◌, [], IfOk, OnOk, length};
+ghost use Rattle.conflicts.specs.State.{after};
+ghost use Rattle.replica_state.specs.Held.{meaning};
+ghost use Rattle.replica_state.specs.Steps.{step_of};
+ghost use Rattle.record_codec.specs.Decoding.{Decodes, IsBadWithin};
+ghost use Rattle.record_fields.specs.Table.{AreNumbered};
+ghost use Rattle.replica_volume.specs.Replaying.{DecodesAt, Replays};
+ghost use Rattle.replica_volume.specs.Steps.{body_in, state_at};
+
+use journal::{Entry, Stored};
+use record_codec::{Decoded, RecordFault, ReplicaUids, Uids, decode, decode_first};
+use replica_state::State;
+use std::alloc::Global;
+use u1_base::Memory;
+
+/// A state, and the uids that have numbers in its image.
+#[derive(Drop)]
+pub(crate) struct Replayed {
+    pub(crate) state: State,
+    pub(crate) uids: Uids,
+}
+
+/// Makes the steps that the image's bodies say, one after the other. No body and no step is kept
+/// when it has been made.
+///
+/// The place of `Bad` is that of a byte of the file.
+pub(crate) fn replay(alloc: Global, image: &Stored) -> Result<Replayed, RecordFault>
+    ensures { Replays image.now result }
+{
+    let mut replayed = nothing_yet(alloc, image)?;
+    let mut place = image.start();
+    while let Some(entry) = image.entry_at(place) {
+        let decoded = step_at(alloc, image.format(), &entry, &replayed.uids)?;
+        make(&mut replayed, decoded)?;
+        place = entry.next;
+    }
+    Ok(replayed)
+}
+
+// The state of no steps, at the replica of this image.
+fn nothing_yet(alloc: Global, image: &Stored) -> Result<Replayed, Memory>
+    ensures state { IfOk result (λ r. meaning r.state ≡ state_at image.now.header []) }
+    ensures uids { IfOk result (λ r. r.uids.uids ≡ image.now.header.uid ∷ []) }
+{
+    let header = image.header();
+    let uids = Uids::new(alloc, &header.uid)?;
+    let state = State::new(alloc, header.name.copy()?, header.uid.copy()?);
+    Ok(Replayed { state, uids })
+}
+
+// What the entry's body says in this format, where these uids have numbers.
+fn step_at(
+    alloc: Global,
+    format: u8,
+    entry: &Entry<'_>,
+    uids: &Uids,
+) -> Result<Decoded, RecordFault>
+    requires fits { entry.now.place + length entry.now.body.now < 2 ^ 64 }
+    ensures says { DecodesAt entry.now.place
+        (body_in format uids.now.uids entry.now.body.now) result }
+    ensures numbered { IfOk result (λ d. AreNumbered (uids.now.uids ++ d.added)) }
+{
+    match step_in(alloc, format, entry.body, uids) {
+        Ok(decoded) => Ok(decoded),
+        Err(RecordFault::Bad(at)) => Err(RecordFault::Bad(entry.place as u64 + at)),
+        Err(RecordFault::Memory) => Err(RecordFault::Memory),
+    }
+}
+
+fn step_in(alloc: Global, format: u8, body: &[u8], uids: &Uids) -> Result<Decoded, RecordFault>
+    ensures says { Decodes (body_in format uids.now.uids body.now) result }
+    ensures within { IsBadWithin (length body.now) result }
+    ensures numbered { IfOk result (λ d. AreNumbered (uids.now.uids ++ d.added)) }
+{
+    if format != 1 {
+        return decode(alloc, body, uids);
+    }
+    // Lending the uids is what tells the proof that they are as they have numbers.
+    let _uids = uids.as_slice();
+    match decode_first(alloc, body) {
+        Ok(step) => Ok(Decoded {
+            step,
+            added: ReplicaUids::new(alloc),
+        }),
+        Err(fault) => Err(fault),
+    }
+}
+
+// Makes the step, and gives numbers to the uids that its body adds.
+fn make(replayed: &mut Replayed, decoded: Decoded) -> Result<(), Memory>
+    requires { AreNumbered (replayed.old.uids.uids ++ decoded.added) }
+    ensures state { OnOk result
+        (meaning replayed.new.state ≡ after (meaning replayed.old.state) (step_of decoded.step)) }
+    ensures uids { OnOk result
+        (replayed.new.uids.uids ≡ replayed.old.uids.uids ++ decoded.added) }
+{
+    let Decoded { step, added } = decoded;
+    replayed.uids.reserve(added.len() as u64)?;
+    let prepared = replayed.state.prepare(step)?;
+    replayed.uids.add(added);
+    replayed.state.apply(prepared);
+    Ok(())
+}

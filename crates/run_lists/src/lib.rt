@@ -1,0 +1,13 @@
+//! Runs of the program's commands one after the other, as a script makes them: what they leave of a
+//! store, and what a stop of the machine leaves at any moment of any of them.
+//!
+//! `run_all` is the one call. Each run has the contract of `replica_cli::run`, and over disks that
+//! contracts can see, the store stands for a history that goes on, and no revision is lost that was
+//! ever accepted (`KeepsAll`).
+#![tactic(auto)]
+
+mod list;
+#[cfg(test)]
+mod tests;
+
+pub use list::{Request, run_all};

@@ -1,0 +1,58 @@
+-- What opening a store finds, and what is known of a store at a moment.
+use Rattle.std.specs.Prelude.{◌≡◌, ℕ, Option, Some, None}
+use Rattle.conflicts.specs.State.{State, Step}
+use Rattle.disks.specs.declared.name.DiskName.{DiskName}
+use Rattle.replica_state.specs.Held.{Held, Lists, lists_of, meaning}
+use Rattle.replica_core.specs.Replica.{Found as Left, Known, state_in, Blank as LeftBlank, Damaged as LeftDamaged}
+use Rattle.replica_core.specs.Replica.{Stands as LeftStands}
+
+-- what stands in a store: its state; how long its image would be with a step more; and how long it may be
+pub record Standing : Type 0 where
+  pub state : State
+  pub need : Step → ℕ
+  pub limit : ℕ
+
+-- what opening finds: no database; a damaged file, and from which byte on; an image of an earlier format, which cannot
+-- be changed yet, with its state; or what stands there
+pub data Found : Type 0 where
+  Blank : Found
+  Damaged : DiskName → ℕ → Found
+  Former : State → Found
+  Stands : Standing → Found
+
+-- the same, as it is told of what a crash leaves: the state alone
+abbrev pub in_short : Found → Left State
+in_short Blank = LeftBlank
+in_short (Damaged disk place) = LeftDamaged
+in_short (Former state) = LeftStands state
+in_short (Stands x) = LeftStands x.state
+
+-- What is known of a store: what opening would find, where its disks tell it; what a crash at each moment leaves; its
+-- moment; and how often its disks failed.
+pub record Store : Type 1 where
+  pub found : Option Found
+  pub crash : ℕ → Left State → Type 0
+  pub moment : ℕ
+  pub faults : ℕ
+
+-- what is told, if anything is, is this
+abbrev pub IsTold : Option Found → Found → Type 0
+IsTold None found = Unit {0}
+IsTold (Some told) found = told ≡ found
+
+-- these are the sorted lists of what stands there, if something does
+abbrev pub HasLists : Found → Lists → Type 0
+HasLists Blank lists = Unit {0}
+HasLists (Damaged disk place) lists = Unit {0}
+HasLists (Former state) lists = Unit {0}
+HasLists (Stands x) lists = (held : Held) × (meaning held ≡ x.state) × (lists ≡ lists_of held)
+
+-- ---- an open store
+
+abbrev pub standing_in : Known → Standing
+standing_in known = record { state = state_in known; need = known.need; limit = known.limit }
+
+-- it tells what stands in it
+abbrev pub opened_as : Known → (ℕ → Left State → Type 0) → Store
+opened_as known crash =
+    record { found = Some (Stands (standing_in known)); crash = crash; moment = known.moment; faults = known.faults }

@@ -1,0 +1,15 @@
+pub mod Found
+pub mod Changes
+pub mod Store
+pub mod Faults
+pub mod Deeds
+pub mod Expressions
+pub mod Answer
+pub mod Leaves
+pub mod Prints
+pub mod Run
+pub mod Complete
+pub mod Carries
+pub mod Calls
+pub mod Shown
+pub mod Memory

@@ -1,0 +1,58 @@
+-- What is printed.
+use Rattle.std.specs.Prelude.{◌≡◌, ◌⊎◌, ℕ, ◌≤◌, false, List, [], ◌++◌, Result, Ok, Err}
+use Rattle.std.specs.Io.KnownBytes.{Appends}
+use Rattle.u1_base.specs.Causes.{Rose}
+use Rattle.link.specs.Streams.{AppendsFront, Output}
+use Rattle.command_lines.specs.LastLines.{last_line}
+use Rattle.command_lines.specs.Puts.{Puts}
+use Rattle.command_lines.specs.declared.put.PrintFault.{PrintFault}
+use Rattle.command_lines.specs.declared.put.PrintFault.TheVariants as print
+use Rattle.command_lines.specs.declared.outcome.Outcome.{Outcome}
+use Rattle.command_lines.specs.declared.outcome.Outcome.TheVariants.{Done, SinkFault, Memory}
+use Rattle.store_commands.specs.Answer.{text_of}
+use Rattle.store_commands.specs.Deeds.{Deed}
+
+-- the command's text, where it is done
+abbrev pub done_text : Result Deed Outcome → Outcome → List ℕ
+done_text a Done = text_of a
+done_text a _ = []
+
+-- the command's text and the last line
+abbrev pub printed : Result Deed Outcome → Outcome → List ℕ
+printed a decided = done_text a decided ++ last_line decided
+
+-- the output took the whole text, and holds nothing back any more
+pub record PrintsWhole (text : List ℕ) (before after : Output) : Type 0 where
+  pub taken : Appends before.taken after.taken text
+  pub handed_on : after.held ≡ false
+  pub later : before.faults ≤ after.faults
+
+-- the output failed, and took a front of the text
+pub record PrintsFront (text : List ℕ) (before after : Output) : Type 0 where
+  pub taken : AppendsFront before.taken after.taken text
+  pub later : before.faults ≤ after.faults
+
+-- the whole text was printed, and the run ended as it was decided; or the output failed, or memory ran out
+abbrev pub Prints : List ℕ → Output → Output → Outcome → Outcome → Type 0
+Prints text before after decided result =
+    ((result ≡ decided) × PrintsWhole text before after)
+    ⊎ ((result ≡ SinkFault) × PrintsFront text before after × Rose before.faults after.faults)
+    ⊎ ((result ≡ Memory) × PrintsFront text before after)
+
+-- printing a part of the text, as a call ends that may go on
+abbrev pub PutsPart : List ℕ → Output → Output → Result (Unit {0}) Outcome → Type 0
+PutsPart text before after (Ok done) = Puts text before after (Ok tt)
+PutsPart text before after (Err SinkFault) = Puts text before after (Err print.Sink)
+PutsPart text before after (Err Memory) = Puts text before after (Err print.Memory)
+PutsPart text before after (Err _) = ⊥
+
+-- how a run ends that came so far
+abbrev pub outcome_of : Result (Unit {0}) Outcome → Outcome
+outcome_of (Ok done) = Done
+outcome_of (Err outcome) = outcome
+
+-- the text was printed, and the output holds nothing back any more
+abbrev pub PutsWhole : List ℕ → Output → Output → Result (Unit {0}) PrintFault → Type 0
+PutsWhole text before after (Ok done) = PrintsWhole text before after
+PutsWhole text before after (Err print.Sink) = PrintsFront text before after × Rose before.faults after.faults
+PutsWhole text before after (Err print.Memory) = PrintsFront text before after

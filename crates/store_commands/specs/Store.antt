@@ -1,0 +1,99 @@
+-- The calls of a store that is not open: opening it, making it, and closing it.
+use Rattle.std.specs.Prelude.{◌≡◌, ℕ, Bool, true, false, List, [], ◌∷◌, Option, Some, None, IfSome, Result, Ok, Err}
+use Rattle.u1_base.specs.Causes.{Rose}
+use Rattle.conflicts.specs.State.{State, Text, state_of}
+use Rattle.vector_rev.specs.Counts.{Uid}
+use Rattle.replica_core.specs.Replica.{Found as Left, Known, Stands as LeftStands}
+use Rattle.store_commands.specs.Changes.{Change, HasLimit, IsSettled, Made, Passes}
+use Rattle.store_commands.specs.Found.{Blank, Damaged, Former, Found, IsTold, Stands, Store, in_short, opened_as}
+use Rattle.store_commands.specs.Found.{standing_in}
+use Rattle.store_commands.specs.declared.store.OpenFault.{OpenFault}
+use Rattle.store_commands.specs.declared.store.OpenFault.TheVariants as open_fault
+use Rattle.store_commands.specs.declared.store.MakeFault.{MakeFault}
+use Rattle.store_commands.specs.declared.store.MakeFault.TheVariants as make_fault
+
+-- what is told of the store is one of what a crash now may leave
+abbrev pub MayStay : Store → Option Found → Type 0
+MayStay store None = Unit {0}
+MayStay store (Some told) = store.crash store.moment (in_short told)
+
+-- the store was looked at: what stands is what stood, and a crash leaves no more than it might
+abbrev pub Keeps : Found → Store → Store → Type 0
+Keeps found before after = Passes found [] 0 0 before after
+
+-- ---- opening
+
+-- it stands, and is open now
+pub record Opens (before : Store) (known : Known) (crash : ℕ → Left State → Type 0) (is_open : Type 0) : Type 0 where
+  pub told : IsTold before.found (Stands (standing_in known))
+  pub keeps : Keeps (Stands (standing_in known)) before (opened_as known crash)
+  pub opened : is_open
+
+-- what a store was that was not opened, whichever it was where only a disk failed or memory ran out
+pub record FindsSome (before after : Store) : Type 0 where
+  pub found : Found
+  pub told : IsTold before.found found
+  pub keeps : Keeps found before after
+
+pub record Finds (found : Found) (before after : Store) : Type 0 where
+  pub told : IsTold before.found found
+  pub keeps : Keeps found before after
+
+abbrev pub FailsToOpen : Store → Store → OpenFault → Type 0
+FailsToOpen before after open_fault.Blank = Finds Blank before after
+FailsToOpen before after (open_fault.Damaged disk place) = Finds (Damaged disk place) before after
+FailsToOpen before after open_fault.Former = (state : State) × Finds (Former state) before after
+FailsToOpen before after open_fault.Disk = FindsSome before after × Rose before.faults after.faults
+FailsToOpen before after open_fault.Memory = FindsSome before after
+
+-- ---- making
+
+abbrev pub is_blank : Found → Bool
+is_blank Blank = true
+is_blank (Damaged disk place) = false
+is_blank (Former state) = false
+is_blank (Stands x) = false
+
+-- the changes of making a store: none, where there is one
+abbrev pub making : Text → Uid → ℕ → Found → List Change
+making name uid limit Blank = Made name uid limit ∷ []
+making name uid limit (Damaged disk place) = []
+making name uid limit (Former state) = []
+making name uid limit (Stands x) = []
+
+-- a disk failed while a store was made: there is what was there, or the empty store
+pub record BreaksOff (name : Text) (uid : Uid) (limit : ℕ) (before after : Store) : Type 0 where
+  pub found : Found
+  pub told : IsTold before.found found
+  pub stood : ℕ
+  pub reached : ℕ
+  pub passes : Passes found (making name uid limit found) stood reached before after
+  pub rose : Rose before.faults after.faults
+
+-- there is a store
+pub record Exists (before after : Store) : Type 0 where
+  pub found : Found
+  pub told : IsTold before.found found
+  pub keeps : Keeps found before after
+  pub there : is_blank found ≡ false
+
+-- there was none, and now the empty store stands, and a crash leaves just that
+pub record MadeAnew (name : Text) (uid : Uid) (limit : ℕ) (before after : Store) : Type 0 where
+  pub told : IsTold before.found Blank
+  pub passes : Passes Blank (Made name uid limit ∷ []) 1 1 before after
+  pub settled : IsSettled (LeftStands (state_of name uid [])) after
+
+abbrev pub Makes : Text → Uid → ℕ → Store → Store → Result (Unit {0}) MakeFault → Type 0
+Makes name uid limit before after (Ok done) = MadeAnew name uid limit before after
+Makes name uid limit before after (Err make_fault.Exists) = Exists before after
+Makes name uid limit before after (Err make_fault.Disk) = BreaksOff name uid limit before after
+Makes name uid limit before after (Err make_fault.Memory) = FindsSome before after
+
+-- ---- closing
+
+-- what was known of the open store is known of the closed one
+pub record Closes (known : Known) (crash : ℕ → Left State → Type 0) (after : Store) : Type 0 where
+  pub leaves : (k : ℕ) (o : Left State) → after.crash k o → crash k o
+  pub moment : after.moment ≡ known.moment
+  pub faults : after.faults ≡ known.faults
+  pub limit : IfSome after.found (HasLimit known.limit)

@@ -1,0 +1,149 @@
+//! A command from the opening of its store on, but for its last line.
+ghost use Rattle.std.specs.Prelude.{◌≡◌, Err, Ok, true, false, if◌then◌else◌};
+ghost use Rattle.replica_state.specs.Held.{lists_of};
+ghost use Rattle.store_commands.specs.Answer.{built, has_exprs, is_limit, makes_store};
+ghost use Rattle.store_commands.specs.Deeds.{limit_given};
+ghost use Rattle.store_commands.specs.Carries.{Carried, InStore, found_open};
+ghost use Rattle.store_commands.specs.Found.{opened_as};
+
+use crate::doing::do_command;
+use crate::init::init;
+use crate::{Ended, Store};
+use cli_words::Command;
+use command_lines::{Outcome, Refusal, UsageKind};
+use link::{Sink, Source};
+use std::alloc::Global;
+use u1_base::Text;
+use u1_base::limits::{GREATEST_IMAGE_LIMIT, LEAST_IMAGE_LIMIT, MOST_KEY_TEXTS};
+
+/// Does the command over the store, and prints its text.
+pub fn carry_out<T: Store, S: Source, K: Sink>(
+    alloc: Global,
+    command: &Command,
+    seed: u128,
+    store: T,
+    input: &mut S,
+    out: &mut K,
+) -> (Ended, T)
+    ensures { Carried command.now seed
+        (record { store = T.known store; input = S.known input.old })
+        (record { store = T.known result.1; input = S.known input.new })
+        (K.known out.old) (K.known out.new) result.0 }
+{
+    match check_built(command) {
+        Ok(()) => carry_out_built(alloc, command, seed, store, input, out),
+        Err(outcome) => (Err(outcome), store),
+    }
+}
+
+// Whether the command is built. The commands of views are no commands here, nor is an index of no
+// expression or of more than eight, nor a store of a limit that no store has.
+fn check_built(command: &Command) -> Ended
+    ensures { result ≡ built command.now }
+{
+    match command {
+        Command::Compact
+        | Command::Sync { .. }
+        | Command::Serve { .. }
+        | Command::ServeDocs { .. }
+        | Command::Node { .. }
+        | Command::Work { .. } => Err(Outcome::Refused(Refusal::NotBuilt)),
+        Command::ViewCreate { .. } | Command::ViewShow { .. } | Command::ViewDelete { .. } => {
+            Err(Outcome::Usage(UsageKind::Words))
+        }
+        Command::Init { limit, .. } => {
+            usage_unless(is_limit(limit.unwrap_or(GREATEST_IMAGE_LIMIT)))
+        }
+        Command::IndexCreate { exprs, .. } => usage_unless(has_exprs(exprs.as_slice())),
+        _ => Ok(()),
+    }
+}
+
+// The words are wrong unless they are good.
+fn usage_unless(good: bool) -> Ended
+    ensures { result ≡ (if good then Ok tt else Err (Outcome.Usage UsageKind.Words)) }
+{
+    if good {
+        Ok(())
+    } else {
+        Err(Outcome::Usage(UsageKind::Words))
+    }
+}
+
+fn is_limit(limit: u64) -> bool
+    ensures { result ≡ is_limit limit }
+{
+    LEAST_IMAGE_LIMIT <= limit && limit <= GREATEST_IMAGE_LIMIT
+}
+
+fn has_exprs(exprs: &[Text]) -> bool
+    ensures { result ≡ has_exprs exprs.now }
+{
+    !exprs.is_empty() && exprs.len() <= MOST_KEY_TEXTS
+}
+
+fn carry_out_built<T: Store, S: Source, K: Sink>(
+    alloc: Global,
+    command: &Command,
+    seed: u128,
+    store: T,
+    input: &mut S,
+    out: &mut K,
+) -> (Ended, T)
+    requires { built command.now ≡ Ok tt }
+    ensures { Carried command.now seed
+        (record { store = T.known store; input = S.known input.old })
+        (record { store = T.known result.1; input = S.known input.new })
+        (K.known out.old) (K.known out.new) result.0 }
+{
+    match command {
+        Command::Init { name, uid, limit } => init(alloc, seed, name, uid, *limit, store, out),
+        _ => open_and_do(alloc, command, seed, store, input, out),
+    }
+}
+
+// Opens the store that is there, and does the command in it.
+fn open_and_do<T: Store, S: Source, K: Sink>(
+    alloc: Global,
+    command: &Command,
+    seed: u128,
+    store: T,
+    input: &mut S,
+    out: &mut K,
+) -> (Ended, T)
+    requires built { built command.now ≡ Ok tt }
+    requires opens { makes_store command.now ≡ false }
+    ensures { Carried command.now seed
+        (record { store = T.known store; input = S.known input.old })
+        (record { store = T.known result.1; input = S.known input.new })
+        (K.known out.old) (K.known out.new) result.0 }
+{
+    match store.open(alloc) {
+        Ok(opened) => do_in_opened(alloc, command, seed, opened, input, out),
+        Err((fault, store)) => (Err(Outcome::from(fault)), store),
+    }
+}
+
+// Does the command in an open store, and closes it.
+fn do_in_opened<T: Store, S: Source, K: Sink>(
+    alloc: Global,
+    command: &Command,
+    seed: u128,
+    opened: T::Opened,
+    input: &mut S,
+    out: &mut K,
+) -> (Ended, T)
+    requires built { built command.now ≡ Ok tt }
+    requires opens { makes_store command.now ≡ false }
+    requires open { T.Opened.Replica.is_open opened }
+    ensures { InStore command.now seed
+        (found_open (T.Opened.Replica.known opened))
+        (lists_of (T.Opened.Replica.known opened).state)
+        (opened_as (T.Opened.Replica.known opened) (T.Opened.Replica.crash opened))
+        (T.known result.1)
+        (S.known input.old) (S.known input.new) (K.known out.old) (K.known out.new) result.0 }
+{
+    let mut opened = opened;
+    let ended = do_command(alloc, command, seed, &mut opened, input, out);
+    (ended, T::close(opened))
+}

@@ -1,0 +1,63 @@
+//! The top call.
+ghost use Rattle.std.specs.Prelude.{◌≡◌};
+ghost use Rattle.command_lines.specs.LastLines.{last_line};
+ghost use Rattle.store_commands.specs.Complete.{RunsWhole};
+ghost use Rattle.store_commands.specs.Prints.{Prints, PutsWhole, outcome_of};
+
+use crate::carrying::carry_out;
+use crate::{Ended, Store};
+use cli_words::Command;
+use command_lines::{Outcome, PrintFault, print_last_line};
+use link::{Sink, Source};
+use std::alloc::Global;
+
+/// Does the command over the store, and prints its lines, or else why it gave no answer.
+///
+/// Ids are made of the seed. The store is handed back beside the outcome.
+pub fn run_over<T: Store, S: Source, K: Sink>(
+    alloc: Global,
+    command: &Command,
+    seed: u128,
+    store: T,
+    input: &mut S,
+    out: &mut K,
+) -> (Outcome, T)
+    ensures { RunsWhole command.now seed
+        (record { store = T.known store; input = S.known input.old })
+        (record { store = T.known result.1; input = S.known input.new })
+        (K.known out.old) (K.known out.new) result.0 }
+{
+    let (ended, store) = carry_out(alloc, command, seed, store, input, out);
+    (finish(ended, out), store)
+}
+
+/// Ends a run that came so far: prints the last line of its outcome, and hands on what the output
+/// holds back.
+pub fn finish<K: Sink>(ended: Ended, out: &mut K) -> Outcome
+    ensures { Prints (last_line (outcome_of ended)) (K.known out.old) (K.known out.new)
+        (outcome_of ended) result }
+{
+    let outcome = ended_as(ended);
+    match print_end(&outcome, out) {
+        Ok(()) => outcome,
+        Err(fault) => Outcome::from(fault),
+    }
+}
+
+fn ended_as(ended: Ended) -> Outcome
+    ensures { result ≡ outcome_of ended }
+{
+    match ended {
+        Ok(()) => Outcome::Done,
+        Err(outcome) => outcome,
+    }
+}
+
+// Prints the last line of the outcome, if it has one.
+fn print_end<K: Sink>(outcome: &Outcome, out: &mut K) -> Result<(), PrintFault>
+    ensures { PutsWhole (last_line outcome.now) (K.known out.old) (K.known out.new) result }
+{
+    print_last_line(out, outcome)?;
+    out.flush()?;
+    Ok(())
+}

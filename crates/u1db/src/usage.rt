@@ -1,0 +1,171 @@
+//! What is said where the words are no command: how they should be, and of a word that is refused
+//! what it has to be.
+use cli_words::operands_shown;
+use command_lines::UsageKind;
+use std::alloc::Global;
+use u1_base::{Memory, Text};
+
+/// The commands, in the order in which they are listed.
+const COMMANDS: [&str; 17] = [
+    "init",
+    "create",
+    "get",
+    "put",
+    "delete",
+    "all",
+    "changes",
+    "info",
+    "conflicts",
+    "resolve",
+    "resolve-deleted",
+    "index-create",
+    "index-list",
+    "index-delete",
+    "query",
+    "range",
+    "keys",
+];
+
+/// The usage of the command that the words name, or of all commands. For a word that is refused,
+/// that word comes first, and what it has to be.
+pub fn usage(alloc: Global, words: &[Text], kind: UsageKind) -> Result<String, Memory> {
+    let mut text = String::new(alloc);
+    if let UsageKind::Value(place) = kind {
+        push_refused(&mut text, words, place)?;
+    }
+    match words.get(1) {
+        Some(word) => push_usage(&mut text, word.as_str())?,
+        None => push_all(&mut text)?,
+    }
+    Ok(text)
+}
+
+fn push_usage(text: &mut String, command: &str) -> Result<(), Memory> {
+    match operands_shown(command) {
+        Some(shown) if is_listed(command) => {
+            text.push_str("usage: u1db DIR ")?;
+            push_line(text, command, shown)
+        }
+        _ => push_all(text),
+    }
+}
+
+fn is_listed(command: &str) -> bool {
+    COMMANDS.iter().any(|listed| *listed == command)
+}
+
+fn push_all(text: &mut String) -> Result<(), Memory> {
+    text.push_str("usage: u1db DIR COMMAND, with one of these commands:\n")?;
+    for command in COMMANDS {
+        if let Some(shown) = operands_shown(command) {
+            text.push_str("  ")?;
+            push_line(text, command, shown)?;
+        }
+    }
+    Ok(())
+}
+
+fn push_line(text: &mut String, command: &str, shown: &str) -> Result<(), Memory> {
+    text.push_str(command)?;
+    if !shown.is_empty() {
+        text.push_str(" ")?;
+        text.push_str(shown)?;
+    }
+    if reads_content(command) {
+        text.push_str("    with the content, a JSON object, on standard input")?;
+    }
+    text.push_str("\n")?;
+    Ok(())
+}
+
+fn reads_content(command: &str) -> bool {
+    command == "create" || command == "put" || command == "resolve"
+}
+
+// The word at the place, and what it has to be.
+fn push_refused(text: &mut String, words: &[Text], place: u64) -> Result<(), Memory> {
+    let Ok(place) = usize::try_from(place) else {
+        return Ok(());
+    };
+    let Some(word) = words.get(place) else {
+        return Ok(());
+    };
+    text.push_str("u1db: ")?;
+    text.push_str(word.as_str())?;
+    text.push_str(": ")?;
+    text.push_str(rule_of(operand_at(words, place)))?;
+    text.push_str("\n")?;
+    Ok(())
+}
+
+// The name of the operand that stands at the place, as the usage shows it.
+fn operand_at(words: &[Text], place: usize) -> &'static str {
+    let Some(command) = words.get(1) else {
+        return "";
+    };
+    match (operands_shown(command.as_str()), number_of(words, place)) {
+        (Some(shown), Some(number)) => named(shown, number),
+        (Some(_), None) => "N",
+        (None, _) => "",
+    }
+}
+
+// Which operand stands at the place, counted from 0; or none, where it is the value of an option.
+fn number_of(words: &[Text], place: usize) -> Option<usize> {
+    let mut number = 0_usize;
+    let mut is_ended = false;
+    let mut is_value = false;
+    for word in words.iter().take(place).skip(2) {
+        let word = word.as_str();
+        if !is_ended && word == "--" {
+            is_ended = true;
+        } else if !is_ended && word.len() > 1 && word.starts_with('-') {
+            is_value = word == "--limit";
+        } else if is_value {
+            is_value = false;
+        } else {
+            number = number.saturating_add(1);
+        }
+    }
+    if is_value || !is_ended && has_value(words, place) {
+        None
+    } else {
+        Some(number)
+    }
+}
+
+// Whether the word at the place is the option together with its value.
+fn has_value(words: &[Text], place: usize) -> bool {
+    match words.get(place) {
+        Some(word) => word.as_str().starts_with("--limit="),
+        None => false,
+    }
+}
+
+// The name at this number; the last one may stand for more operands.
+fn named(shown: &'static str, number: usize) -> &'static str {
+    let mut last = "";
+    for (place, name) in shown.split(' ').enumerate() {
+        if place <= number {
+            last = name;
+        }
+    }
+    last
+}
+
+// What a word has to be that stands for the operand of this name.
+fn rule_of(name: &str) -> &'static str {
+    match name {
+        "NAME" | "INDEX" => "a name has 1 to 64 letters, digits and . _ -",
+        "[UID]" => "a uid has 1 to 64 letters, digits and _ -",
+        "ID" | "[ID]" => "an id has 1 to 128 letters, digits and . _ - %",
+        "REV" | "[REV]" | "REV..." => {
+            "a revision is 1 to 64 times UID:COUNTER, sorted by UID and joined by |"
+        }
+        "N" => "a limit is a number of bytes from 1024 to 1099511627776",
+        "START" | "END" => "an end is open, or a JSON list of 1 to 8 strings",
+        "GENERATION" => "a generation is a number from 0 to 9223372036854775807",
+        "ADDRESS" => "an address is a URL as http://host:8080/db",
+        _ => "it is not a number within the limits",
+    }
+}
