@@ -11,6 +11,10 @@ pub record File : Type 0 where
 abbrev pub IsSettled : File → Type 0
 IsSettled file = file.now ≡ settled file.seen
 
+-- where the file was settled, it still is
+abbrev pub StaysSettled : File → File → Type 0
+StaysSettled old new = IsSettled old → IsSettled new
+
 -- the files that lie beside the one that calls go to: those before it, and those after it
 abbrev pub Beside : Type 0
 Beside = List File × List File

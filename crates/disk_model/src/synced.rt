@@ -3,7 +3,7 @@ ghost use Rattle.std.specs.Prelude.{◌≡◌, ◌+◌, ◌<◌, ◌≤◌, IsTr
 ghost use Rattle.std.specs.Prelude.{slice_index, take};
 ghost use Rattle.u1_base.specs.Causes.{HasCause, HasCauseOf};
 ghost use Rattle.disk_model.specs.Disk.{IsAny, IsCrashImage, Cut, Torn, overwritten};
-ghost use Rattle.disk_model.specs.Device.{IsSettled, file_of};
+ghost use Rattle.disk_model.specs.Device.{IsSettled, StaysSettled, file_of};
 ghost use Rattle.disk_model.specs.Front.{front_of};
 ghost use Rattle.disk_model.specs.Moments.{LeavesOnly};
 ghost use Rattle.disk_model.specs.Counts.{MakesCalls, called, pieces};
@@ -88,11 +88,14 @@ pub fn cut_write_synced<D: Disk>(disk: &mut D, bytes: &[u8]) -> Result<(), DiskF
     disk.sync()
 }
 
-/// Syncs, and then reads all that the disk holds.
+/// Syncs, and then reads all that the disk holds. A disk that was settled is so afterwards,
+/// whatever the answer is.
 pub fn read_synced<D: Disk>(alloc: Global, disk: &mut D) -> Result<Bytes, ReadFault>
     ensures bytes { IsTrue D.tells → IfOk result (λ bytes. bytes ≡ (D.known disk.old).seen) }
     ensures seen { IsTrue D.tells → (D.known disk.new).seen ≡ (D.known disk.old).seen }
     ensures durable { IsTrue D.tells → OnOk result (IsSettled (file_of (D.known disk.new))) }
+    ensures stays_settled { IsTrue D.tells
+        → StaysSettled (file_of (D.known disk.old)) (file_of (D.known disk.new)) }
     ensures beside { IsTrue D.tells → (D.known disk.new).beside ≡ (D.known disk.old).beside }
     ensures any_moment { IsTrue D.tells
         → LeavesOnly (D.known disk.old) (D.known disk.new) (IsCrashImage (D.known disk.old).now) }
@@ -152,6 +155,8 @@ pub fn front_synced<D: Disk>(disk: &mut D) -> Result<Option<Front>, DiskFailed>
         → IfOk result (λ front. front ≡ front_of (D.known disk.old).seen) }
     ensures seen { IsTrue D.tells → (D.known disk.new).seen ≡ (D.known disk.old).seen }
     ensures durable { IsTrue D.tells → OnOk result (IsSettled (file_of (D.known disk.new))) }
+    ensures stays_settled { IsTrue D.tells
+        → StaysSettled (file_of (D.known disk.old)) (file_of (D.known disk.new)) }
     ensures beside { IsTrue D.tells → (D.known disk.new).beside ≡ (D.known disk.old).beside }
     ensures any_moment { IsTrue D.tells
         → LeavesOnly (D.known disk.old) (D.known disk.new) (IsCrashImage (D.known disk.old).now) }
@@ -175,6 +180,8 @@ fn settled_length<D: Disk>(disk: &mut D) -> Result<u64, DiskFailed>
     ensures value { IsTrue D.tells → IfOk result (λ n. n ≡ length (D.known disk.old).seen) }
     ensures seen { IsTrue D.tells → (D.known disk.new).seen ≡ (D.known disk.old).seen }
     ensures durable { IsTrue D.tells → OnOk result (IsSettled (file_of (D.known disk.new))) }
+    ensures stays_settled { IsTrue D.tells
+        → StaysSettled (file_of (D.known disk.old)) (file_of (D.known disk.new)) }
     ensures beside { IsTrue D.tells → (D.known disk.new).beside ≡ (D.known disk.old).beside }
     ensures any_moment { IsTrue D.tells
         → LeavesOnly (D.known disk.old) (D.known disk.new) (IsCrashImage (D.known disk.old).now) }

@@ -3,7 +3,7 @@
 -- `old` is before they were turned, `mid` before the call, `new` after it.
 use Rattle.std.proofs.Common.{◌≡◌, ℕ, List, refl, sym, ◌∙◌, ap, subst}
 use Rattle.disk_model.specs.Disk.{IsCrashImage}
-use Rattle.disk_model.specs.Device.{File, Device, file_of}
+use Rattle.disk_model.specs.Device.{File, Device, IsSettled, StaysSettled, file_of}
 use Rattle.disk_model.specs.Moments.{LeavesOnly}
 use Rattle.disks.specs.declared.name.DiskName.{DiskName}
 use Rattle.disks.specs.declared.trio.Trio.{Trio}
@@ -43,6 +43,13 @@ module _ {D : Type 0} (known : D → Device) where
     pub file_after : (as_one new).beside ≡ (as_one mid).beside
         → file_of (as_one new) ≡ pick name (disks_known known new).files
     file_after kept = ap (λ (n : DiskName). pick n (disks_known known new).files) (still_turned kept)
+
+    -- a file that stays settled in the call does so on its disk
+    pub stays_settled : (as_one new).beside ≡ (as_one mid).beside
+        → StaysSettled (file_of (as_one mid)) (file_of (as_one new))
+        → StaysSettled (pick name (disks_known known old).files) (pick name (disks_known known new).files)
+    stays_settled kept stays before =
+        subst IsSettled (file_after kept) (stays (subst IsSettled (sym (file_before old mid name e)) before))
 
     pub leaves_joint : (P : List ℕ → Type 0) → LeavesOnly (as_one mid) (as_one new) P
         → LeavesTogether (disks_known known old) (disks_known known new)

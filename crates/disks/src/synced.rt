@@ -2,7 +2,7 @@
 ghost use Rattle.std.specs.Prelude.{◌≡◌, ◌≤◌, IsTrue, IfOk, OnOk, length};
 ghost use Rattle.u1_base.specs.Causes.{HasCause};
 ghost use Rattle.disk_model.specs.Disk.{IsCrashImage, Torn, overwritten};
-ghost use Rattle.disk_model.specs.Device.{IsSettled};
+ghost use Rattle.disk_model.specs.Device.{IsSettled, StaysSettled};
 ghost use Rattle.disk_model.specs.Front.{front_of};
 ghost use Rattle.disk_model.specs.Counts.{called};
 ghost use Rattle.disks.specs.Trio.{pick};
@@ -65,6 +65,9 @@ pub fn front_synced_on<D: Disk>(
         ≡ (pick name (disks_known D.known disks.old).files).seen }
     ensures durable { IsTrue D.tells
         → OnOk result (IsSettled (pick name (disks_known D.known disks.new).files)) }
+    ensures stays_settled { IsTrue D.tells
+        → StaysSettled (pick name (disks_known D.known disks.old).files)
+        (pick name (disks_known D.known disks.new).files) }
     ensures others { IsTrue D.tells
         → SameElsewhere name (disks_known D.known disks.old).files
         (disks_known D.known disks.new).files }

@@ -2,7 +2,7 @@
 ghost use Rattle.std.specs.Prelude.{◌≡◌, ℕ, ◌+◌, ◌≤◌, Err, IsTrue, IfOk, IsErrOf, List, length};
 ghost use Rattle.u1_base.specs.Causes.{HasCauseOf};
 ghost use Rattle.disk_model.specs.Disk.{IsCrashImage};
-ghost use Rattle.disk_model.specs.Device.{IsSettled, file_of};
+ghost use Rattle.disk_model.specs.Device.{IsSettled, StaysSettled, file_of};
 ghost use Rattle.disk_model.specs.Moments.{LeavesOnly};
 ghost use Rattle.disk_model.specs.Counts.{called, pieces};
 ghost use Rattle.journal.specs.Journal.{Holds};
@@ -63,6 +63,8 @@ pub fn open_image<D: Disk>(alloc: Global, disk: &mut D) -> Result<Opened, OpenFa
         (file_of (D.known disk.new))) }
     ensures damaged { IsTrue D.tells → (place : ℕ) → result ≡ Err (OpenFault.Damaged place)
         → IsSettled (file_of (D.known disk.new)) }
+    ensures stays_settled { IsTrue D.tells
+        → StaysSettled (file_of (D.known disk.old)) (file_of (D.known disk.new)) }
     ensures seen { IsTrue D.tells → (D.known disk.new).seen ≡ (D.known disk.old).seen }
     ensures beside { IsTrue D.tells → (D.known disk.new).beside ≡ (D.known disk.old).beside }
     ensures any_moment { IsTrue D.tells

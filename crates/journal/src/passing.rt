@@ -2,7 +2,7 @@
 ghost use Rattle.std.specs.Prelude.{◌≡◌, ◌+◌, ◌≤◌, ℕ, List, Err, IsTrue, IfOk, IsErrOf, length};
 ghost use Rattle.u1_base.specs.Causes.{HasCauseOf};
 ghost use Rattle.disk_model.specs.Disk.{IsCrashImage};
-ghost use Rattle.disk_model.specs.Device.{IsSettled, file_of};
+ghost use Rattle.disk_model.specs.Device.{IsSettled, StaysSettled, file_of};
 ghost use Rattle.disk_model.specs.Moments.{LeavesOnly};
 ghost use Rattle.disk_model.specs.Counts.{called, pieces};
 ghost use Rattle.journal.specs.Journal.{Holds};
@@ -123,7 +123,7 @@ impl Stored {
 /// Syncs the disk, reads it whole, and finds the image that stands there, or its damage.
 ///
 /// A crash on the way leaves no more than might have been left before. Where damage is found the
-/// disk is settled all the same.
+/// disk is settled all the same, and one that was settled stays so whatever the answer is.
 pub fn read_image<D: Disk>(alloc: Global, disk: &mut D) -> Result<Stored, OpenFault>
     ensures reads { (stored : List ℕ) × (IsTrue D.tells → stored ≡ (D.known disk.old).seen)
         × ReadsImage stored result }
@@ -131,6 +131,8 @@ pub fn read_image<D: Disk>(alloc: Global, disk: &mut D) -> Result<Stored, OpenFa
         Holds image.journal image.format image.header image.bodies (file_of (D.known disk.new))) }
     ensures damaged { IsTrue D.tells → (place : ℕ) → result ≡ Err (OpenFault.Damaged place)
         → IsSettled (file_of (D.known disk.new)) }
+    ensures stays_settled { IsTrue D.tells
+        → StaysSettled (file_of (D.known disk.old)) (file_of (D.known disk.new)) }
     ensures seen { IsTrue D.tells → (D.known disk.new).seen ≡ (D.known disk.old).seen }
     ensures beside { IsTrue D.tells → (D.known disk.new).beside ≡ (D.known disk.old).beside }
     ensures any_moment { IsTrue D.tells → LeavesOnly (D.known disk.old) (D.known disk.new)

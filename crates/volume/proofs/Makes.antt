@@ -138,7 +138,11 @@ makes_run head old mid new reads empty first then =
 
 -- no disk was called
 pub no_look : (old : Devices) → OnlyLooks old old
-no_look old = record { seen = refl; leaves = begins old (AreCrashImages (now_of old.files)) (λ images i. i) }
+no_look old = record {
+  seen = refl;
+  leaves = begins old (AreCrashImages (now_of old.files)) (λ images i. i);
+  settled = λ name before. before;
+}
 
 -- what the reads give now is one of what a crash now may leave
 pub left_now : {D : Type 0} (known : D → Device) (trio : Trio D) (head : Head)

@@ -2,7 +2,7 @@
 use Rattle.std.specs.Prelude.{IsTrue}
 use Rattle.std.proofs.Common.{◌≡◌, ◌≢◌, ⊎_elim, ℕ, ◌<◌, ◌≤◌, Bool, true, false, List, [], ◌∷◌, length, Some, None}
 use Rattle.std.proofs.Common.{Result, Ok, Err, IfOk, refl, sym, ◌∙◌, ap, subst, arith}
-use Rattle.disk_model.specs.Device.{File, IsSettled}
+use Rattle.disk_model.specs.Device.{File, IsSettled, StaysSettled}
 use Rattle.disk_model.specs.Front.{front_of}
 use Rattle.disk_model.specs.declared.synced.Front.{Front}
 use Rattle.disks.specs.declared.name.DiskName.{DiskName}
@@ -13,7 +13,7 @@ use Rattle.disks.specs.Joint.{AreCrashImages, Devices, seen_of, now_of}
 use Rattle.disks.specs.Moments.{LeavesTogether, SameElsewhere}
 use Rattle.disks.proofs.Trios.{pick_each, is_or_not, same_trio}
 use Rattle.disks.proofs.Runs.{narrows}
-use Rattle.journal.specs.Image.{Head}
+use Rattle.journal.specs.Image.{Head, ReadsAs}
 use Rattle.journal.specs.Journal.{Extent, Holds}
 use Rattle.volume.specs.Store.{chosen, Names, IsStore}
 use Rattle.volume.specs.Store.Found.{Damaged}
@@ -37,11 +37,25 @@ same_reads name old new one rest =
     (is_or_not n name)
     ∙ sym (pick_each (λ (f : File). f.seen) n old))
 
+-- where one disk stays settled and the others are what they were, all three stay settled
+pub all_settled : (name : DiskName) (old new : Trio File) → StaysSettled (pick name old) (pick name new)
+    → SameElsewhere name old new → (other : DiskName) → StaysSettled (pick other old) (pick other new)
+all_settled name old new one rest other settled =
+    ⊎_elim
+    (λ is. subst (λ (n : DiskName). IsSettled (pick n new)) (sym is)
+    (one (subst (λ (n : DiskName). IsSettled (pick n old)) is settled)))
+    (λ ne. subst IsSettled (sym (rest other ne)) settled)
+    (is_or_not other name)
+
 -- one look
 pub looks : (name : DiskName) (old new : Devices) → (pick name new.files).seen ≡ (pick name old.files).seen
-    → SameElsewhere name old.files new.files
+    → StaysSettled (pick name old.files) (pick name new.files) → SameElsewhere name old.files new.files
     → LeavesTogether old new (AreCrashImages (now_of old.files)) → OnlyLooks old new
-looks name old new one rest run = record { seen = same_reads name old.files new.files one rest; leaves = run }
+looks name old new one settled rest run = record {
+  seen = same_reads name old.files new.files one rest;
+  leaves = run;
+  settled = all_settled name old.files new.files settled rest;
+}
 
 -- where all three read as before, one does
 pub one_read : (name : DiskName) (old new : Trio File) → seen_of new ≡ seen_of old
@@ -54,6 +68,7 @@ pub looks_on : (old mid new : Devices) → OnlyLooks old mid → OnlyLooks mid n
 looks_on old mid new first then = record {
   seen = then.seen ∙ first.seen;
   leaves = narrows old mid new first.leaves then.leaves;
+  settled = λ name before. then.settled name (first.settled name before);
 }
 
 -- how a file that is not empty begins
@@ -172,3 +187,24 @@ opened_store journal side format head bodies mid new ne n same h = record {
   names = still_names side side mid new same (not_root side ne) n;
   image = h;
 }
+
+-- what stood before some looks still stands after them
+pub still_stands : (journal : Extent) (side : DiskName) (format : ℕ) (head : Head) (bodies : List (List ℕ))
+    (old new : Devices) → OnlyLooks old new
+    → IsStore journal side format head bodies old.files → IsStore journal side format head bodies new.files
+still_stands journal side format head bodies old new looks store =
+    let reads = λ (name : DiskName). one_read name old.files new.files looks.seen
+    ∙ pick_each (λ (f : File). f.seen) name old.files in
+    record {
+      names = record {
+        byte = store.names.byte;
+        lowest = store.names.lowest;
+        seen = reads Root ∙ store.names.seen;
+        durable = looks.settled Root store.names.durable;
+      };
+      image = record {
+        reads = subst (ReadsAs format head bodies) (sym (reads side)) store.image.reads;
+        extent = store.image.extent;
+        durable = looks.settled side store.image.durable;
+      };
+    }

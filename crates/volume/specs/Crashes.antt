@@ -1,9 +1,10 @@
 -- What a crash leaves of a store, by what is found of it then.
 use Rattle.std.specs.Prelude.{◌≡◌, ◌≢◌, ◌⊎◌, ℕ, List, [], ◌∷◌, ◌++◌}
-use Rattle.disk_model.specs.Device.{File}
+use Rattle.disk_model.specs.Device.{File, StaysSettled}
 use Rattle.disks.specs.declared.name.DiskName.{DiskName}
 use Rattle.disks.specs.declared.name.DiskName.TheVariants.{Left, Right}
 use Rattle.disks.specs.declared.trio.Trio.{Trio}
+use Rattle.disks.specs.Trio.{pick}
 use Rattle.disks.specs.Joint.{JointMoment, AreCrashImages, Devices, seen_of, now_of}
 use Rattle.disks.specs.Moments.{LeavesTogether}
 use Rattle.journal.specs.Image.{Head}
@@ -12,10 +13,12 @@ use Rattle.journal.specs.Spelled.{Spelled, Spells}
 use Rattle.volume.specs.Store.{Found, found_of, IsStore}
 use Rattle.volume.specs.Store.Found.{Blank, Stands}
 
--- nothing was written: the reads give what they gave, and a crash on the way leaves no more than one at the start might
+-- Nothing was written: the reads give what they gave, a crash on the way leaves no more than one at the start might,
+-- and each file that was settled still is.
 pub record OnlyLooks (old new : Devices) : Type 0 where
   pub seen : seen_of new.files ≡ seen_of old.files
   pub leaves : LeavesTogether old new (AreCrashImages (now_of old.files))
+  pub settled : (name : DiskName) → StaysSettled (pick name old.files) (pick name new.files)
 
 -- this might be found after a crash at this moment
 abbrev pub MayFind : JointMoment → Found → Type 0

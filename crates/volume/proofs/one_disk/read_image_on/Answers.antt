@@ -2,7 +2,7 @@
 use Rattle.std.proofs.Common.{◌∙◌, sym, ap}
 use Rattle.disk_model.specs.Device.{File}
 use Rattle.disks.specs.Disks.{disks_known}
-use Rattle.disks.proofs.Turned.{file_before, file_after, leaves_joint_images, same_elsewhere}
+use Rattle.disks.proofs.Turned.{file_before, file_after, leaves_joint_images, same_elsewhere, stays_settled}
 use Rattle.volume.proofs.Opens.{looks}
 use Rattle.volume.proofs.one_disk.read_image_on.Goals as goal
 
@@ -23,5 +23,6 @@ returns-clause-looks g c t =
     looks name (disks_known known old) (disks_known known new)
     (ap (λ (f : File). f.seen) (sym (file_after known old mid new name turned kept)) ∙ c.read_image.ensures.seen t
     ∙ ap (λ (f : File). f.seen) (file_before known old mid name turned))
+    (stays_settled known old mid new name turned kept (c.read_image.ensures.stays_settled t))
     (same_elsewhere known old mid new name turned kept)
     (leaves_joint_images known old mid new name turned (c.read_image.ensures.any_moment t))

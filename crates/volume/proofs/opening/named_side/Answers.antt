@@ -17,7 +17,7 @@ pub returns-in_err-front_synced_on-clause-looks : goal.returns-in_err-front_sync
 returns-in_err-front_synced_on-clause-looks g c t =
     let known = g.D.Disk.known in let looked = c.in_err-front_synced_on.ensures in
     looks Root (disks_known known c.args.disks.now) (disks_known known c.front_synced_on.new.disks) (looked.seen t)
-    (looked.others t) (looked.any_moment t)
+    (looked.stays_settled t) (looked.others t) (looked.any_moment t)
 
 pub returns-in-None-clause-reads : goal.returns-in-None-clause-reads
 returns-in-None-clause-reads g c =
@@ -29,7 +29,7 @@ pub returns-in-None-clause-looks : goal.returns-in-None-clause-looks
 returns-in-None-clause-looks g c t =
     let known = g.D.Disk.known in let looked = c.in_ok-front_synced_on.ensures in
     looks Root (disks_known known c.args.disks.now) (disks_known known c.front_synced_on.new.disks) (looked.seen t)
-    (looked.others t) (looked.any_moment t)
+    (looked.stays_settled t) (looked.others t) (looked.any_moment t)
 
 pub returns-in-Some-clause-reads : goal.returns-in-Some-clause-reads
 returns-in-Some-clause-reads g c =
@@ -55,4 +55,4 @@ pub returns-in-Some-clause-looks : goal.returns-in-Some-clause-looks
 returns-in-Some-clause-looks g c t =
     let known = g.D.Disk.known in let looked = c.in_ok-front_synced_on.ensures in
     looks Root (disks_known known c.args.disks.now) (disks_known known c.front_synced_on.new.disks) (looked.seen t)
-    (looked.others t) (looked.any_moment t)
+    (looked.stays_settled t) (looked.others t) (looked.any_moment t)
