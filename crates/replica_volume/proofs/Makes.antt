@@ -64,8 +64,8 @@ made_volume tells known head v stands side ready uids state = record {
 pub nothing_written : (old : Devices) → OnlyLooks old old
 nothing_written old = record {
   seen = refl;
-  leaves =
-      begins old (AreCrashImages (now_of old.files)) (λ files images. images);
+  leaves = begins old (AreCrashImages (now_of old.files)) (λ files images. images);
+  settled = λ name before. before;
 }
 
 pub still_blank : (head : Head) (old : Devices) → old.files.root.seen ≡ []
