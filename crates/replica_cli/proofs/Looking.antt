@@ -114,4 +114,8 @@ finds_some tells old new looks faults =
 
 -- nothing was called
 pub no_call : (d : Devices) → OnlyLooks d d
-no_call d = record { seen = refl; leaves = begins d (AreCrashImages (now_of d.files)) (λ images i. i) }
+no_call d = record {
+  seen = refl;
+  leaves = begins d (AreCrashImages (now_of d.files)) (λ images i. i);
+  settled = λ name before. before;
+}
