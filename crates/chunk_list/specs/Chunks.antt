@@ -7,7 +7,7 @@ use Rattle.std.specs.Vec.{vec_items}
 
 -- so many items fill a chunk
 abbrev pub full : ℕ
-full = 256
+full = 512
 
 -- where the k-th piece begins in the whole
 abbrev pub start_at : {X T : Type 0} → (X → List T) → List X → ℕ → ℕ

@@ -18,7 +18,7 @@ use std::sync::ledger::{Blank, Ledger};
 use u1_base::{Memory, Steps};
 
 // A chunk holds so many items at most, and has memory for one more.
-pub(crate) const CHUNK: usize = 256;
+pub(crate) const CHUNK: usize = 512;
 
 // A list in so many chunks has a spare one besides, so that a full one can be cut in two.
 const MANY: usize = 16;
