@@ -4,7 +4,8 @@
 use crate::checks::{Stored, are, ended, same};
 use crate::crashes::leaves;
 use crate::harness::{BLANK, Failing, Files, Ran, run_on};
-use crate::images::{on_the_left, prepared};
+use crate::images::{CREATED, REPLACED, image, on_the_left, prepared};
+use crate::order::former;
 use crate::table::{COMMANDS, Command, INIT};
 use command_lines::Outcome;
 use disks::{DiskName, Disks};
@@ -45,6 +46,41 @@ fn each_device_call_fails_in_turn(rt: HostRuntime) {
     let alloc = rt.alloc();
     assert!(rt; fails_in_turn(alloc, BLANK, &INIT));
     assert_eq!(rt; commands_fail_in_turn(alloc), None);
+}
+
+// Over an image of the first format, which is moved on the way.
+const ASKED: Command = Command {
+    words: "get d1",
+    input: b"",
+    printed: "d1 a:1 - {\"a\":\"x\",\"b\":1}\n",
+    question: "get d1",
+};
+
+// The image of a document that was put: the first acceptance is left out.
+const COMPACTED: Command = Command {
+    words: "compact",
+    input: b"",
+    printed: "compacted 196 157\n",
+    question: "get d1",
+};
+
+#[test]
+fn each_device_call_of_a_move_fails_in_turn(rt: HostRuntime) {
+    let alloc = rt.alloc();
+    assert!(rt; fails_over(alloc, former(alloc), &ASKED));
+}
+
+#[test]
+fn each_device_call_of_a_compaction_fails_in_turn(rt: HostRuntime) {
+    let alloc = rt.alloc();
+    assert!(rt; fails_over(alloc, image(alloc, &[CREATED, REPLACED]), &COMPACTED));
+}
+
+fn fails_over(alloc: Global, left: Result<Bytes, Memory>, command: &Command) -> bool {
+    match left {
+        Ok(left) => fails_in_turn(alloc, on_the_left(left.as_slice()), command),
+        Err(_) => false,
+    }
 }
 
 // The number of the first command that does not end as it should.

@@ -1,6 +1,6 @@
 //! Which refusal comes, where there are causes for several: the words, the store, the input, the
 //! command, the limit.
-use crate::checks::{Row, fails_at, prints, refuses, story_fails_at};
+use crate::checks::{Row, ended, fails_at, prints, refuses, same, story_fails_at};
 use crate::harness::{BLANK, Failing, Files, bytes_of, run_on};
 use crate::images::{CREATED, HEADER, image, on_the_left};
 use std::alloc::Global;
@@ -27,10 +27,11 @@ const WRONG: [Row; 16] = [
 ];
 
 // Each is refused by the first cause, though there are others.
-const OVER_NO_STORE: [Row; 4] = [
+const OVER_NO_STORE: [Row; 5] = [
     ("create a~b", b"[]", "usage 2\n", 2),
     ("create d1", b"[]", "refused no-database\n", 1),
     ("index-create i lower(", b"", "refused no-database\n", 1),
+    ("compact", b"", "refused no-database\n", 1),
     ("sync http://host/db", b"", "refused not-built\n", 1),
 ];
 
@@ -38,7 +39,7 @@ const OVER_A_DAMAGED_ONE: [Row; 4] = [
     ("create a~b", b"[]", "usage 2\n", 2),
     ("create d1", b"[]", "damaged left 24\n", 3),
     ("init db a", b"", "refused database-exists\n", 1),
-    ("compact", b"", "refused not-built\n", 1),
+    ("compact", b"", "damaged left 24\n", 3),
 ];
 
 const OVER_A_STORE: [Row; 6] = [
@@ -262,8 +263,8 @@ const ENTRY_OF_FORMAT_1: &[u8] =
     b"\x01\0\0\0I\x01\0\x02d1\0\x03a:1\0\0\0\0\0\x01\x01\0\0\0\x0f{\"a\":\"x\",\
         \"b\":1}\0\"T-a12aa9bff3485ffcbd67876eea76a865\0\0";
 
-// The worked image of format 1.
-fn former(alloc: Global) -> Result<Bytes, Memory> {
+/// The worked image of format 1.
+pub fn former(alloc: Global) -> Result<Bytes, Memory> {
     let mut image = bytes_of(alloc, &HEADER[..7])?;
     image.push(1)?;
     image.extend(&HEADER[8..])?;
@@ -271,18 +272,52 @@ fn former(alloc: Global) -> Result<Bytes, Memory> {
     Ok(image)
 }
 
-fn former_is_refused(alloc: Global) -> bool {
+// Whether the command prints this over the image of format 1, and then the root names the same
+// image in format 2 on the other side.
+fn moves(alloc: Global, former: &[u8], row: Row) -> bool {
+    match run_on(alloc, row.0, on_the_left(former), row.1, Failing::Nothing) {
+        Ok(ran) => ended(&ran, row.2, row.3) && is_moved(alloc, former, ran.files()),
+        Err(_) => false,
+    }
+}
+
+fn is_moved(alloc: Global, former: &[u8], files: Files<'_>) -> bool {
+    match image(alloc, &[CREATED]) {
+        Ok(right) => same(
+            files,
+            Files {
+                root: b"\x01",
+                left: former,
+                right: right.as_slice(),
+            },
+        ),
+        Err(_) => false,
+    }
+}
+
+// Whether the rows move it, and `init` leaves it alone.
+fn former_is_moved(alloc: Global) -> bool {
     match former(alloc) {
         Ok(left) => {
-            left.len() == 102 && asks_over(alloc, left.as_slice(), "refused not-built\n", 1)
+            let left = left.as_slice();
+            let init = ("init db a", b"".as_slice(), "refused database-exists\n", 1);
+            let document = "d1 a:1 - {\"a\":\"x\",\"b\":1}\n";
+            left.len() == 102
+                && moves(alloc, left, ("get d1", b"", document, 0))
+                && moves(
+                    alloc,
+                    left,
+                    ("create d1", b"[]", "bad-content not-object\n", 1),
+                )
+                && refuses(alloc, on_the_left(left), init)
         }
         Err(_) => false,
     }
 }
 
 #[test]
-fn an_image_of_the_first_format_is_not_read_yet(rt: HostRuntime) {
-    assert!(rt; former_is_refused(rt.alloc()));
+fn an_image_of_the_first_format_is_moved(rt: HostRuntime) {
+    assert!(rt; former_is_moved(rt.alloc()));
 }
 
 fn asks_by_root(alloc: Global, root: &[u8], printed: &'static str, status: u8) -> bool {

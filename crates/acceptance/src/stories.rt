@@ -36,7 +36,24 @@ const EDITS: &[Row] = &[
         "replica a\ndatabase db\ngeneration 2 T-98057cb70a845067a81e0635ab0cbc89\n",
         0,
     ),
-    ("compact", b"", "refused not-built\n", 1),
+    ("compact", b"", "compacted 196 157\n", 0),
+    ("get d1", b"", "d1 a:2 - {}\n", 0),
+    (
+        "changes 0",
+        b"",
+        "generation 2 T-98057cb70a845067a81e0635ab0cbc89\n\
+            d1 2 T-98057cb70a845067a81e0635ab0cbc89\n",
+        0,
+    ),
+    (
+        "info",
+        b"",
+        "replica a\ndatabase db\ngeneration 2 T-98057cb70a845067a81e0635ab0cbc89\n",
+        0,
+    ),
+    ("compact", b"", "compacted 157 157\n", 0),
+    ("put d1 a:2", b"{\"a\":1}", "d1 a:3\n", 0),
+    ("get d1", b"", "d1 a:3 - {\"a\":1}\n", 0),
 ];
 
 // One is deleted, and made again.

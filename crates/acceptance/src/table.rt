@@ -21,7 +21,7 @@ pub const INIT: Command = Command {
 };
 
 /// Over the prepared store.
-pub const COMMANDS: [Command; 18] = [
+pub const COMMANDS: [Command; 19] = [
     Command {
         words: "create d9",
         input: b"{}",
@@ -136,6 +136,12 @@ pub const COMMANDS: [Command; 18] = [
         words: "get d9",
         input: b"",
         printed: "none\n",
+        question: ALL,
+    },
+    Command {
+        words: "compact",
+        input: b"",
+        printed: "compacted 414 414\n",
         question: ALL,
     },
 ];

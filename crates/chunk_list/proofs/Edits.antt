@@ -1,6 +1,6 @@
 -- One chunk changed among those that were laid out.
-use Rattle.std.proofs.Common.{◌≡◌, ℕ, ◌+◌, ◌<◌, ◌≤◌, List, ◌++◌, length, get_or, set, refl, sym, subst, ◌∙◌, ap, arith}
-use Rattle.std.proofs.Common.{inl, inr, get_or-set_same, get_or-set_other}
+use Rattle.std.proofs.Common.{◌≡◌, ℕ, ◌+◌, ◌*◌, ◌/◌, ◌<◌, ◌≤◌, List, ◌++◌, length, get_or, set, refl, sym, subst}
+use Rattle.std.proofs.Common.{◌∙◌, ap, arith, inl, inr, get_or-set_same, get_or-set_other}
 use Rattle.std.proofs.lemmas.Bool.{cases_lt, cases_eq}
 use Rattle.std.proofs.lemmas.List.{get_or_read, length-set, set-append_left, set-append_right}
 use Rattle.std.proofs.lemmas.List.Concat.{get_or-flat_map}
@@ -10,7 +10,9 @@ use Rattle.std.proofs.lemmas.List.Edits.{remove-append_right}
 use Rattle.std.specs.Global.{Vec}
 use Rattle.std.specs.Vec.{vec_items, vec_len, vec_capacity}
 use Rattle.std.specs.List.{insert, remove}
-use Rattle.chunk_list.specs.Chunks.{joined, full, AreChunks, AreChunksBut, AreLaidOut, AreStarts, IsAt, IsHeld, IsWide}
+use Rattle.chunk_list.specs.Chunks.{begin_of, block, full, joined, start_at, AreChunks, AreChunksBut, AreLaidOut}
+use Rattle.chunk_list.specs.Chunks.{AreStarts, IsAt, IsHeld, IsWide}
+use Rattle.chunk_list.proofs.Blocks.{block_behind, block_below}
 use Rattle.chunk_list.proofs.Pieces.{start_at-set_low, start_at-set_high, edit-joined}
 
 -- the chunk that was left out is like the others
@@ -25,22 +27,22 @@ settled chunks at b here = record {
 }
 
 -- the content of the chunk that a place falls into becomes another one in the same memory
-pub record IsEdit {T : Type 0} (chunks : List (Vec T)) (starts : List ℕ) (p i inside : ℕ)
+pub record IsEdit {T : Type 0} (chunks : List (Vec T)) (inner bases : List ℕ) (p i inside : ℕ)
     (old new : Vec T) : Type 0 where
-  pub laid_out : AreLaidOut chunks starts
+  pub laid_out : AreLaidOut chunks inner bases
   pub is_at : IsAt chunks p i inside
   pub old_is : old ≡ get_or chunks i old
   pub capacity : vec_capacity new ≡ vec_capacity old
 
-pub edit : {T : Type 0} {chunks : List (Vec T)} {starts : List ℕ} {p i inside : ℕ} {old : Vec T} (new : Vec T)
-    → AreLaidOut chunks starts → IsAt chunks p i inside
-    → old ≡ get_or chunks i old → vec_capacity new ≡ vec_capacity old → IsEdit chunks starts p i inside old new
+pub edit : {T : Type 0} {chunks : List (Vec T)} {inner bases : List ℕ} {p i inside : ℕ} {old : Vec T} (new : Vec T)
+    → AreLaidOut chunks inner bases → IsAt chunks p i inside
+    → old ≡ get_or chunks i old → vec_capacity new ≡ vec_capacity old → IsEdit chunks inner bases p i inside old new
 edit new laid_out is_at old_is capacity =
     record { laid_out = laid_out; is_at = is_at; old_is = old_is; capacity = capacity }
 
-module _ {T : Type 0} {chunks : List (Vec T)} {starts : List ℕ} {p i inside : ℕ} {old new : Vec T}
-    (e : IsEdit chunks starts p i inside old new) where
-  l : AreLaidOut chunks starts
+module _ {T : Type 0} {chunks : List (Vec T)} {inner bases : List ℕ} {p i inside : ℕ} {old new : Vec T}
+    (e : IsEdit chunks inner bases p i inside old new) where
+  l : AreLaidOut chunks inner bases
   l = e.laid_out
 
   there : i < length chunks
@@ -66,27 +68,46 @@ module _ {T : Type 0} {chunks : List (Vec T)} {starts : List ℕ} {p i inside : 
   }
 
   -- the later starts move as far as the chunk is longer or shorter
-  pub starts_with : (to : List ℕ) → length to ≡ length starts → ((k : ℕ) → k ≤ i → get_or to k 0 ≡ get_or starts k 0)
-      → ((k : ℕ) → i < k → k < length starts → get_or to k 0 + vec_len old ≡ get_or starts k 0 + vec_len new)
-      → AreStarts (set chunks i new) to
-  starts_with to long low high = record {
-    as_many = omega (arith, long, l.starts_are.as_many, length-set chunks i new);
-    begins = λ k lt.
-        let in_old : k < length chunks = omega (arith, length-set chunks i new) in
-        elim (cases_lt i k) [
-          | inl gt ↦
-              omega (
-                arith,
-                high k gt (omega (arith, l.starts_are.as_many)),
-                l.starts_are.begins k in_old,
-                new.ok.0,
-                old.ok.0,
-                ap length same_items,
-                start_at-set_high vec_items chunks i k new old there gt,
-              )
-          | inr at ↦ low k at ∙ l.starts_are.begins k in_old ∙ sym (start_at-set_low vec_items chunks i k new at)
-        ];
-  }
+  module _ (to to_bases : List ℕ) where
+    -- a chunk at `k`, or a block that would begin there, begins where it did, or that much later
+    later_start : (k was now : ℕ) → was ≡ start_at vec_items chunks k → (k ≤ i → now ≡ was)
+        → (i < k → now + vec_len old ≡ was + vec_len new) → now ≡ start_at vec_items (set chunks i new) k
+    later_start k was now is low high = elim (cases_lt i k) [
+      | inl gt ↦
+          omega (
+            arith,
+            high gt,
+            is,
+            new.ok.0,
+            old.ok.0,
+            ap length same_items,
+            start_at-set_high vec_items chunks i k new old there gt,
+          )
+      | inr at ↦ low at ∙ is ∙ sym (start_at-set_low vec_items chunks i k new at)
+    ]
+
+    pub starts_with : length to ≡ length inner → length to_bases ≡ length bases
+        → ((k : ℕ) → k ≤ i → begin_of to to_bases k ≡ begin_of inner bases k)
+        → ((k : ℕ) → i < k → k < length inner → begin_of to to_bases k + vec_len old ≡ begin_of inner bases k + vec_len new)
+        → ((b : ℕ) → b ≤ i / block → get_or to_bases b 0 ≡ get_or bases b 0)
+        → ((b : ℕ) → i / block < b → b < length bases → get_or to_bases b 0 + vec_len old ≡ get_or bases b 0 + vec_len new)
+        → AreStarts (set chunks i new) to to_bases
+    starts_with long blocks low high blocks_low blocks_high =
+        let s = l.starts_are in
+        let same : length (set chunks i new) ≡ length chunks = length-set chunks i new in
+        record {
+          as_many = omega (arith, long, s.as_many, same);
+          enough = omega (arith, blocks, s.enough, same);
+          no_more = omega (arith, blocks, s.no_more, same);
+          begins = λ k lt.
+              let in_old : k < length chunks = omega (arith, same) in
+              later_start k (begin_of inner bases k) (begin_of to to_bases k) (s.begins k in_old) (low k)
+              (λ gt. high k gt (omega (arith, s.as_many)));
+          blocks = λ b lt.
+              let in_old : b < length bases = omega (arith, blocks) in
+              later_start (b * block) (get_or bases b 0) (get_or to_bases b 0) (s.blocks b in_old)
+              (λ le. blocks_low b (block_below i b le)) (λ gt. blocks_high b (block_behind i b gt) in_old);
+        }
 
   -- an edit of the chunk is that edit of the list
   edited_joined : (E : List T → ℕ → List T) (W : ℕ → ℕ → Type 0)

@@ -2,13 +2,13 @@
 use Rattle.std.proofs.Common.{◌≡◌, ℕ, ◌+◌, ◌-◌, ◌<◌, ◌≤◌, List, length, get_or, sym, subst, ◌∙◌, ap, arith, min, inl}
 use Rattle.std.proofs.Common.{inr}
 use Rattle.std.proofs.lemmas.Bool.{cases_lt}
-use Rattle.std.proofs.lemmas.List.{get_or_default, get_or_read}
+use Rattle.std.proofs.lemmas.List.{get_or_default}
 use Rattle.std.proofs.lemmas.List.Concat.{get_or-flat_map}
 use Rattle.std.proofs.lemmas.List.Folds.{length-flat_map-take}
 use Rattle.std.specs.Global.{Vec}
 use Rattle.std.specs.Vec.{vec_items, vec_len}
 use Rattle.std.specs.List.{HoldsAt}
-use Rattle.chunk_list.specs.Chunks.{start_at, joined, AreLaidOut}
+use Rattle.chunk_list.specs.Chunks.{begin_of, start_at, joined, AreLaidOut}
 use Rattle.chunk_list.proofs.Pieces.{start_at-end, start_at-next}
 
 -- what holds at a place of a chunk holds there in the list
@@ -21,21 +21,20 @@ holds_joined chunks P i j c within is inside holds = λ d.
     ∙ sym (get_or-flat_map vec_items chunks i j c d within fits)) (holds d)
 
 -- a search ended at a place r of a chunk, of which the first `known` items pass
-pub record IsSearched {T : Type 0} (chunks : List (Vec T)) (starts : List ℕ) (at start r known : ℕ)
-    (c : Vec T) : Type 0 where
-  pub laid_out : AreLaidOut chunks starts
+pub record IsSearched {T : Type 0} (chunks : List (Vec T)) (inside bases : List ℕ)
+    (at start r known : ℕ) (c : Vec T) : Type 0 where
+  pub laid_out : AreLaidOut chunks inside bases
   pub within : at < length chunks
-  pub start_is : start ≡ get_or starts at start
+  pub start_is : start ≡ begin_of inside bases at
   pub is : c ≡ get_or chunks at c
   pub known_is : known ≡ min at 1
   pub low : known ≤ r
   pub high : r ≤ vec_len c
 
-module _ {T : Type 0} {chunks : List (Vec T)} {starts : List ℕ} {at start r known : ℕ} {c : Vec T}
-    (s : IsSearched chunks starts at start r known c) where
+module _ {T : Type 0} {chunks : List (Vec T)} {inside bases : List ℕ} {at start r known : ℕ}
+    {c : Vec T} (s : IsSearched chunks inside bases at start r known c) where
   pub begin_is : start ≡ start_at vec_items chunks at
-  begin_is = get_or_read starts at start (omega (arith, s.within, s.laid_out.starts_are.as_many)) s.start_is 0
-      ∙ s.laid_out.starts_are.begins at s.within
+  begin_is = s.start_is ∙ s.laid_out.starts_are.begins at s.within
 
   same_len : vec_len c ≡ length (vec_items (get_or chunks at c))
   same_len = ap vec_len s.is ∙ (get_or chunks at c).ok.0

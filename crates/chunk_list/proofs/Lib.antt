@@ -1,3 +1,5 @@
+pub mod Blocks
+pub mod Counting
 pub mod Edits
 pub mod Found
 pub mod Given

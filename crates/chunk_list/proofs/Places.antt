@@ -2,14 +2,13 @@
 use Rattle.std.proofs.Common.{◌≡◌, ℕ, ◌+◌, ◌-◌, ◌<◌, ◌≤◌, ◌⊎◌, List, [], ◌∷◌, length, get_or, refl, sym, ◌∙◌, ap, arith}
 use Rattle.std.proofs.Common.{inl, inr}
 use Rattle.std.proofs.lemmas.Bool.{cases_lt}
-use Rattle.std.proofs.lemmas.List.{get_or_read}
 use Rattle.std.proofs.lemmas.List.Concat.{get_or-flat_map}
 use Rattle.std.proofs.lemmas.List.Folds.{length-flat_map-take}
 use Rattle.std.proofs.lemmas.Option.{slice_get_read}
 use Rattle.std.specs.Global.{Vec}
 use Rattle.std.specs.Vec.{vec_items, vec_len}
 use Rattle.std.specs.Prelude.{slice_get, Some}
-use Rattle.chunk_list.specs.Chunks.{start_at, joined, AreStarts, IsAt}
+use Rattle.chunk_list.specs.Chunks.{start_at, joined, IsAt}
 use Rattle.chunk_list.proofs.Pieces.{start_at-next, start_at-end}
 
 -- an item of a chunk is one of the list
@@ -30,18 +29,16 @@ some_chunk [] some = some
 some_chunk (c ∷ chunks) some = omega arith
 
 -- a place from the start of a chunk on, and before the start of the next one
-pub is_at : {T : Type 0} (chunks : List (Vec T)) (starts : List ℕ) (at start place : ℕ) → AreStarts chunks starts
-    → at < length chunks → start ≡ get_or starts at start → start ≤ place
-    → (at + 1 < length chunks → place < get_or starts (at + 1) 0) → place ≤ length (joined chunks)
+pub is_at : {T : Type 0} (chunks : List (Vec T)) (at start place : ℕ) → at < length chunks
+    → start ≡ start_at vec_items chunks at → start ≤ place
+    → (at + 1 < length chunks → place < start_at vec_items chunks (at + 1)) → place ≤ length (joined chunks)
     → IsAt chunks place at (place - start)
-is_at chunks starts at start place s within start_is low high le =
-    let begin : start ≡ start_at vec_items chunks at =
-    get_or_read starts at start (omega (arith, s.as_many)) start_is 0 ∙ s.begins at within in
+is_at chunks at start place within begin low high le =
     let ends : (d : Vec _) → start_at vec_items chunks (at + 1) ≡ start + vec_len (get_or chunks at d) =
     λ d. omega (arith, begin, start_at-next vec_items chunks at d within, (get_or chunks at d).ok.0) in
     let behind : (d : Vec _) → (place < start + vec_len (get_or chunks at d))
     ⊎ (start + vec_len (get_or chunks at d) ≡ length (joined chunks)) = λ d. elim (cases_lt (at + 1) (length chunks)) [
-      | inl more ↦ inl (omega (arith, ends d, s.begins (at + 1) more, high more))
+      | inl more ↦ inl (omega (arith, ends d, high more))
       | inr last ↦ inr (omega (arith, ends d, start_at-end vec_items chunks (at + 1) (omega (arith, within))))
     ] in
     record {

@@ -1,6 +1,6 @@
 -- A chunk cut in two, an empty chunk taken out, and items given to a chunk beside.
-use Rattle.std.proofs.Common.{◌≡◌, ℕ, ◌+◌, ◌-◌, ◌<◌, ◌≤◌, List, [], ◌∷◌, ◌++◌, length, get_or, set, take, drop, suc}
-use Rattle.std.proofs.Common.{refl, sym, subst, ◌∙◌, ap, arith, inl, inr, get_or-set_same, get_or-set_other}
+use Rattle.std.proofs.Common.{◌≡◌, ℕ, ◌+◌, ◌*◌, ◌-◌, ◌<◌, ◌≤◌, List, [], ◌∷◌, ◌++◌, length, get_or, set, take, drop}
+use Rattle.std.proofs.Common.{suc, refl, sym, subst, ◌∙◌, ap, arith, inl, inr, get_or-set_same, get_or-set_other}
 use Rattle.std.proofs.lemmas.Bool.{cases_lt, cases_eq}
 use Rattle.std.proofs.lemmas.List.{length-set, nil_from_length}
 use Rattle.std.proofs.lemmas.List.Edits.{length-insert, get_or-insert_below, get_or-insert_at, get_or-insert_above}
@@ -9,8 +9,8 @@ use Rattle.std.proofs.lemmas.List.Elements.{All-append, All-cons, All-drop, All-
 use Rattle.std.specs.Global.{Vec}
 use Rattle.std.specs.Vec.{vec_items, vec_len, vec_capacity}
 use Rattle.std.specs.List.{All, insert, remove}
-use Rattle.chunk_list.specs.Chunks.{full, joined, start_at, AreChunks, AreChunksBut, AreLaidOut, CanTurn, IsHeld}
-use Rattle.chunk_list.specs.Chunks.{IsSpare, IsWide}
+use Rattle.chunk_list.specs.Chunks.{begin_of, block, full, joined, start_at, AreChunks, AreChunksBut, AreLaidOut}
+use Rattle.chunk_list.specs.Chunks.{CanTurn, IsHeld, IsSpare, IsWide}
 use Rattle.chunk_list.specs.Edits.{AreTurned, IsGiven}
 use Rattle.chunk_list.proofs.Pieces.{gone-joined}
 
@@ -115,15 +115,17 @@ module _ {T : Type 0} (old new : List (Vec T)) (at from to count : ℕ) (b : Are
     }
 
 -- equal lists are laid out alike
-pub same_laid_out : {T : Type 0} {chunks new_chunks : List (Vec T)} {starts new_starts : List ℕ} → new_chunks ≡ chunks
-    → new_starts ≡ starts → AreLaidOut chunks starts → AreLaidOut new_chunks new_starts
-same_laid_out {chunks} {new_chunks} {starts} {new_starts} e f l =
-    subst (λ (cs : List (Vec _)). AreLaidOut cs new_starts) (sym e)
-    (subst (λ (ss : List ℕ). AreLaidOut chunks ss) (sym f) l)
+pub same_laid_out : {T : Type 0} {chunks new_chunks : List (Vec T)} {inside new_inside bases new_bases : List ℕ}
+    → new_chunks ≡ chunks → new_inside ≡ inside → new_bases ≡ bases → AreLaidOut chunks inside bases
+    → AreLaidOut new_chunks new_inside new_bases
+same_laid_out {chunks} {new_chunks} {inside} {new_inside} {bases} {new_bases} e f h l =
+    subst (λ (cs : List (Vec _)). AreLaidOut cs new_inside new_bases) (sym e)
+    (subst (λ (ss : List ℕ). AreLaidOut chunks ss new_bases) (sym f)
+    (subst (λ (bs : List ℕ). AreLaidOut chunks inside bs) (sym h) l))
 
 -- a spare chunk alone is laid out as an empty list
 pub only_spare : {T : Type 0} (first : Vec T) → IsSpare first → (joined (first ∷ []) ≡ [])
-    × AreLaidOut (first ∷ []) (0 ∷ [])
+    × AreLaidOut (first ∷ []) (0 ∷ []) (0 ∷ [])
 only_spare first s =
     let none : vec_items first ≡ [] = nil_from_length (vec_items first) (omega (arith, s.empty, first.ok.0)) in (
       ap (λ (l : List _). l ++ []) none,
@@ -137,25 +139,32 @@ only_spare first s =
         };
         starts_are = record {
           as_many = refl;
+          enough = omega arith;
+          no_more = omega arith;
           begins = λ k lt. let e : 0 ≡ k = omega arith
-              in subst (λ (n : ℕ). get_or (0 ∷ []) n 0 ≡ start_at vec_items (first ∷ []) n) e refl;
+              in subst (λ n. begin_of (0 ∷ []) (0 ∷ []) n ≡ start_at vec_items (first ∷ []) n) e refl;
+          blocks = λ b lt. let e : 0 ≡ b = omega arith
+              in subst (λ n. get_or (0 ∷ []) n 0 ≡ start_at vec_items (first ∷ []) (n * block)) e refl;
         };
       },
     )
 
 -- the chunks can turn that are left where some came in or went out, in the memory that there was
-pub can_turn : {T : Type 0} {chunks mid spare new_chunks new_spare : Vec (Vec T)} {starts new_starts : Vec ℕ}
-    → CanTurn chunks spare starts → vec_len mid ≡ vec_len chunks → vec_capacity mid ≡ vec_capacity chunks
-    → AreTurned mid spare new_chunks new_spare → vec_capacity new_starts ≡ vec_capacity starts
-    → (0 < vec_len new_spare → 0 < vec_len new_chunks) → CanTurn new_chunks new_spare new_starts
-can_turn t len capacity turned starts_capacity first = record {
+pub can_turn : {T : Type 0} {chunks mid spare new_chunks new_spare : Vec (Vec T)}
+    {inside new_inside bases new_bases : Vec ℕ}
+    → CanTurn chunks spare inside bases → vec_len mid ≡ vec_len chunks → vec_capacity mid ≡ vec_capacity chunks
+    → AreTurned mid spare new_chunks new_spare → vec_capacity new_inside ≡ vec_capacity inside
+    → vec_capacity new_bases ≡ vec_capacity bases
+    → (0 < vec_len new_spare → 0 < vec_len new_chunks) → CanTurn new_chunks new_spare new_inside new_bases
+can_turn t len capacity turned starts_capacity blocks_capacity first = record {
   each = turned.each;
   chunks_fit = omega arith;
   spare_fit = omega arith;
   starts_fit = omega arith;
+  blocks_fit = omega arith;
   first = first;
 }
 
-pub all_stay : {T : Type 0} {chunks mid spare : Vec (Vec T)} {starts : Vec ℕ} → CanTurn chunks spare starts
+pub all_stay : {T : Type 0} {chunks mid spare : Vec (Vec T)} {inside bases : Vec ℕ} → CanTurn chunks spare inside bases
     → AreTurned mid spare mid spare
 all_stay t = record { each = t.each; fewer = omega arith; chunks_capacity = refl; spare_capacity = refl }

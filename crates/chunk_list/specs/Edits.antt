@@ -1,4 +1,4 @@
--- What is done to two chunks that stand side by side.
+-- What is done to two chunks that stand side by side. Only private clauses speak of it.
 use Rattle.std.specs.Prelude.{◌≡◌, ℕ, ◌+◌, ◌<◌, ◌≤◌, List, length, slice_index_or, vec_len, vec_capacity}
 use Rattle.std.specs.Global.{Vec}
 use Rattle.std.specs.List.{All}

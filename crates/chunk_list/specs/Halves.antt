@@ -1,4 +1,4 @@
--- How many looks a search by halves has left.
+-- How many looks a search by halves has left. Only private invariants speak of it.
 use Rattle.std.specs.Prelude.{ℕ, ◌+◌, ◌^◌, ◌<◌, ◌≤◌}
 
 -- of a search over n places, which began with the counter at `from`, `gap` places are left: for each k bits that

@@ -1,12 +1,13 @@
 //! Items that move between chunks, and chunks that come in and go out.
-ghost use Rattle.std.specs.Prelude.{◌≡◌, ◌+◌, ◌<◌, ◌≤◌, ◌⊎◌, ◌++◌, ℕ, length, slice_index_or};
+ghost use Rattle.std.specs.Prelude.{◌≡◌, ◌+◌, ◌*◌, ◌<◌, ◌≤◌, ◌⊎◌, ◌++◌, ℕ, length, slice_index_or};
 ghost use Rattle.std.specs.Prelude.{slice_set, OnOk, vec_len, vec_capacity};
 ghost use Rattle.std.specs.List.{All, insert};
 ghost use Rattle.chunk_list.specs.Chunks.{AreChunks, AreChunksBut, AreLaidOut, CanTurn, IsSpare};
-ghost use Rattle.chunk_list.specs.Chunks.{IsWide, full, joined};
+ghost use Rattle.chunk_list.specs.Chunks.{IsWide, block, full, joined};
 ghost use Rattle.chunk_list.specs.Edits.{AreTurned, IsGiven};
 
 use crate::list::CHUNK;
+use crate::starts::{BLOCK, Starts};
 use std::alloc::AllocError;
 use std::mem;
 
@@ -74,8 +75,18 @@ pub(crate) fn give<T: Drop>(chunks: &mut Vec<Vec<T>>, from: usize, to: usize, co
     }
 }
 
+// How many items stay in a chunk that is cut: half of them, but in the last chunk as many as fill
+// it. So a list that grows at its end has full chunks.
+fn staying(at: usize, chunks: usize) -> usize
+    requires { at < chunks }
+    ensures some { 0 < result }
+    ensures fits { result ≤ full }
+{
+    if at + 1 < chunks { CHUNK / 2 } else { CHUNK }
+}
+
 // Cuts the chunk at `at`, which has one item too many, in two: a spare chunk comes in behind it,
-// with half of the items.
+// with the items that do not stay.
 pub(crate) fn cut<T: Drop>(chunks: &mut Vec<Vec<T>>, spare: &mut Vec<Vec<T>>, at: usize)
     requires chunks { AreChunksBut chunks.old.items at }
     requires over { (d : _) → vec_len (slice_index_or chunks.old.items at d) ≡ full + 1 }
@@ -87,9 +98,10 @@ pub(crate) fn cut<T: Drop>(chunks: &mut Vec<Vec<T>>, spare: &mut Vec<Vec<T>>, at
     ensures turned { AreTurned chunks.old spare.old chunks.new spare.new }
     ensures long { vec_len chunks.new + vec_len spare.new ≡ vec_len chunks.old + vec_len spare.old }
 {
+    let count = staying(at, chunks.len());
     let mut upper = spare.take_last();
     let lower = &mut chunks[at];
-    level(lower, &mut upper, CHUNK / 2);
+    level(lower, &mut upper, count);
     put(chunks, at + 1, upper);
 }
 
@@ -124,19 +136,23 @@ pub(crate) fn set_out<T: Drop>(
 fn extend<T: Drop>(
     chunks: &mut Vec<Vec<T>>,
     spare: &mut Vec<Vec<T>>,
-    starts: &mut Vec<usize>,
+    starts: &mut Starts,
 ) -> Result<(), AllocError>
-    requires turns { CanTurn chunks.old spare.old starts.old }
-    requires as_many { vec_len starts.old ≡ vec_len chunks.old }
+    requires turns { CanTurn chunks.old spare.old starts.old.inside starts.old.bases }
+    requires as_many { vec_len starts.old.inside ≡ vec_len chunks.old }
+    requires enough { vec_len chunks.old ≤ vec_len starts.old.bases * block }
     ensures same { (chunks.new.items ≡ chunks.old.items) × (spare.new.items ≡ spare.old.items)
-        × (starts.new.items ≡ starts.old.items) }
-    ensures turns { CanTurn chunks.new spare.new starts.new }
+        × (starts.new.inside.items ≡ starts.old.inside.items)
+        × (starts.new.bases.items ≡ starts.old.bases.items) }
+    ensures turns { CanTurn chunks.new spare.new starts.new.inside starts.new.bases }
     ensures ok { OnOk result ((vec_len chunks.new + vec_len spare.new < vec_capacity chunks.new)
         × (vec_len chunks.new + vec_len spare.new < vec_capacity spare.new)
-        × (vec_len chunks.new + vec_len spare.new < vec_capacity starts.new)) }
+        × (vec_len chunks.new + vec_len spare.new < vec_capacity starts.new.inside)
+        × (vec_len chunks.new + vec_len spare.new < vec_capacity starts.new.bases * block)) }
 {
     chunks.reserve(spare.len() + 1)?;
-    starts.reserve(spare.len() + 1)?;
+    starts.inside.reserve(spare.len() + 1)?;
+    starts.bases.reserve(spare.len() / BLOCK + 1)?;
     spare.reserve(chunks.len() + 1)
 }
 
@@ -144,14 +160,16 @@ fn extend<T: Drop>(
 pub(crate) fn grow<T: Drop>(
     chunks: &mut Vec<Vec<T>>,
     spare: &mut Vec<Vec<T>>,
-    starts: &mut Vec<usize>,
+    starts: &mut Starts,
     wanted: usize,
 ) -> Result<(), AllocError>
-    requires laid_out { AreLaidOut chunks.old.items starts.old.items }
-    requires turns { CanTurn chunks.old spare.old starts.old }
+    requires laid_out { AreLaidOut chunks.old.items starts.old.inside.items
+        starts.old.bases.items }
+    requires turns { CanTurn chunks.old spare.old starts.old.inside starts.old.bases }
     ensures same { joined chunks.new.items ≡ joined chunks.old.items }
-    ensures laid_out { AreLaidOut chunks.new.items starts.new.items }
-    ensures turns { CanTurn chunks.new spare.new starts.new }
+    ensures laid_out { AreLaidOut chunks.new.items starts.new.inside.items
+        starts.new.bases.items }
+    ensures turns { CanTurn chunks.new spare.new starts.new.inside starts.new.bases }
     ensures long { vec_len chunks.old + vec_len spare.old ≤ vec_len chunks.new + vec_len spare.new }
     ensures ok { OnOk result (wanted ≤ vec_len chunks.new + vec_len spare.new) }
 {
@@ -160,7 +178,8 @@ pub(crate) fn grow<T: Drop>(
         extend(chunks, spare, starts)?;
         if chunks.len() == 0 {
             chunks.push_reserved(chunk);
-            starts.push_reserved(0);
+            starts.inside.push_reserved(0);
+            starts.bases.push_reserved(0);
         } else {
             spare.push_reserved(chunk);
         }

@@ -9,7 +9,7 @@ ghost use Rattle.chunk_list.specs.Chunks.{IsRun};
 use crate::chunks::{grow, set_out};
 use crate::room::{put_in, relieve, take_out};
 use crate::search::{chunk_of, place_in};
-use crate::starts::{locate, recount};
+use crate::starts::{Starts, locate, recount};
 use crate::walk::Walk;
 use std::alloc::Global;
 use std::marker::{Brand, Model};
@@ -18,7 +18,7 @@ use std::sync::ledger::{Blank, Ledger};
 use u1_base::{Memory, Steps};
 
 // A chunk holds so many items at most, and has memory for one more.
-pub(crate) const CHUNK: usize = 512;
+pub(crate) const CHUNK: usize = 256;
 
 // A list in so many chunks has a spare one besides, so that a full one can be cut in two.
 const MANY: usize = 16;
@@ -30,7 +30,7 @@ pub struct ChunkList<T> {
     // Chunks that no item needs yet.
     spare: Vec<Vec<T>>,
     // Where each chunk begins.
-    starts: Vec<usize>,
+    starts: Starts,
     len: usize,
     room: usize,
 }
@@ -46,7 +46,7 @@ impl<T> Model for ChunkList<T> {
 
     ghost view = { λ s. record { items = joined s.chunks.items; room = s.room } };
 
-    ghost invariant = { λ s. IsSound s.chunks s.spare s.starts s.len s.room };
+    ghost invariant = { λ s. IsSound s.chunks s.spare s.starts.inside s.starts.bases s.len s.room };
 }
 
 impl<T> ChunkList<T> {
@@ -58,7 +58,7 @@ impl<T> ChunkList<T> {
         ChunkList {
             chunks: Vec::new(alloc),
             spare: Vec::new(alloc),
-            starts: Vec::new(alloc),
+            starts: Starts::new(alloc),
             len: 0,
             room: 0,
         }
@@ -132,7 +132,7 @@ impl<T> ChunkList<T> {
             return (0, None);
         }
         let at = chunk_of(&self.chunks, &passes, steps);
-        let start = self.starts[at];
+        let start = self.starts.at(at);
         // The first item of the chunk passes, unless it is the first chunk, of which nothing is
         // known.
         let known = at.min(1);

@@ -8,13 +8,13 @@ ghost use Rattle.chunk_list.specs.Edits.{AreTurned, HasFree, NoneFree};
 
 use crate::chunks::{cut, give, put};
 use crate::list::CHUNK;
-use crate::starts::{locate, shift};
+use crate::starts::{Starts, locate, shift};
 
 // A full chunk takes places from a chunk that is no further away than this and has so many free. So
 // chunks are well filled, and few are cut.
 const NEAR: usize = 4;
 
-const SOME: usize = 32;
+const SOME: usize = 16;
 
 // The nearest chunk, on either side and no further away than `reach`, that has `least` places free.
 fn nearest<T>(chunks: &Vec<Vec<T>>, at: usize, reach: usize, least: usize) -> Option<usize>
@@ -101,21 +101,24 @@ pub(crate) fn relieve<T: Drop>(chunks: &mut Vec<Vec<T>>, spare: &mut Vec<Vec<T>>
 // which one that is.
 pub(crate) fn put_in<T: Drop>(
     chunks: &mut Vec<Vec<T>>,
-    starts: &mut Vec<usize>,
+    starts: &mut Starts,
     place: usize,
     item: T,
 ) -> usize
-    requires laid_out { AreLaidOut chunks.old.items starts.old.items }
+    requires laid_out { AreLaidOut chunks.old.items starts.old.inside.items
+        starts.old.bases.items }
     requires some { 0 < vec_len chunks.old }
     requires place { place ≤ length (joined chunks.old.items) }
     requires fits { length (joined chunks.old.items) + 1 < 2 ^ 64 }
     ensures items { joined chunks.new.items ≡ insert (joined chunks.old.items) place item }
     ensures chunks { AreChunksBut chunks.new.items result }
     ensures some { (d : _) → 0 < vec_len (slice_index_or chunks.new.items result d) }
-    ensures starts { AreStarts chunks.new.items starts.new.items }
+    ensures starts { AreStarts chunks.new.items starts.new.inside.items
+        starts.new.bases.items }
     ensures len { vec_len chunks.new ≡ vec_len chunks.old }
     ensures capacity { vec_capacity chunks.new ≡ vec_capacity chunks.old }
-    ensures starts_capacity { vec_capacity starts.new ≡ vec_capacity starts.old }
+    ensures starts_capacity { vec_capacity starts.new.inside ≡ vec_capacity starts.old.inside }
+    ensures blocks_capacity { vec_capacity starts.new.bases ≡ vec_capacity starts.old.bases }
 {
     let (at, inside) = locate(chunks, starts, place);
     let chunk = &mut chunks[at];
@@ -127,21 +130,21 @@ pub(crate) fn put_in<T: Drop>(
 // Takes an item out of the chunk that its place falls into, which may then be empty, and says which
 // one that is.
 #[tactic(auto, using(crate::proofs::Places::some_chunk))]
-pub(crate) fn take_out<T>(
-    chunks: &mut Vec<Vec<T>>,
-    starts: &mut Vec<usize>,
-    place: usize,
-) -> (usize, T)
-    requires laid_out { AreLaidOut chunks.old.items starts.old.items }
+pub(crate) fn take_out<T>(chunks: &mut Vec<Vec<T>>, starts: &mut Starts, place: usize) -> (usize, T)
+    requires laid_out { AreLaidOut chunks.old.items starts.old.inside.items
+        starts.old.bases.items }
     requires place { place < length (joined chunks.old.items) }
+    requires fits { length (joined chunks.old.items) < 2 ^ 64 }
     ensures value { result.1 ≡ slice_index_or (joined chunks.old.items) place result.1 }
     ensures items { joined chunks.new.items ≡ remove (joined chunks.old.items) place }
     ensures chunks { AreChunksBut chunks.new.items result.0 }
     ensures short { (d : _) → vec_len (slice_index_or chunks.new.items result.0 d) ≤ full }
-    ensures starts { AreStarts chunks.new.items starts.new.items }
+    ensures starts { AreStarts chunks.new.items starts.new.inside.items
+        starts.new.bases.items }
     ensures len { vec_len chunks.new ≡ vec_len chunks.old }
     ensures capacity { vec_capacity chunks.new ≡ vec_capacity chunks.old }
-    ensures starts_capacity { vec_capacity starts.new ≡ vec_capacity starts.old }
+    ensures starts_capacity { vec_capacity starts.new.inside ≡ vec_capacity starts.old.inside }
+    ensures blocks_capacity { vec_capacity starts.new.bases ≡ vec_capacity starts.old.bases }
 {
     let (at, inside) = locate(chunks, starts, place);
     let chunk = &mut chunks[at];

@@ -17,6 +17,9 @@ impl Random {
     }
 }
 
+// So many items fill 70 chunks, which is more than a block has.
+const BLOCKS: usize = 17_920;
+
 // A list and a plain one, to which the same is done.
 #[derive(Drop)]
 struct Both {
@@ -256,6 +259,31 @@ fn stands(alloc: Global) -> bool {
 #[test]
 fn stands_where_memory_runs_out(rt: HostRuntime) {
     assert!(rt; stands(rt.alloc()));
+}
+
+// Whether each item is so many places behind the one that its value names.
+fn each_is_later(list: &ChunkList<u64>, by: usize) -> bool {
+    for place in 0..BLOCKS {
+        if list.get(place.saturating_add(by)) != Some(&(place as u64)) {
+            return false;
+        }
+    }
+    true
+}
+
+// An item that goes in at the front, or out, moves all others.
+fn moves_all(alloc: Global) -> bool {
+    let mut list = ChunkList::new(alloc);
+    if list.reserve(BLOCKS + 1).is_err() || !add_last(&mut list, BLOCKS) || list.room() == 0 {
+        return false;
+    }
+    list.insert(0, 7);
+    each_is_later(&list, 1) && list.remove(0) == 7 && each_is_later(&list, 0)
+}
+
+#[test]
+fn later_blocks_move(rt: HostRuntime) {
+    assert!(rt; moves_all(rt.alloc()));
 }
 
 // Two equal items stand for each key.

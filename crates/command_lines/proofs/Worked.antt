@@ -9,7 +9,7 @@ use Rattle.disks.specs.declared.name.DiskName.TheVariants as disk
 use Rattle.replica_core.specs.Commands.Effects.{Made, Document, NoDocument, Index, Now, Changed, Known}
 use Rattle.u1_base.specs.Places.{Place, nowhere}
 use Rattle.vector_rev.specs.Clock.{Clock}
-use Rattle.command_lines.specs.Lines.{init_line, line_text, lines_text}
+use Rattle.command_lines.specs.Lines.{compacted_line, init_line, line_text, lines_text}
 use Rattle.command_lines.specs.LastLines.{last_line}
 use Rattle.command_lines.specs.declared.outcome.Outcome.TheVariants.{Done, Usage, BadContent, Refused, Damaged}
 use Rattle.command_lines.specs.declared.outcome.Outcome.TheVariants.{StoreFull, LogCheck}
@@ -39,6 +39,10 @@ third = record { generation = 3; trans = Some (codes "T-3") }
 
 a_database : init_line (codes "db") (codes "a") ≡ codes "database db replica a\n"
 a_database = refl
+
+a_compaction : compacted_line 196 157 ≡ codes "compacted 196 157\n"
+unfolding digits
+a_compaction = refl
 
 a_made_one : line_text (Made (codes "d1") ab) ≡ codes "d1 a:2|b:11\n"
 unfolding digits

@@ -42,6 +42,11 @@ json_list texts = codes "[" ++ (join_with_byte 44 (map quoted texts) ++ codes "]
 abbrev pub init_line : Text → Uid → List ℕ
 init_line name uid = codes "database " ++ (name ++ (codes " replica " ++ (uid ++ codes "\n")))
 
+-- of an image that was compacted: its length before, and its length after
+abbrev pub compacted_line : ℕ → ℕ → List ℕ
+compacted_line before after =
+    codes "compacted " ++ (decimal before ++ (codes " " ++ (decimal after ++ codes "\n")))
+
 abbrev pub line_text : Line → List ℕ
 line_text (Made id rev) = id ++ (codes " " ++ (clock_text rev ++ codes "\n"))
 line_text (Document id m conflicted) =

@@ -20,7 +20,7 @@ pub use indexes::{print_index, print_index_deleted, print_index_made, print_key}
 pub use last::print_last_line;
 pub use outcome::{Outcome, Refusal, UsageKind, expression_end, outcome_status};
 pub use places::{
-    print_change, print_database, print_generation, print_init, print_known, print_now,
-    print_replica, print_told,
+    print_change, print_compacted, print_database, print_generation, print_init, print_known,
+    print_now, print_replica, print_told,
 };
 pub use put::{PrintFault, put_all};

@@ -1,6 +1,6 @@
 //! The lines of the store, of its log and of the positions that it keeps.
 ghost use Rattle.std.specs.Prelude.{◌≡◌, codes, unwrap_or};
-ghost use Rattle.command_lines.specs.Lines.{init_line, line_text};
+ghost use Rattle.command_lines.specs.Lines.{compacted_line, init_line, line_text};
 ghost use Rattle.command_lines.specs.Puts.{Puts};
 ghost use Rattle.replica_core.specs.Commands.Effects.{Changed, Generation, Known, Now, OfDatabase};
 ghost use Rattle.replica_core.specs.Commands.Effects.{OfReplica, Told};
@@ -22,6 +22,24 @@ pub fn print_init<K: Sink>(out: &mut K, name: &DbName, uid: &ReplicaUid) -> Resu
             name.as_str().as_bytes(),
             b" replica ",
             uid.as_str().as_bytes(),
+            b"\n",
+        ],
+    )
+}
+
+/// An image that was compacted: `compacted BEFORE AFTER`, its lengths in bytes.
+pub fn print_compacted<K: Sink>(out: &mut K, before: u64, after: u64) -> Result<(), PrintFault>
+    ensures { Puts (compacted_line before after) (K.known out.old) (K.known out.new) result }
+{
+    let mut old = Buffer::new();
+    let mut new = Buffer::new();
+    put_all(
+        out,
+        &[
+            b"compacted ",
+            old.format(before).as_bytes(),
+            b" ",
+            new.format(after).as_bytes(),
             b"\n",
         ],
     )

@@ -2,6 +2,7 @@
 use Rattle.std.specs.Prelude.{◌≡◌, ℕ, List, [], ◌∷◌, ◌++◌, Ok}
 use Rattle.conflicts.specs.State.{Text, Step, History}
 use Rattle.journal.specs.Image.{AreBodies, Head, IsBody, image}
+use Rattle.journal.specs.declared.layout.TheConstants.{SECOND_FORMAT}
 use Rattle.record_codec.specs.Bodies.{body_of, added_of, step_in}
 
 -- the bodies of the steps in format 2, where these uids have numbers before them
@@ -16,7 +17,7 @@ uids_after us (x ∷ later) = uids_after (us ++ added_of us x) later
 
 -- the image as it is written; the uid of the header has the number 0
 abbrev pub image_of : Head → History → List ℕ
-image_of head h = image 2 head (bodies_of (head.uid ∷ []) h)
+image_of head h = image SECOND_FORMAT head (bodies_of (head.uid ∷ []) h)
 
 -- each body is read as its step, where the uids have numbers that the bodies before it leave
 abbrev pub ReadBack : List Text → History → Type 0

@@ -15,7 +15,7 @@ use Rattle.serde_json.specs.Find.{of_integer, is_float, as_object}
 use Rattle.serde_json.specs.Read.{read}
 use Rattle.serde_json.specs.Written.{number_text, items_text, members_text, comma_if}
 use Rattle.content.specs.Tree.{Tree, null, boolean, whole, text, list, object, Items, no_items, item, Fields, no_fields}
-use Rattle.content.specs.Tree.{field, is_object}
+use Rattle.content.specs.Tree.{field, is_object, nesting}
 use Rattle.content.specs.Canonical.{data_of, items_data, fields_data, canonical}
 use Rattle.content.specs.Contents.{IsContent, IsFormed, AreFormed, HasFormedFields, Precedes, most_bytes, most_depth}
 use Rattle.content.specs.Faults.{any_number, any_in_items, any_in_members, is_large, fault_of_value, fault_of_reading}
@@ -86,7 +86,7 @@ mutual
   no_float_in_fields no_fields = refl
   no_float_in_fields (field name t fs) = or_from _ _ (no_float t) (no_float_in_fields fs)
 
-not_large : (z : ℤ) → FitsSigned w64 z → is_large (of_integer z) ≡ false
+pub not_large : (z : ℤ) → FitsSigned w64 z → is_large (of_integer z) ≡ false
 not_large (pos n) fits = let small : n < 2 ^ 63 = omega (arith, ints) in lt-leb (2 ^ 63) n small
 not_large (negsuc n) fits = refl
 
@@ -139,13 +139,18 @@ as_object_object (text s) h = absurd (cc)
 as_object_object (list ts) h = absurd (cc)
 as_object_object (object fs) h = refl
 
-fault_of_value-data_of : (t : Tree) → IsContent t → fault_of_value (data_of t) ≡ None
-fault_of_value-data_of t h =
+-- a root that is an object, not too deep and without large numbers has no fault
+pub sound_root : (t : Tree) → IsTrue (is_object t) → nesting t ≤ most_depth → any_number is_large (data_of t) ≡ false
+    → fault_of_value (data_of t) ≡ None
+sound_root t root shallow small =
     first_fault-None (not (is_some (as_object (data_of t)))) (nat_lt most_depth (json.depth (data_of t)))
     (any_number is_float (data_of t)) (any_number is_large (data_of t))
-    (object_as_object t h.root)
-    (le-ltb most_depth (json.depth (data_of t)) (omega (arith, h.shallow, depth-data_of t))) (no_float t)
-    (no_large t h.formed)
+    (object_as_object t root)
+    (le-ltb most_depth (json.depth (data_of t)) (omega (arith, shallow, depth-data_of t))) (no_float t)
+    small
+
+fault_of_value-data_of : (t : Tree) → IsContent t → fault_of_value (data_of t) ≡ None
+fault_of_value-data_of t h = sound_root t h.root h.shallow (no_large t h.formed)
 
 pub value_of-canonical : (t : Tree) → IsContent t → value_of (canonical t) ≡ Some (data_of t)
 value_of-canonical t h =
@@ -155,6 +160,15 @@ value_of-canonical t h =
 fault_within : (b : Bool) (f : ContentFault) (o : Option ContentFault) → b ≡ false → cond b (Some f) o ≡ o
 fault_within true f o e = absurd (cc)
 fault_within false f o e = refl
+
+-- a text that is not too long and whose value has no fault reads as the tree of the value
+pub Reads-value : (bytes : List ℕ) (t : Tree) → length bytes ≤ most_bytes → value_of bytes ≡ Some (data_of t)
+    → fault_of_value (data_of t) ≡ None → Reads bytes t
+Reads-value bytes t short is sound = (
+  fault_within (nat_lt most_bytes (length bytes)) _ _ (le-ltb most_bytes (length bytes) short)
+      ∙ ap fault_of_reading is ∙ sound,
+  is,
+)
 
 pub no_fault-canonical : (t : Tree) → IsContent t → fault_of (canonical t) ≡ None
 no_fault-canonical t h =

@@ -4,17 +4,18 @@ use Rattle.std.specs.Int.{w64}
 use Rattle.std.specs.Cmp.Lexicographic.{slice_cmp}
 use Rattle.std.specs.Ordering.{nat_cmp}
 use Rattle.std.specs.declared.cmp.Ordering.TheVariants.{Less}
+use Rattle.u1_base.specs.declared.limits.TheConstants.{MOST_CONTENT_BYTES, MOST_CONTENT_DEPTH}
 use Rattle.content.specs.Tree.{Tree, null, boolean, whole, text, list, object, Items, no_items, item, Fields, no_fields}
 use Rattle.content.specs.Tree.{field, is_object, nesting}
 use Rattle.content.specs.Canonical.{canonical}
 
 -- the longest content, in bytes
 abbrev pub most_bytes : ℕ
-most_bytes = 4194304
+most_bytes = MOST_CONTENT_BYTES
 
 -- the deepest nesting of a content
 abbrev pub most_depth : ℕ
-most_depth = 64
+most_depth = MOST_CONTENT_DEPTH
 
 -- the name stands before every name of the fields, by bytes
 abbrev pub Precedes : List ℕ → Fields → Type 0
@@ -40,8 +41,7 @@ abbrev mutual
   HasFormedFields no_fields = ⊤
   HasFormedFields (field name t fs) = IsUtf8 name × Precedes name fs × IsFormed t × HasFormedFields fs
 
--- a content: a formed tree whose root is an object, nested at most 64 deep, and whose text is no longer than may be
--- read
+-- a content: a formed tree whose root is an object, nested no deeper and with a text no longer than may be read
 pub record IsContent (t : Tree) : Type 0 where
   pub root : IsTrue (is_object t)
   pub shallow : nesting t ≤ most_depth

@@ -7,3 +7,4 @@ pub mod Reading
 pub mod TreeOf
 pub mod Values
 pub mod Kinds
+pub mod Plain

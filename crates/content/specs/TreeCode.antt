@@ -1,4 +1,4 @@
--- How the logic stores a tree: as the steps that build it over a stack of trees.
+-- Private: how the prover stores a tree, namely as the steps that build it over a stack of trees.
 use Rattle.std.specs.Prelude.{◌≡◌, ℕ, ◌==◌, pos, negsuc, List, [], ◌∷◌, true, false, cond, refl}
 use Rattle.std.specs.Coded.{Coded, code_by, coded×, coded_ℕ, coded_list}
 use Rattle.std.proofs.Common.{◌∙◌}

@@ -3,17 +3,19 @@ ghost use Rattle.std.specs.Prelude.{◌≡◌, ◌≢◌, ◌≤◌, ◌↔◌, 
 ghost use Rattle.std.specs.Prelude.{length};
 ghost use Rattle.content.specs.Canonical.{canonical, data_of};
 ghost use Rattle.content.specs.Contents.{IsContent, most_bytes};
-ghost use Rattle.content.specs.Faults.{fault_of, fault_of_value, value_of};
+ghost use Rattle.content.specs.Faults.{Reads, fault_of, fault_of_value, value_of};
 ghost use Rattle.content.specs.Reading.{content_in};
+ghost use Rattle.content.specs.TreeOf.{tree_of};
 ghost use Rattle.serde_json.specs.View.{view};
 
 use crate::check::fault_in;
 use crate::convert::convert;
 use crate::copy::copy_of;
+use crate::plain::{Stop, plain_root};
 use crate::same::same_json;
 use crate::write::write_json;
 use crate::{ContentFault, Json};
-use json::Writer;
+use json::{Scratch, Writer};
 use serde_json::Value;
 use std::alloc::Global;
 use std::marker::Model;
@@ -55,7 +57,6 @@ impl Content {
     /// Reads a content from the whole of the bytes (JSON by RFC 8259, as `serde_json` reads it).
     ///
     /// Of a name that is repeated in one object the last value counts.
-    #[tactic(auto, using(crate::proofs::Reading::refused))]
     pub fn read(alloc: Global, bytes: &[u8]) -> Result<Content, ContentFault>
         ensures reads { IfOk result (λ c. content_in bytes.now ≡ Some c) }
         ensures value { IfOk result (λ c. value_of bytes.now ≡ Some (data_of c)) }
@@ -65,8 +66,27 @@ impl Content {
         ensures refused { IfErr result
             (λ e. e ≢ ContentFault.Memory → content_in bytes.now ≡ None) }
     {
-        let value = whole_value(alloc, bytes)?;
-        let root = convert(alloc, value)?;
+        let mut scratch = Scratch::new(alloc);
+        Content::read_with(alloc, &mut scratch, bytes)
+    }
+
+    /// `read` for who reads many: texts with escapes are written out in the scratch, which keeps
+    /// its memory.
+    #[tactic(auto, using(crate::proofs::Reading::refused))]
+    pub fn read_with(
+        alloc: Global,
+        scratch: &mut Scratch<Global>,
+        bytes: &[u8],
+    ) -> Result<Content, ContentFault>
+        ensures reads { IfOk result (λ c. content_in bytes.now ≡ Some c) }
+        ensures value { IfOk result (λ c. value_of bytes.now ≡ Some (data_of c)) }
+        ensures no_fault { IfOk result (λ _. fault_of bytes.now ≡ None) }
+        ensures shorter { IfOk result (λ c. length (canonical c) ≤ length bytes.now) }
+        ensures fault { IfErr result (λ e. e ≢ ContentFault.Memory → fault_of bytes.now ≡ Some e) }
+        ensures refused { IfErr result
+            (λ e. e ≢ ContentFault.Memory → content_in bytes.now ≡ None) }
+    {
+        let root = root_in(alloc, scratch, bytes)?;
         Ok(Content { root, alloc })
     }
 
@@ -107,6 +127,27 @@ impl Content {
             alloc: self.alloc,
         })
     }
+}
+
+// The root of the content that the bytes are.
+fn root_in(alloc: Global, scratch: &mut Scratch<Global>, bytes: &[u8]) -> Result<Json, ContentFault>
+    ensures reads { IfOk result (λ root. Reads bytes.now (tree_of root)) }
+    ensures fault { IfErr result (λ e. e ≢ ContentFault.Memory → fault_of bytes.now ≡ Some e) }
+{
+    match plain_root(alloc, scratch, bytes) {
+        Ok(root) => Ok(root),
+        Err(Stop::NotPlain) => valued_root(alloc, bytes),
+        Err(Stop::Memory) => Err(ContentFault::Memory),
+    }
+}
+
+// The same by way of a value of `serde_json`, which decides every fault.
+pub(crate) fn valued_root(alloc: Global, bytes: &[u8]) -> Result<Json, ContentFault>
+    ensures reads { IfOk result (λ root. Reads bytes.now (tree_of root)) }
+    ensures fault { IfErr result (λ e. e ≢ ContentFault.Memory → fault_of bytes.now ≡ Some e) }
+{
+    let value = whole_value(alloc, bytes)?;
+    Ok(convert(alloc, value)?)
 }
 
 // Reads the value of a text that has no fault.

@@ -11,10 +11,12 @@ mod convert;
 mod copy;
 mod fault;
 mod laws;
+mod plain;
 mod same;
 #[cfg(test)]
 mod tests;
 mod value;
+mod whole;
 mod write;
 
 pub use contents::Content;

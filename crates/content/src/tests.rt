@@ -1,7 +1,11 @@
 //! The worked examples of contents, and each call that allocates once.
 //!
 //! The canonical texts are those of Python's `json.dumps` with sorted keys and no spaces.
+use crate::contents::valued_root;
+use crate::plain::{Stop, plain_root};
+use crate::same::same_json;
 use crate::{Content, ContentFault, Json};
+use json::Scratch;
 use std::alloc::{AllocError, Global};
 use std::fmt::Write;
 
@@ -333,4 +337,101 @@ fn is_lent(root: &Json) -> bool {
 #[test]
 fn lends_its_root(rt: HostRuntime) {
     assert!(rt; lends(rt.alloc()));
+}
+
+// Contents whose texts are plain.
+const PLAIN: &[&str] = &[
+    "{}",
+    " {\t} \n",
+    "{\"a\":null,\"b\":true,\"c\":false}",
+    "{\"\":0,\" \":1}",
+    "{\"a\":-9223372036854775808,\"b\":9223372036854775807,\"c\":-1}",
+    "{\"A\":{\"a\":[[],[{}],[1,[2,[3]]]]},\"a\":\"\"}",
+    "{\"a\":\"\\u00e9\\n\\\"\\/\",\"\\u0062\":[\"\\ud83d\\ude00\"]}",
+    "{\"name\":\"a text of more than thirty-nine bytes, which lies on the heap\"}",
+];
+
+// Texts that are not plain: some are contents, some have a fault.
+const OTHER_TEXTS: &[&str] = &[
+    "",
+    "{\"b\":1,\"a\":2}",
+    "{\"a\":1,\"a\":2}",
+    "{\"a\":{\"c\":1,\"b\":2}}",
+    "{\"a\":1.5}",
+    "{\"a\":-0}",
+    "{\"a\":9223372036854775808}",
+    "{\"a\":-9223372036854775809}",
+    "{\"a\":18446744073709551616}",
+    "{\"a\":\"\\ud800\"}",
+    "{\"a\":1,}",
+    "{\"a\":[1,]}",
+    "{\"a\":[1}",
+    "{} {}",
+    "[]",
+    "1",
+];
+
+// Whether one pass makes the tree that the way over a value makes.
+fn is_plain(alloc: Global, bytes: &[u8]) -> bool {
+    match plain_root(alloc, &mut Scratch::new(alloc), bytes) {
+        Ok(root) => is_made_of_a_value(alloc, bytes, &root),
+        Err(_) => false,
+    }
+}
+
+fn is_made_of_a_value(alloc: Global, bytes: &[u8], root: &Json) -> bool {
+    match valued_root(alloc, bytes) {
+        Ok(other) => same_json(root, &other),
+        Err(_) => false,
+    }
+}
+
+fn is_not_plain(alloc: Global, bytes: &[u8]) -> bool {
+    matches!(
+        plain_root(alloc, &mut Scratch::new(alloc), bytes),
+        Err(Stop::NotPlain)
+    )
+}
+
+// Whether no beginning of the text is plain, but for the text itself and blanks.
+fn ends_only_at_its_end(alloc: Global, text: &str) -> bool {
+    let bytes = text.trim_ascii_end().as_bytes();
+    for end in 0..bytes.len() {
+        if !is_not_plain(alloc, &bytes[..end]) {
+            return false;
+        }
+    }
+    true
+}
+
+#[test]
+fn reads_plain_texts_in_one_pass(rt: HostRuntime) {
+    for text in PLAIN {
+        assert!(rt; is_plain(rt.alloc(), text.as_bytes()), "{text:?}");
+        assert!(rt; ends_only_at_its_end(rt.alloc(), text), "{text:?}");
+    }
+    for text in OTHER_TEXTS {
+        assert!(rt; is_not_plain(rt.alloc(), text.as_bytes()), "{text:?}");
+    }
+    assert!(rt; is_not_plain(rt.alloc(), &[b'{', b'"', 0xff, b'"', b':', b'1', b'}']));
+}
+
+fn is_plain_at_level(alloc: Global, levels: usize) -> bool {
+    match nested(alloc, levels) {
+        Ok(text) => is_plain(alloc, text.as_bytes()),
+        Err(_) => false,
+    }
+}
+
+fn is_not_plain_at_level(alloc: Global, levels: usize) -> bool {
+    match nested(alloc, levels) {
+        Ok(text) => is_not_plain(alloc, text.as_bytes()),
+        Err(_) => false,
+    }
+}
+
+#[test]
+fn counts_levels_of_plain_texts(rt: HostRuntime) {
+    assert!(rt; is_plain_at_level(rt.alloc(), 64));
+    assert!(rt; is_not_plain_at_level(rt.alloc(), 65));
 }

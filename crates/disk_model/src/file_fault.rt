@@ -1,4 +1,8 @@
 //! Why a call on a real file failed, in words for people.
+ghost use Rattle.std.specs.Prelude.{◌≡◌, option_map};
+ghost use Rattle.disk_model.specs.Faults.{reason_text, tried_text};
+
+use std::error::Error;
 use std::io::ErrorKind;
 use std::{fmt, io};
 
@@ -34,9 +38,12 @@ impl FileFault {
 }
 
 impl fmt::Display for FileFault {
+    ghost use Rattle.disk_model.specs.Faults.{file_fault_text};
+
+    ghost output = { file_fault_text };
+
     fn fmt<W: fmt::Write>(&self, f: &mut fmt::Formatter<W>) -> fmt::Result {
         f.write_str(tried(self.call))?;
-        f.write_str(": ")?;
         match reason(self.call, self.error.kind()) {
             Some(words) => f.write_str(words),
             None => fmt::Display::fmt(&self.error, f),
@@ -44,22 +51,28 @@ impl fmt::Display for FileFault {
     }
 }
 
-fn tried(call: FileCall) -> &'static str {
+impl Error for FileFault {}
+
+fn tried(call: FileCall) -> &'static str
+    ensures { result.now ≡ tried_text call }
+{
     match call {
-        FileCall::Open => "it cannot be opened",
-        FileCall::Lock => "it cannot be locked",
-        FileCall::Make => "it cannot be made",
-        FileCall::MakeFolder => "its folder cannot be made",
-        FileCall::Read => "it cannot be read",
-        FileCall::Write => "it cannot be written",
-        FileCall::Cut => "it cannot be cut",
-        FileCall::Sync => "it cannot be synced",
-        FileCall::SyncName => "its name cannot be synced",
+        FileCall::Open => "it cannot be opened: ",
+        FileCall::Lock => "it cannot be locked: ",
+        FileCall::Make => "it cannot be made: ",
+        FileCall::MakeFolder => "its folder cannot be made: ",
+        FileCall::Read => "it cannot be read: ",
+        FileCall::Write => "it cannot be written: ",
+        FileCall::Cut => "it cannot be cut: ",
+        FileCall::Sync => "it cannot be synced: ",
+        FileCall::SyncName => "its name cannot be synced: ",
     }
 }
 
 // The reasons for which there are plainer words than the system's.
-fn reason(call: FileCall, kind: ErrorKind) -> Option<&'static str> {
+fn reason(call: FileCall, kind: ErrorKind) -> Option<&'static str>
+    ensures { option_map (λ words. words.now) result ≡ reason_text call kind }
+{
     match kind {
         ErrorKind::WouldBlock if call == FileCall::Lock => Some("another process holds the store"),
         ErrorKind::NotFound => Some("no such folder"),

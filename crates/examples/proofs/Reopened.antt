@@ -49,8 +49,5 @@ module _ {D : Type 0} (known : D → Device) (v : Volume D) (k : KeepsHistory v 
   fails_only (Err (disks, fault.Damaged disk place)) found =
       let other : ◌≡◌ {A = StoreFound} (Damaged disk place) (Holds v.side 2 k.head k.history) = sym found ∙ stands
       in absurd (cc (other))
-  fails_only (Err (disks, fault.Former)) former =
-      let other : ◌≡◌ {A = StoreFound} (Holds former.side 1 former.head former.history)
-      (Holds v.side 2 k.head k.history) = sym former.found ∙ stands in absurd (cc (other))
   fails_only (Err (disks, fault.Disk)) found = inl refl
   fails_only (Err (disks, fault.Memory)) found = inr refl

@@ -1,3 +1,4 @@
 pub mod Printed
+pub mod Faults
 pub mod Notes
 pub mod Tags

@@ -12,6 +12,8 @@ ghost use Rattle.examples.specs.Printed.{IsWhy, PrintsCanonical};
 use content::{Content, ContentFault};
 use link::Sink;
 use std::alloc::Global;
+use std::error::Error;
+use std::fmt;
 use u1_base::Bytes;
 
 /// Why a text was not printed.
@@ -22,6 +24,22 @@ pub enum PrintFault {
     /// The sink failed. It may have taken the beginning of the text.
     Sink,
 }
+
+impl fmt::Display for PrintFault {
+    ghost use Rattle.std.specs.Prelude.{Some};
+    ghost use Rattle.examples.specs.Faults.{print_fault_text};
+
+    ghost output = { λ fault. Some (print_fault_text fault) };
+
+    fn fmt<W: fmt::Write>(&self, f: &mut fmt::Formatter<W>) -> fmt::Result {
+        match self {
+            PrintFault::Content(fault) => fmt::Display::fmt(fault, f),
+            PrintFault::Sink => f.write_str("the output failed"),
+        }
+    }
+}
+
+impl Error for PrintFault {}
 
 /// Reads a content from the whole of `json`, and prints its canonical text.
 ///

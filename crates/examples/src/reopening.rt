@@ -16,6 +16,8 @@ use journal::Header;
 use replica_core::PutFault;
 use replica_volume::{InitFault, Volume, VolumeFault};
 use std::alloc::Global;
+use std::error::Error;
+use std::fmt;
 use u1_base::DocId;
 
 /// Why no note was kept.
@@ -28,6 +30,23 @@ pub enum KeepFault {
     /// The store was not opened again.
     Open(VolumeFault),
 }
+
+impl fmt::Display for KeepFault {
+    ghost use Rattle.std.specs.Prelude.{Some};
+    ghost use Rattle.examples.specs.Faults.{keep_fault_text};
+
+    ghost output = { λ fault. Some (keep_fault_text fault) };
+
+    fn fmt<W: fmt::Write>(&self, f: &mut fmt::Formatter<W>) -> fmt::Result {
+        match self {
+            KeepFault::Init(fault) => fmt::Display::fmt(fault, f),
+            KeepFault::Write(fault) => fmt::Display::fmt(fault, f),
+            KeepFault::Open(fault) => fmt::Display::fmt(fault, f),
+        }
+    }
+}
+
+impl Error for KeepFault {}
 
 /// Makes a store with one note, closes it, and opens it again.
 pub fn keep_note<D: Disk + Drop>(

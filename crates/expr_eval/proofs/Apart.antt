@@ -7,7 +7,7 @@ use Rattle.std.specs.List.{AllPairs, filter, flat_map}
 use Rattle.std.specs.Str.{bytes_eq}
 use Rattle.content.specs.Tree.{Tree}
 use Rattle.expr_parser.specs.Forms.{Form}
-use Rattle.expr_eval.specs.Keys.{key_texts, keys_of, tuples}
+use Rattle.expr_eval.specs.Keys.{key_texts, keys_of, most, tuples}
 use Rattle.expr_eval.specs.Values.{texts_of}
 use Rattle.expr_eval.specs.Words.{distinct}
 
@@ -163,7 +163,7 @@ all_apart [] tree = tt
 all_apart (f ∷ forms) tree = (apart_distinct _, all_apart forms tree)
 
 pub apart_keys : (forms : List Form) (tree : Tree) → Apart (keys_of forms tree)
-apart_keys forms tree = apart_take 4096 _ (apart_tuples _ (all_apart forms tree))
+apart_keys forms tree = apart_take most _ (apart_tuples _ (all_apart forms tree))
 
 -- std's word for that
 in_at : {X : Type 0} (xs : List X) (j : ℕ) (d : X) → j < length xs → In (get_or xs j d) xs

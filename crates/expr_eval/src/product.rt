@@ -99,7 +99,7 @@ fn add_keys<'t>(
     keys: &mut Keys,
 ) -> Result<(), Memory>
     requires some { 1 ≤ vec_len front.old + length lists.now }
-    requires few { vec_len front.old + length lists.now ≤ 8 }
+    requires few { vec_len front.old + length lists.now ≤ most_exprs }
     requires room { length keys.old < most }
     ensures front { OnOk result (front.new.items ≡ front.old.items) }
     ensures keys { OnOk result
@@ -127,7 +127,7 @@ fn add_keys_of_each<'t>(
     front: &mut Vec<&'t str>,
     keys: &mut Keys,
 ) -> Result<(), Memory>
-    requires few { vec_len front.old + length others.now < 8 }
+    requires few { vec_len front.old + length others.now < most_exprs }
     requires room { length keys.old ≤ most }
     ensures front { OnOk result (front.new.items ≡ front.old.items) }
     ensures keys { OnOk result
@@ -148,7 +148,7 @@ fn add_keys_of_each<'t>(
 
 fn add_key(alloc: Global, texts: &[&str], keys: &mut Keys) -> Result<(), Memory>
     requires some { 1 ≤ length texts.now }
-    requires few { length texts.now ≤ 8 }
+    requires few { length texts.now ≤ most_exprs }
     ensures { OnOk result (keys.new ≡ keys.old ++ lent texts.now ∷ []) }
 {
     let copies = copies_of(alloc, texts)?;

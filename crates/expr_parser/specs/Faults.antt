@@ -39,6 +39,6 @@ ReadsExpr text (Err Memory) = Unit {0}
 
 -- what a fault prints
 abbrev pub fault_text : ParseFault → List ℕ
-fault_text TooLong = codes "the expression has more than 512 bytes"
+fault_text TooLong = codes "the expression has more than " ++ decimal longest ++ codes " bytes"
 fault_text (At place) = codes "the expression goes wrong at byte " ++ decimal place
 fault_text Memory = codes "out of memory"

@@ -39,7 +39,7 @@ impl Expr {
     ghost use Rattle.expr_parser.specs.Canonical.{canonical, IsShortest};
     ghost use Rattle.expr_parser.specs.Reading.{IsExpr, expr_in};
 
-    /// Reads an expression from the whole of the text, which has at most 512 bytes.
+    /// Reads an expression from the whole of the text, which has at most `MOST_EXPRESSION_BYTES`.
     ///
     /// `At` carries the length in bytes of the longest front of the text that some expression
     /// begins with.

@@ -1,9 +1,11 @@
 pub mod Deciding
 pub mod Documents
 pub mod Gone
+pub mod Joined
 pub mod Keys
 pub mod Laws
 pub mod Lists
+pub mod Mixed
 pub mod PutIn
 pub mod Sets
 pub mod Sought

@@ -1,13 +1,14 @@
 //! What is done to the sorted list of pairs.
-ghost use Rattle.std.specs.Prelude.{◌≡◌, ◌+◌, ◌<◌, ◌≤◌, false, not, length, filter, vec_len, ◌||◌};
+ghost use Rattle.std.specs.Prelude.{◌≡◌, ◌+◌, ◌<◌, ◌≤◌, false, true, not, length, filter, vec_len, ◌||◌};
 ghost use Rattle.std.specs.List.{HoldsAt};
+ghost use Rattle.std.specs.List.Sorted.{IsPermutation};
 ghost use Rattle.index_tables.specs.Entries.{AreDistinct, AreNew, HoldsBoth, entries_of, has};
 ghost use Rattle.index_tables.specs.Entries.{is_of, not_among, not_of, same};
 ghost use Rattle.index_tables.specs.Order.{IsInOrder};
 ghost use Rattle.index_tables.specs.Seen.{EndsAt, Tells, entry_of, is_below, seen};
 
 use crate::abbreviated::abbreviated;
-use crate::order::compare_pair;
+use crate::order::{compare_pair, compare_pairs};
 use crate::pair::Pair;
 use chunk_list::ChunkList;
 use u1_base::{DocId, Key, Text};
@@ -25,8 +26,41 @@ fn place_of(list: &ChunkList<Pair>, key: &[Text], id: &DocId) -> (usize, bool)
     }
 }
 
+// Whether the pair at a place is below another.
+fn is_below_at(list: &ChunkList<Pair>, place: usize, pair: &Pair) -> bool
+    requires { place < length list.now.items }
+    ensures { HoldsAt (λ p. is_below (entry_of pair.now) p ≡ result) list.now.items place }
+{
+    match list.get(place) {
+        Some(other) => compare_pairs(other, pair).is_lt(),
+        None => false,
+    }
+}
+
+// Whether the place of a pair is behind all others: it is where the last of them is below.
+fn is_last(list: &ChunkList<Pair>, pair: &Pair) -> bool
+    ensures { result ≡ true
+        → EndsAt (is_below (entry_of pair.now)) list.now.items (length list.now.items) }
+{
+    if list.is_empty() {
+        return true;
+    }
+    is_below_at(list, list.len() - 1, pair)
+}
+
+// The place of a pair. Of pairs that come in order most are the last, which is soon seen.
+fn place_for(list: &ChunkList<Pair>, pair: &Pair, rising: bool) -> usize
+    ensures { EndsAt (is_below (entry_of pair.now)) list.now.items result }
+{
+    if rising && is_last(list, pair) {
+        return list.len();
+    }
+    let (place, _) = place_of(list, pair.key.texts(), &pair.id);
+    place
+}
+
 // Puts a pair in its place.
-fn put(list: &mut ChunkList<Pair>, pair: Pair)
+fn put(list: &mut ChunkList<Pair>, pair: Pair, rising: bool)
     requires room { 0 < list.old.room }
     requires order { IsInOrder (seen list.old.items) }
     requires fresh { has (seen list.old.items) (entry_of pair) ≡ false }
@@ -36,12 +70,12 @@ fn put(list: &mut ChunkList<Pair>, pair: Pair)
     ensures count { length (seen list.new.items) ≡ length (seen list.old.items) + 1 }
     ensures room { list.new.room + 1 ≡ list.old.room }
 {
-    let (place, _) = place_of(list, pair.key.texts(), &pair.id);
+    let place = place_for(list, &pair, rising);
     list.insert(place, pair);
 }
 
-// Puts each pair in its place.
-pub(crate) fn put_all(list: &mut ChunkList<Pair>, mut pairs: Vec<Pair>)
+// Puts each pair in its place, the last one first.
+fn put_each(list: &mut ChunkList<Pair>, mut pairs: Vec<Pair>, rising: bool)
     requires room { vec_len pairs ≤ list.old.room }
     requires order { IsInOrder (seen list.old.items) }
     requires distinct { AreDistinct (seen pairs.items) }
@@ -52,7 +86,39 @@ pub(crate) fn put_all(list: &mut ChunkList<Pair>, mut pairs: Vec<Pair>)
     ensures room { list.new.room + vec_len pairs ≡ list.old.room }
 {
     while let Some(pair) = pairs.pop() {
-        put(list, pair);
+        put(list, pair, rising);
+    }
+}
+
+// The same pairs, the greatest one first. It takes no memory.
+fn falling(mut pairs: Vec<Pair>) -> Vec<Pair>
+    ensures same { IsPermutation pairs.items result.items }
+    ensures len { vec_len result ≡ vec_len pairs }
+{
+    pairs.sort_unstable_by(|one, other| compare_pairs(other, one));
+    pairs
+}
+
+// From so many pairs on, it is worth sorting them first.
+const MANY: usize = 16;
+
+// Puts each pair in its place. Many are put in from the least to the greatest, so that those that
+// stand behind all others are found there without a search, and the others move fewer pairs.
+pub(crate) fn put_all(list: &mut ChunkList<Pair>, pairs: Vec<Pair>)
+    requires room { vec_len pairs ≤ list.old.room }
+    requires order { IsInOrder (seen list.old.items) }
+    requires distinct { AreDistinct (seen pairs.items) }
+    requires fresh { AreNew (seen list.old.items) (seen pairs.items) }
+    ensures order { IsInOrder (seen list.new.items) }
+    ensures members { HoldsBoth (seen list.old.items) (seen pairs.items) (seen list.new.items) }
+    ensures count { length (seen list.new.items) ≡ length (seen list.old.items) + vec_len pairs }
+    ensures room { list.new.room + vec_len pairs ≡ list.old.room }
+{
+    if pairs.len() < MANY {
+        put_each(list, pairs, false);
+    } else {
+        let sorted = falling(pairs);
+        put_each(list, sorted, true);
     }
 }
 

@@ -49,3 +49,10 @@ pub(crate) fn compare_pair(pair: &Pair, abbreviated: u128, key: &[Text], id: &Do
         Ordering::Greater => Ordering::Greater,
     }
 }
+
+// The order of two pairs.
+pub(crate) fn compare_pairs(pair: &Pair, other: &Pair) -> Ordering
+    ensures { result ≡ entry_cmp (entry_of pair.now) (entry_of other.now) }
+{
+    compare_pair(pair, other.abbreviated, other.key.texts(), &other.id)
+}

@@ -630,6 +630,65 @@ fn are_same(alloc: Global, table: &IndexTable, other: &IndexTable) -> Result<boo
     Ok(table.length() == other.length())
 }
 
+// Many keys in no order.
+fn mixed_keys(alloc: Global) -> Result<KeySet, Fail> {
+    let mut set = KeySet::new(alloc);
+    for number in 0..700u64 {
+        let drawn = number.wrapping_mul(2_654_435_769) >> 8;
+        let text = format!(in alloc; "word{:07}", drawn % 10_000_000)?;
+        if let Some(key) = key_of(texts(alloc, text.as_str())?) {
+            set.insert(key)?;
+        }
+    }
+    Ok(set)
+}
+
+// Puts the pairs of some keys beside those that stand.
+fn put_beside(table: &mut IndexTable, id: &DocId, set: KeySet) -> Result<(), Memory> {
+    table.drop_pairs(id, set.keys.as_slice());
+    table.add(id, set.keys)
+}
+
+// Puts each pair alone.
+fn put_alone(alloc: Global, table: &mut IndexTable, id: &DocId, set: KeySet) -> Result<(), Fail> {
+    for key in set.keys.into_vec() {
+        let mut one = KeySet::new(alloc);
+        one.insert(key)?;
+        put_beside(table, id, one)?;
+    }
+    Ok(())
+}
+
+// Puts many pairs at once into a table of so many documents.
+fn at_once(alloc: Global, id: &DocId, documents: u64) -> Result<IndexTable, Fail> {
+    let mut table = IndexTable::new(alloc);
+    grow(alloc, &mut table, documents)?;
+    put(&mut table, id, mixed_keys(alloc)?, false)?;
+    Ok(table)
+}
+
+// The same, one by one.
+fn one_by_one(alloc: Global, id: &DocId, documents: u64) -> Result<IndexTable, Fail> {
+    let mut table = IndexTable::new(alloc);
+    grow(alloc, &mut table, documents)?;
+    put_alone(alloc, &mut table, id, mixed_keys(alloc)?)?;
+    Ok(table)
+}
+
+fn takes_at_once(alloc: Global, documents: u64) -> Result<bool, Fail> {
+    let id = DocId::read(alloc, "mixed")?;
+    let table = at_once(alloc, &id, documents)?;
+    let other = one_by_one(alloc, &id, documents)?;
+    Ok(table.length() > 600 && walks(&table) && are_same(alloc, &table, &other)?)
+}
+
+#[test]
+fn takes_many_pairs_at_once(rt: HostRuntime) -> Result<(), Fail> {
+    assert!(rt; takes_at_once(rt.alloc(), 0)?);
+    assert!(rt; takes_at_once(rt.alloc(), 200)?);
+    Ok(())
+}
+
 fn drop_four(alloc: Global, table: &mut IndexTable, number: u64) -> Result<(), Fail> {
     let id = numbered_document(alloc, number)?;
     let set = four_keys(alloc, number)?;

@@ -1,12 +1,13 @@
 -- A file begins with at most one field of each kind, and the reader finds it.
 use Rattle.std.proofs.Common.{◌≡◌, ℕ, zero, suc, ⊎_elim, ◌+◌, ◌^◌, ◌<◌, ◌≤◌, Bool, true, false, ◌&&◌, List, [], ◌∷◌}
 use Rattle.std.proofs.Common.{◌++◌, length, get_or, take, drop, refl, sym, ◌∙◌, ap, subst, arith, length-append}
-use Rattle.std.specs.Prelude.{None}
+use Rattle.std.specs.Prelude.{None, codes}
 use Rattle.std.specs.Int.{w16, w32, w64, from_be_bytes}
 use Rattle.std.specs.List.{list_all}
 use Rattle.std.specs.Str.{IsUtf8, IsAscii}
 use Rattle.std.proofs.lemmas.Nat.{from_be_bytes-to_be_bytes_2, from_be_bytes-to_be_bytes_4, from_be_bytes-to_be_bytes_8}
 use Rattle.std.proofs.lemmas.List.{take_at, drop_at, take-append-drop, append_assoc, length-take-le, get_or_past}
+use Rattle.std.proofs.lemmas.List.{drop_more}
 use Rattle.std.proofs.lemmas.Bool.{cases_lt}
 use Rattle.std.proofs.lemmas.Bool.Decides.{nat_tests}
 use Rattle.std.proofs.lemmas.Str.{IsUtf8-from_ascii}
@@ -17,6 +18,7 @@ use Rattle.u1_base.specs.declared.ids.Form.{Form}
 use Rattle.u1_base.specs.declared.ids.Form.TheVariants as form_of
 use Rattle.journal.specs.Image.{first_field, body_field}
 use Rattle.journal.specs.Damage.{Begins}
+use Rattle.journal.specs.declared.layout.TheConstants.{FIRST_FIELD_BYTES, LETTERS_BYTES}
 
 u16-same : (a b : ℕ) → a < 2 ^ 16 → b < 2 ^ 16 → u16_bytes a ≡ u16_bytes b → a ≡ b
 unfolding u16_bytes
@@ -172,6 +174,24 @@ id_utf8 form text i = IsUtf8-from_ascii text (all_ascii form text (id_facts form
 pub first_front : (format : ℕ) (bytes : List ℕ) → Begins (first_field format) bytes → take 8 bytes ≡ first_field format
 first_front format bytes b = ap (λ (n : ℕ). take n bytes) (sym (length-first_field format))
     ∙ begins_front (first_field format) bytes b
+
+-- the letters, and then the format
+pub first_begins : (format : ℕ) (bytes : List ℕ) → take LETTERS_BYTES bytes ≡ codes "U1DBVOL"
+    → LETTERS_BYTES < length bytes → get_or bytes LETTERS_BYTES 0 ≡ format → Begins (first_field format) bytes
+unfolding first_field
+first_begins format bytes letters low at = (
+  drop FIRST_FIELD_BYTES bytes,
+  sym (take-append-drop LETTERS_BYTES bytes)
+      ∙ ap (λ (l : List ℕ). l ++ drop LETTERS_BYTES bytes) letters
+      ∙ ap (λ (l : List ℕ). codes "U1DBVOL" ++ l)
+      (drop_more bytes LETTERS_BYTES 0 low ∙ ap (λ (b : ℕ). b ∷ drop FIRST_FIELD_BYTES bytes) at)
+      ∙ sym (append_assoc (codes "U1DBVOL") (format ∷ []) (drop FIRST_FIELD_BYTES bytes)),
+)
+
+pub first_parts : (format : ℕ) (bytes : List ℕ) → Begins (first_field format) bytes
+    → (take LETTERS_BYTES bytes ≡ codes "U1DBVOL") × (get_or bytes LETTERS_BYTES 0 ≡ format)
+unfolding first_field
+first_parts format bytes b = (ap (take LETTERS_BYTES) b.1, ap (λ (l : List ℕ). get_or l LETTERS_BYTES 0) b.1)
 
 pub limit_front : (limit : ℕ) (bytes : List ℕ) → Begins (u64_bytes limit) bytes → take 8 bytes ≡ u64_bytes limit
 limit_front limit bytes b = ap (λ (n : ℕ). take n bytes) (sym (length-u64 limit))

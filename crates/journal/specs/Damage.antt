@@ -5,6 +5,7 @@ use Rattle.u1_base.specs.Ids.{IsId}
 use Rattle.u1_base.specs.declared.ids.Form.TheVariants as form
 use Rattle.journal.specs.Image.{Head, IsFormat, IsLimit, IsHeader, IsBody, AreBodies, first_field, body_field}
 use Rattle.journal.specs.Image.{up_to_gate}
+use Rattle.journal.specs.declared.layout.TheConstants.{OPEN_GATE}
 
 -- the file begins with these bytes
 abbrev pub Begins : List ℕ → List ℕ → Type 0
@@ -35,7 +36,7 @@ before_part Name format head bodies = first_field format
 before_part Uid format head bodies = first_field format ++ text_field head.name
 before_part Limit format head bodies = first_field format ++ text_field head.name ++ text_field head.uid
 before_part Gate format head bodies = up_to_gate format head bodies
-before_part Body format head bodies = up_to_gate format head bodies ++ 1 ∷ []
+before_part Body format head bodies = up_to_gate format head bodies ++ OPEN_GATE ∷ []
 
 -- these bytes stand before a field of the kind in some image
 pub record IsBefore (part : Part) (bytes : List ℕ) : Type 0 where

@@ -7,6 +7,7 @@ use Rattle.u1_base.specs.declared.ids.Form.{Form}
 use Rattle.journal.specs.Image.{IsFormat, IsLimit, IsHeader, AreBodies, first_field, IsBody, body_field, entries}
 use Rattle.journal.specs.Image.{header_bytes}
 use Rattle.journal.specs.Damage.{Begins, DamagedAt}
+use Rattle.journal.specs.declared.layout.TheConstants.{OPEN_GATE}
 use Rattle.journal.specs.declared.parsed.Parsed.{Parsed}
 use Rattle.journal.specs.declared.parsed.Parsed.TheVariants as parsed
 use Rattle.journal.specs.declared.parsed.Start.{Start}
@@ -51,14 +52,14 @@ abbrev pub BreaksAt : ℕ → List ℕ → Type 0
 BreaksAt place bytes =
     (bodies : List (List ℕ)) × AreBodies bodies
     × (((bytes ≡ entries bodies) × (place ≡ length (entries bodies)))
-    ⊎ ((tail : List ℕ) × (bytes ≡ entries bodies ++ 1 ∷ tail) × (place ≡ length (entries bodies) + 1)
+    ⊎ ((tail : List ℕ) × (bytes ≡ entries bodies ++ OPEN_GATE ∷ tail) × (place ≡ length (entries bodies) + 1)
     × NoBody tail))
 
 -- the bytes are entries of this length, and then a gate that is not open; or they break
 abbrev pub EndsEntries : List ℕ → Result ℕ ℕ → Type 0
 EndsEntries bytes (Ok size) =
     (bodies : List (List ℕ)) × AreBodies bodies × (size ≡ length (entries bodies))
-    × ((gate : ℕ) × (rest : List ℕ) × (gate ≢ 1) × (bytes ≡ entries bodies ++ gate ∷ rest))
+    × ((gate : ℕ) × (rest : List ℕ) × (gate ≢ OPEN_GATE) × (bytes ≡ entries bodies ++ gate ∷ rest))
 EndsEntries bytes (Err place) = BreaksAt place bytes
 
 -- the entries of these bodies stand before the place

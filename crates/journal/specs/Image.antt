@@ -1,9 +1,10 @@
--- The bytes of an image: a header, entries behind open gates, and a closed gate.
+-- The bytes of an image: a header, entries behind open gates, and a closed gate. The constants stand in src/layout.rt.
 use Rattle.std.specs.Prelude.{◌≡◌, ◌≢◌, ◌⊎◌, ℕ, ◌^◌, ◌<◌, ◌≤◌, List, [], ◌∷◌, ◌++◌, codes, length}
 use Rattle.u1_base.specs.Fields.{text_field, u32_bytes, u64_bytes}
 use Rattle.u1_base.specs.Ids.{IsId}
 use Rattle.u1_base.specs.declared.limits.TheConstants.{GREATEST_IMAGE_LIMIT, LEAST_IMAGE_LIMIT}
 use Rattle.u1_base.specs.declared.ids.Form.TheVariants.{Name, Replica}
+use Rattle.journal.specs.declared.layout.TheConstants.{CLOSED_GATE, FIRST_FORMAT, OPEN_GATE, SECOND_FORMAT}
 
 -- the database's name, the replica's uid, and the most bytes that the image may have
 pub record Head : Type 0 where
@@ -11,9 +12,9 @@ pub record Head : Type 0 where
   pub uid : List ℕ
   pub limit : ℕ
 
--- format 2 is written, formats 1 and 2 are read
+-- the second format is written, both are read
 abbrev pub IsFormat : ℕ → Type 0
-IsFormat format = (format ≡ 1) ⊎ (format ≡ 2)
+IsFormat format = (format ≡ FIRST_FORMAT) ⊎ (format ≡ SECOND_FORMAT)
 
 -- from 1 KiB to 1 TiB
 abbrev pub IsLimit : ℕ → Type 0
@@ -26,7 +27,7 @@ pub record IsHeader (format : ℕ) (head : Head) : Type 0 where
   pub uid : IsId Replica head.uid
   pub limit : IsLimit head.limit
 
--- the first eight bytes
+-- the letters, and the format
 unfoldable pub first_field : ℕ → List ℕ
 first_field format = codes "U1DBVOL" ++ format ∷ []
 
@@ -47,7 +48,7 @@ body_field body = u32_bytes (length body) ++ body
 
 -- an entry: an open gate, and a body behind its length
 abbrev pub entry : List ℕ → List ℕ
-entry body = 1 ∷ body_field body
+entry body = OPEN_GATE ∷ body_field body
 
 abbrev pub entries : List (List ℕ) → List ℕ
 entries [] = []
@@ -59,7 +60,7 @@ up_to_gate format head bodies = header_bytes format head ++ entries bodies
 
 -- an image as it is written
 abbrev pub image : ℕ → Head → List (List ℕ) → List ℕ
-image format head bodies = up_to_gate format head bodies ++ 0 ∷ []
+image format head bodies = up_to_gate format head bodies ++ CLOSED_GATE ∷ []
 
 -- a file reads as this: header and entries, then a gate that is not open, and then anything
 pub record ReadsAs (format : ℕ) (head : Head) (bodies : List (List ℕ)) (file : List ℕ) : Type 0 where
@@ -67,7 +68,7 @@ pub record ReadsAs (format : ℕ) (head : Head) (bodies : List (List ℕ)) (file
   pub rest : List ℕ
   pub header : IsHeader format head
   pub fit : AreBodies bodies
-  pub shut : gate ≢ 1
+  pub shut : gate ≢ OPEN_GATE
   pub split : file ≡ up_to_gate format head bodies ++ gate ∷ rest
 
 -- a file reads as the image, or as the image with one body more

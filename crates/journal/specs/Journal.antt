@@ -4,6 +4,7 @@ use Rattle.disk_model.specs.Device.{Device, File, IsSettled, file_of}
 use Rattle.disk_model.specs.Moments.{LeavesOnly}
 use Rattle.journal.specs.Image.{Head, ReadsAs, ReadsWithOrWithout, up_to_gate, image}
 use Rattle.journal.specs.Damage.{DamagedAt}
+use Rattle.journal.specs.declared.layout.TheConstants.{BEFORE_BODY_BYTES, SECOND_FORMAT}
 
 -- a journal: the image's length up to and with the closed gate, and its limit
 pub record Extent : Type 0 where
@@ -37,9 +38,9 @@ LeavesWithOrWithout body journal old new =
     (format : ℕ) (head : Head) (bodies : List (List ℕ)) → Holds journal format head bodies (file_of old)
     → LeavesOnly old new (ReadsWithOrWithout body format head bodies)
 
--- the length that the image has with one more body of n bytes: its gate, four bytes of length, the body
+-- the length that the image has with one more body of n bytes
 abbrev pub need : Extent → ℕ → ℕ
-need journal n = min (journal.length + 5 + n) (2 ^ 64 - 1)
+need journal n = min (journal.length + BEFORE_BODY_BYTES + n) (2 ^ 64 - 1)
 
 -- a body of n bytes more would exceed the image's limit
 abbrev pub IsFull : Extent → ℕ → Type 0
@@ -48,4 +49,4 @@ IsFull journal n = journal.limit < need journal n
 -- a file that an anew begun image leaves on the way: the old one, one that does not read from its first byte on, or the
 -- empty image
 abbrev pub IsOnTheWay : List ℕ → Head → List ℕ → Type 0
-IsOnTheWay old head file = (file ≡ old) ⊎ (DamagedAt 0 file ⊎ (file ≡ image 2 head []))
+IsOnTheWay old head file = (file ≡ old) ⊎ (DamagedAt 0 file ⊎ (file ≡ image SECOND_FORMAT head []))

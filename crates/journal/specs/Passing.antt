@@ -5,6 +5,7 @@ use Rattle.journal.specs.Journal.{IsExtent}
 use Rattle.journal.specs.Reader.Reading.{Damaged, Stands}
 use Rattle.journal.specs.Opening.{Finds}
 use Rattle.journal.specs.Stored.{StoredImage}
+use Rattle.journal.specs.declared.layout.TheConstants.{BEFORE_BODY_BYTES}
 use Rattle.journal.specs.declared.passing.Entry.{Entry}
 use Rattle.journal.specs.declared.opening.OpenFault.{OpenFault}
 use Rattle.journal.specs.declared.opening.OpenFault.TheVariants as fault
@@ -29,8 +30,8 @@ abbrev pub Meets : StoredImage → List (List ℕ) → Option Entry → Type 0
 Meets image bodies None = image.bodies ≡ bodies
 Meets image bodies (Some entry) = HasPassed image (bodies ++ entry.body.now ∷ []) entry.next
 
--- an entry at the place: a gate, a length in four bytes and the body, before the image's closed gate
+-- an entry at the place: a gate, a length and the body, before the image's closed gate
 pub record IsWithin (image : StoredImage) (place : ℕ) (entry : Entry) : Type 0 where
-  pub body : entry.place ≡ place + 5
+  pub body : entry.place ≡ place + BEFORE_BODY_BYTES
   pub next : entry.next ≡ entry.place + length entry.body.now
   pub low : entry.next < image.journal.length

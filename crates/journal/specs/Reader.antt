@@ -9,6 +9,8 @@ use Rattle.u1_base.specs.declared.limits.TheConstants.{GREATEST_IMAGE_LIMIT, LEA
 use Rattle.u1_base.specs.declared.ids.Form.{Form}
 use Rattle.u1_base.specs.declared.ids.Form.TheVariants.{Name, Replica}
 use Rattle.journal.specs.Image.{Head, body_field, first_field}
+use Rattle.journal.specs.declared.layout.TheConstants.{BODY_LENGTH_BYTES, FIRST_FIELD_BYTES, FIRST_FORMAT}
+use Rattle.journal.specs.declared.layout.TheConstants.{LIMIT_BYTES, OPEN_GATE, SECOND_FORMAT, TEXT_LENGTH_BYTES}
 
 -- what opening finds: the place of the damage, or what the file reads as
 pub data Reading : Type 0 where
@@ -19,23 +21,25 @@ abbrev pub begins : List ℕ → List ℕ → Bool
 begins field file = bytes_eq (take (length field) file) field
 
 abbrev pub read_first : List ℕ → Option ℕ
-read_first file = if begins (first_field 1) file then Some 1 else (if begins (first_field 2) file then Some 2 else None)
+read_first file =
+    if begins (first_field FIRST_FORMAT) file then Some FIRST_FORMAT
+    else (if begins (first_field SECOND_FORMAT) file then Some SECOND_FORMAT else None)
 
 -- the text of the field that the bytes begin with
 abbrev pub read_text : Form → List ℕ → Option (List ℕ)
 read_text form file =
-    let text = take (from_be_bytes w16 (take 2 file)) (drop 2 file) in
+    let text = take (from_be_bytes w16 (take TEXT_LENGTH_BYTES file)) (drop TEXT_LENGTH_BYTES file) in
     if begins (text_field text) file && is_id form text then Some text else None
 
 abbrev pub read_limit : List ℕ → Option ℕ
 read_limit file =
-    let limit = from_be_bytes w64 (take 8 file) in
+    let limit = from_be_bytes w64 (take LIMIT_BYTES file) in
     if begins (u64_bytes limit) file && nat_le LEAST_IMAGE_LIMIT limit
     && nat_le limit GREATEST_IMAGE_LIMIT then Some limit else None
 
 abbrev pub read_body : List ℕ → Option (List ℕ)
 read_body file =
-    let body = take (from_be_bytes w32 (take 4 file)) (drop 4 file) in
+    let body = take (from_be_bytes w32 (take BODY_LENGTH_BYTES file)) (drop BODY_LENGTH_BYTES file) in
     if begins (body_field body) file && nat_le 1 (length body) && nat_lt (length body) (2 ^ 32) then Some body else None
 
 -- what was read, or damage at the place
@@ -53,7 +57,7 @@ unfoldable pub read_entries : ℕ → ℕ → Head → ℕ → List ℕ → Read
 read_entries zero format head place file = Damaged place
 read_entries (suc fuel) format head place [] = Damaged place
 read_entries (suc fuel) format head place (gate ∷ tail) =
-    if gate == 1
+    if gate == OPEN_GATE
     then or_damaged (read_body tail) (place + 1)
     (λ body. with_body body
     (read_entries fuel format head (place + 1 + length (body_field body)) (drop (length (body_field body)) tail)))
@@ -62,21 +66,22 @@ read_entries (suc fuel) format head place (gate ∷ tail) =
 -- behind the header
 abbrev pub after_limit : List ℕ → ℕ → List ℕ → List ℕ → ℕ → Reading
 after_limit file format name uid limit =
-    let place = 8 + length (text_field name) + length (text_field uid) + 8 in
+    let place = FIRST_FIELD_BYTES + length (text_field name) + length (text_field uid) + LIMIT_BYTES in
     read_entries (length file) format (record { name = name; uid = uid; limit = limit }) place (drop place file)
 
 abbrev pub after_uid : List ℕ → ℕ → List ℕ → List ℕ → Reading
 after_uid file format name uid =
-    let place = 8 + length (text_field name) + length (text_field uid) in
+    let place = FIRST_FIELD_BYTES + length (text_field name) + length (text_field uid) in
     or_damaged (read_limit (drop place file)) place (after_limit file format name uid)
 
 abbrev pub after_name : List ℕ → ℕ → List ℕ → Reading
 after_name file format name =
-    let place = 8 + length (text_field name) in
+    let place = FIRST_FIELD_BYTES + length (text_field name) in
     or_damaged (read_text Replica (drop place file)) place (after_uid file format name)
 
 abbrev pub after_first : List ℕ → ℕ → Reading
-after_first file format = or_damaged (read_text Name (drop 8 file)) 8 (after_name file format)
+after_first file format =
+    or_damaged (read_text Name (drop FIRST_FIELD_BYTES file)) FIRST_FIELD_BYTES (after_name file format)
 
 -- the first field that cannot be read, or what the file reads as
 unfoldable pub read_image : List ℕ → Reading

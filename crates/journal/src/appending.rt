@@ -7,6 +7,7 @@ ghost use Rattle.disk_model.specs.Moments.{LeavesOnly};
 ghost use Rattle.disk_model.specs.Counts.{MakesCalls};
 ghost use Rattle.journal.specs.Adding.{IsAdding};
 
+use crate::layout::{BEFORE_BODY_BYTES, OPEN_GATE};
 use crate::spelling::behind_the_gate;
 use disk_model::{Disk, DiskFailed, write_synced};
 use std::alloc::Global;
@@ -54,14 +55,15 @@ pub struct Journal {
 }
 
 impl Model for Journal {
-    ghost use Rattle.std.specs.Prelude.{◌≤◌, ◌^◌};
+    ghost use Rattle.std.specs.Prelude.{◌≤◌};
+    ghost use Rattle.journal.specs.Image.{IsLimit};
     ghost use Rattle.journal.specs.Journal.{Extent};
 
     ghost Value = { Extent };
 
     ghost view = { λ j. record { length = j.length; limit = j.limit } };
 
-    ghost invariant = { λ j. (1 ≤ j.length) × (j.limit ≤ 2 ^ 40) };
+    ghost invariant = { λ j. (1 ≤ j.length) × IsLimit j.limit };
 }
 
 impl Journal {
@@ -70,12 +72,13 @@ impl Journal {
     ghost use Rattle.u1_base.specs.Causes.{HasCauseOf};
     ghost use Rattle.disk_model.specs.Device.{file_of};
     ghost use Rattle.disk_model.specs.Counts.{MakesCalls};
+    ghost use Rattle.journal.specs.Image.{IsLimit};
     ghost use Rattle.journal.specs.Journal.{HoldsOneMore, IsFull, IsHeld, LeavesWithOrWithout};
     ghost use Rattle.journal.specs.Journal.{need};
 
     pub(crate) fn of(length: u64, limit: u64) -> Journal
         requires some { 1 ≤ length }
-        requires greatest { limit ≤ 2 ^ 40 }
+        requires limit { IsLimit limit }
         ensures length { result.length ≡ length }
         ensures limit { result.limit ≡ limit }
     {
@@ -87,6 +90,14 @@ impl Journal {
         ensures { result ≡ self.now.length }
     {
         self.length
+    }
+
+    /// The most bytes that the image may have.
+    pub fn limit(&self) -> u64
+        ensures limit { result ≡ self.now.limit }
+        ensures bounds { IsLimit result }
+    {
+        self.limit
     }
 
     /// Adds a body of 1 to 2^32-1 bytes, with two writes and two syncs.
@@ -105,7 +116,8 @@ impl Journal {
         ensures ok { IsTrue D.tells
             → OnOk result (HoldsOneMore body.now self.old self.new (file_of (D.known disk.old))
             (file_of (D.known disk.new))) }
-        ensures length { OnOk result (self.new.length ≡ self.old.length + 5 + length body.now) }
+        ensures length { OnOk result
+            (self.new.length ≡ self.old.length + BEFORE_BODY_BYTES + length body.now) }
         ensures limit { self.new.limit ≡ self.old.limit }
         ensures same { OnErr result (self.new ≡ self.old) }
         ensures any_moment { IsTrue D.tells
@@ -122,7 +134,7 @@ impl Journal {
     {
         let need = self
             .length
-            .saturating_add(5)
+            .saturating_add(BEFORE_BODY_BYTES as u64)
             .saturating_add(body.len() as u64);
         let limit = self.limit;
         if need > limit {
@@ -147,7 +159,8 @@ fn add_behind<D: Disk>(disk: &mut D, gate: u64, behind: &[u8]) -> Result<(), Dis
     requires room { gate + 1 < 2 ^ 64 }
     ensures written { IsTrue D.tells
         → OnOk result ((D.known disk.new).seen
-        ≡ overwritten (overwritten (D.known disk.old).seen (gate + 1) behind.now) gate (1 ∷ [])) }
+        ≡ overwritten (overwritten (D.known disk.old).seen (gate + 1) behind.now) gate
+        (OPEN_GATE ∷ [])) }
     ensures durable { IsTrue D.tells → OnOk result (IsSettled (file_of (D.known disk.new))) }
     ensures beside { IsTrue D.tells → (D.known disk.new).beside ≡ (D.known disk.old).beside }
     ensures any_moment { IsTrue D.tells → IsSettled (file_of (D.known disk.old))
@@ -157,5 +170,5 @@ fn add_behind<D: Disk>(disk: &mut D, gate: u64, behind: &[u8]) -> Result<(), Dis
     ensures cause { HasCause (D.known disk.old).faults (D.known disk.new).faults result }
 {
     write_synced(disk, gate + 1, behind)?;
-    write_synced(disk, gate, &[1])
+    write_synced(disk, gate, &[OPEN_GATE])
 }

@@ -11,7 +11,7 @@ use u1_base::{Bytes, DbName, Items, ReplicaUid};
 pub struct Header {
     pub name: DbName,
     pub uid: ReplicaUid,
-    /// In bytes, from 1,024 to 2^40.
+    /// In bytes, from `u1_base::limits::LEAST_IMAGE_LIMIT` to `GREATEST_IMAGE_LIMIT`.
     pub limit: u64,
     pub ghost least: { LEAST_IMAGE_LIMIT ≤ limit },
     pub ghost greatest: { limit ≤ GREATEST_IMAGE_LIMIT },

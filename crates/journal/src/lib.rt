@@ -8,6 +8,7 @@
 
 mod appending;
 mod header;
+mod layout;
 mod new_image;
 mod opening;
 mod parsed;
@@ -21,6 +22,7 @@ mod writing;
 
 pub use appending::{AppendFault, Journal};
 pub use header::{Bodies, Header};
+pub use layout::{FIRST_FORMAT, SECOND_FORMAT};
 pub use new_image::NewImage;
 pub use opening::{OpenFault, Opened, open_image};
 pub use passing::{Entry, Stored, read_image};

@@ -25,14 +25,15 @@ pub struct NewImage {
 }
 
 impl Model for NewImage {
-    ghost use Rattle.std.specs.Prelude.{◌≤◌, ◌^◌, length};
+    ghost use Rattle.std.specs.Prelude.{◌≤◌, length};
+    ghost use Rattle.journal.specs.Image.{IsLimit};
     ghost use Rattle.journal.specs.Spelled.{Spelled};
 
     ghost Value = { Spelled };
 
     ghost view = { λ n. record { bytes = n.bytes; limit = n.limit } };
 
-    ghost invariant = { λ n. (1 ≤ length n.bytes) × (n.limit ≤ 2 ^ 40) };
+    ghost invariant = { λ n. (1 ≤ length n.bytes) × IsLimit n.limit };
 }
 
 impl NewImage {

@@ -21,7 +21,7 @@ pub struct Opened {
     pub header: Header,
     pub journal: Journal,
     pub bodies: Bodies,
-    /// The format of the image, 1 or 2.
+    /// The format of the image, `FIRST_FORMAT` or `SECOND_FORMAT`.
     pub format: u8,
 }
 

@@ -8,6 +8,7 @@ ghost use Rattle.disk_model.specs.Counts.{called, pieces};
 ghost use Rattle.journal.specs.Journal.{Holds};
 ghost use Rattle.journal.specs.Passing.{ReadsImage};
 
+use crate::layout::BEFORE_BODY_BYTES;
 use crate::parsed::{Parsed, Start};
 use crate::reading::{add_copy, behind, body_of, end_of_entries, header_of};
 use crate::{Bodies, Header, Journal, OpenFault};
@@ -52,7 +53,7 @@ impl Stored {
     ghost use Rattle.std.specs.Prelude.{◌≡◌, ℕ, List, [], IfOk, IfSome};
     ghost use Rattle.journal.specs.Passing.{HasPassed, IsWithin, Meets};
 
-    /// The format of the image, 1 or 2.
+    /// The format of the image, `FIRST_FORMAT` or `SECOND_FORMAT`.
     pub fn format(&self) -> u8
         ensures { result ≡ self.now.format }
     {
@@ -101,7 +102,7 @@ impl Stored {
         let Some(body) = body_of(behind(entries, place + 1)) else {
             return None;
         };
-        let place = place + 5;
+        let place = place + BEFORE_BODY_BYTES;
         let next = place + body.len();
         Some(Entry { body, place, next })
     }

@@ -6,14 +6,15 @@ ghost use Rattle.journal.specs.Damage.{Begins};
 ghost use Rattle.journal.specs.Fields.{EndsEntries, NoBody, NoFirst, NoLimit, NoText, ReadsHeader};
 ghost use Rattle.journal.specs.Fields.{ReadsIdField};
 
+use crate::layout::{
+    BEFORE_BODY_BYTES, BODY_LENGTH_BYTES, FIRST_FIELD_BYTES, FIRST_FORMAT, LETTERS, LETTERS_BYTES,
+    LIMIT_BYTES, OPEN_GATE, SECOND_FORMAT, TEXT_LENGTH_BYTES,
+};
 use crate::parsed::{Parsed, Start};
 use crate::{Bodies, Header};
 use std::alloc::Global;
 use u1_base::limits::{GREATEST_IMAGE_LIMIT, LEAST_IMAGE_LIMIT};
 use u1_base::{Bytes, Database, FormOf, Id, IdFault, Memory, Replica, u16_at, u32_at, u64_at};
-
-/// The gate of an entry that counts. Every other gate is closed.
-const OPEN_GATE: u8 = 1;
 
 /// The bytes from the place on.
 pub(crate) fn behind(bytes: &[u8], place: usize) -> &[u8]
@@ -23,20 +24,24 @@ pub(crate) fn behind(bytes: &[u8], place: usize) -> &[u8]
     &bytes[place..]
 }
 
-/// The format, where the bytes begin with the eight of an image.
+/// The format, where the bytes begin with the first field of an image.
 fn format_of(bytes: &[u8]) -> Option<u8>
     ensures { MatchOption result (NoFirst bytes.now)
         (λ format. IsFormat format × Begins (first_field format) bytes.now) }
 {
-    if bytes.len() < 8 {
+    if bytes.len() < FIRST_FIELD_BYTES {
         return None;
     }
-    let first = &bytes[..8];
-    if first == b"U1DBVOL\x01".as_slice() {
-        return Some(1);
+    let letters = &bytes[..LETTERS_BYTES];
+    if letters != LETTERS.as_bytes() {
+        return None;
     }
-    if first == b"U1DBVOL\x02".as_slice() {
-        return Some(2);
+    let format = bytes[LETTERS_BYTES];
+    if format == FIRST_FORMAT {
+        return Some(FIRST_FORMAT);
+    }
+    if format == SECOND_FORMAT {
+        return Some(SECOND_FORMAT);
     }
     None
 }
@@ -46,11 +51,11 @@ fn text_of(bytes: &[u8]) -> Option<&str>
     ensures { MatchOption result (NoText bytes.now)
         (λ text. (length text.now < 65536) × Begins (text_field text.now) bytes.now) }
 {
-    if bytes.len() < 2 {
+    if bytes.len() < TEXT_LENGTH_BYTES {
         return None;
     }
     let size = u16_at(bytes, 0) as usize;
-    let rest = &bytes[2..];
+    let rest = &bytes[TEXT_LENGTH_BYTES..];
     if rest.len() < size {
         return None;
     }
@@ -81,7 +86,7 @@ fn limit_of(bytes: &[u8]) -> Option<u64>
     ensures { MatchOption result (NoLimit bytes.now)
         (λ limit. IsLimit limit × Begins (u64_bytes limit) bytes.now) }
 {
-    if bytes.len() < 8 {
+    if bytes.len() < LIMIT_BYTES {
         return None;
     }
     let limit = u64_at(bytes, 0);
@@ -99,11 +104,11 @@ pub(crate) fn body_of(bytes: &[u8]) -> Option<&[u8]>
     ensures { MatchOption result (NoBody bytes.now)
         (λ body. IsBody body.now × Begins (body_field body.now) bytes.now) }
 {
-    if bytes.len() < 4 {
+    if bytes.len() < BODY_LENGTH_BYTES {
         return None;
     }
     let size = u32_at(bytes, 0) as usize;
-    let rest = &bytes[4..];
+    let rest = &bytes[BODY_LENGTH_BYTES..];
     if size == 0 {
         return None;
     }
@@ -120,20 +125,20 @@ pub(crate) fn header_of(alloc: Global, bytes: &[u8]) -> Parsed<Start>
     let Some(format) = format_of(bytes) else {
         return Parsed::Broken(0);
     };
-    let after_first = behind(bytes, 8);
+    let after_first = behind(bytes, FIRST_FIELD_BYTES);
     let name = match id_of::<Database>(alloc, after_first) {
         Parsed::Whole(name) => name,
-        Parsed::Broken(_) => return Parsed::Broken(8),
+        Parsed::Broken(_) => return Parsed::Broken(FIRST_FIELD_BYTES),
         Parsed::Memory => return Parsed::Memory,
     };
-    let uid_at = 10 + name.as_str().len();
+    let uid_at = FIRST_FIELD_BYTES + TEXT_LENGTH_BYTES + name.as_str().len();
     let after_name = behind(bytes, uid_at);
     let uid = match id_of::<Replica>(alloc, after_name) {
         Parsed::Whole(uid) => uid,
         Parsed::Broken(_) => return Parsed::Broken(uid_at),
         Parsed::Memory => return Parsed::Memory,
     };
-    let limit_at = uid_at + 2 + uid.as_str().len();
+    let limit_at = uid_at + TEXT_LENGTH_BYTES + uid.as_str().len();
     let after_uid = behind(bytes, limit_at);
     let Some(limit) = limit_of(after_uid) else {
         return Parsed::Broken(limit_at);
@@ -142,7 +147,7 @@ pub(crate) fn header_of(alloc: Global, bytes: &[u8]) -> Parsed<Start>
     Parsed::Whole(Start {
         format,
         header,
-        length: limit_at + 8,
+        length: limit_at + LIMIT_BYTES,
     })
 }
 
@@ -160,7 +165,7 @@ pub(crate) fn end_of_entries(bytes: &[u8]) -> Result<usize, usize>
         let Some(body) = body_of(after_gate) else {
             return Err(at + 1);
         };
-        at += 5 + body.len();
+        at += BEFORE_BODY_BYTES + body.len();
     }
     Err(at)
 }

@@ -9,14 +9,13 @@ ghost use Rattle.disk_model.specs.Counts.{called};
 ghost use Rattle.journal.specs.Image.{image};
 ghost use Rattle.journal.specs.Journal.{Holds, IsOnTheWay, IsExtent};
 ghost use Rattle.journal.specs.Restarting.{IsAnew, IsKeptOrSpoilt};
+ghost use Rattle.journal.specs.declared.layout.TheConstants.{SECOND_FORMAT};
 
+use crate::layout::FIRST_BYTE;
 use crate::reading::behind;
 use crate::{Header, ImageFault, Journal, NewImage};
 use disk_model::{Disk, DiskFailed, cut_synced, first_byte, write_synced};
 use std::alloc::Global;
-
-/// The first byte of every image.
-const FIRST_BYTE: u8 = 0x55;
 
 /// Puts an empty image of format 2 in the place of all that the disk holds, in four parts, each
 /// with its sync.
@@ -30,10 +29,11 @@ pub fn restart_image<D: Disk>(
 ) -> Result<Journal, ImageFault>
     requires { IsTrue D.tells → IsSettled (file_of (D.known disk.old)) }
     ensures written { IsTrue D.tells
-        → OnOk result ((D.known disk.new).seen ≡ image 2 header.now []) }
+        → OnOk result ((D.known disk.new).seen ≡ image SECOND_FORMAT header.now []) }
     ensures ok { IsTrue D.tells
-        → IfOk result (λ journal. Holds journal 2 header.now [] (file_of (D.known disk.new))) }
-    ensures extent { IfOk result (λ journal. IsExtent 2 header.now [] journal) }
+        → IfOk result (λ journal. Holds journal SECOND_FORMAT header.now []
+        (file_of (D.known disk.new))) }
+    ensures extent { IfOk result (λ journal. IsExtent SECOND_FORMAT header.now [] journal) }
     ensures beside { IsTrue D.tells → (D.known disk.new).beside ≡ (D.known disk.old).beside }
     ensures any_moment { IsTrue D.tells
         → LeavesOnly (D.known disk.old) (D.known disk.new)
@@ -55,7 +55,7 @@ pub fn restart_image<D: Disk>(
 fn begin_anew<D: Disk>(disk: &mut D, image: &[u8]) -> Result<(), DiskFailed>
     requires settled { IsTrue D.tells → IsSettled (file_of (D.known disk.old)) }
     requires some { 1 ≤ length image.now }
-    requires first { slice_index image.now 0 ≡ 85 }
+    requires first { slice_index image.now 0 ≡ FIRST_BYTE }
     ensures written { IsTrue D.tells → OnOk result ((D.known disk.new).seen ≡ image.now) }
     ensures durable { IsTrue D.tells → OnOk result (IsSettled (file_of (D.known disk.new))) }
     ensures beside { IsTrue D.tells → (D.known disk.new).beside ≡ (D.known disk.old).beside }
@@ -76,7 +76,8 @@ fn begin_anew<D: Disk>(disk: &mut D, image: &[u8]) -> Result<(), DiskFailed>
 fn spoil<D: Disk>(disk: &mut D) -> Result<(), DiskFailed>
     requires { IsTrue D.tells → IsSettled (file_of (D.known disk.old)) }
     ensures some { IsTrue D.tells → OnOk result (1 ≤ length (D.known disk.new).seen) }
-    ensures spoilt { IsTrue D.tells → OnOk result (slice_index (D.known disk.new).seen 0 ≢ 85) }
+    ensures spoilt { IsTrue D.tells
+        → OnOk result (slice_index (D.known disk.new).seen 0 ≢ FIRST_BYTE) }
     ensures durable { IsTrue D.tells → OnOk result (IsSettled (file_of (D.known disk.new))) }
     ensures beside { IsTrue D.tells → (D.known disk.new).beside ≡ (D.known disk.old).beside }
     ensures any_moment { IsTrue D.tells

@@ -2,6 +2,7 @@
 ghost use Rattle.std.specs.Prelude.{◌≡◌, ◌<◌, ◌^◌, [], ◌∷◌, ◌++◌, IfOk, OnOk, length};
 ghost use Rattle.journal.specs.Image.{AreBodies, IsHeader, body_field, entry, header_bytes, image};
 
+use crate::layout::{CLOSED_GATE, LETTERS, OPEN_GATE, SECOND_FORMAT};
 use crate::{Bodies, Header};
 use std::alloc::Global;
 use u1_base::{Bytes, Memory};
@@ -9,11 +10,12 @@ use u1_base::{Bytes, Memory};
 /// A header in format 2.
 #[tactic(auto, unfolding(crate::specs::Image::header_bytes, crate::specs::Image::first_field))]
 pub(crate) fn header_in_bytes(alloc: Global, header: &Header) -> Result<Bytes, Memory>
-    ensures bytes { IfOk result (λ bytes. bytes ≡ header_bytes 2 header.now) }
-    ensures header { OnOk result (IsHeader 2 header.now) }
+    ensures bytes { IfOk result (λ bytes. bytes ≡ header_bytes SECOND_FORMAT header.now) }
+    ensures header { OnOk result (IsHeader SECOND_FORMAT header.now) }
 {
     let mut out = Bytes::new(alloc);
-    out.extend(b"U1DBVOL\x02")?;
+    out.extend(LETTERS.as_bytes())?;
+    out.push(SECOND_FORMAT)?;
     out.push_text(header.name.as_str())?;
     out.push_text(header.uid.as_str())?;
     out.push_u64(header.limit)?;
@@ -27,14 +29,14 @@ pub(crate) fn image_in_bytes(
     bodies: &[Bytes],
 ) -> Result<Bytes, Memory>
     requires { AreBodies bodies.now }
-    ensures bytes { IfOk result (λ bytes. bytes ≡ image 2 header.now bodies.now) }
-    ensures header { OnOk result (IsHeader 2 header.now) }
+    ensures bytes { IfOk result (λ bytes. bytes ≡ image SECOND_FORMAT header.now bodies.now) }
+    ensures header { OnOk result (IsHeader SECOND_FORMAT header.now) }
 {
     let mut out = header_in_bytes(alloc, header)?;
     for body in bodies {
         push_entry(&mut out, body.as_slice())?;
     }
-    out.push(0)?;
+    out.push(CLOSED_GATE)?;
     Ok(out)
 }
 
@@ -42,7 +44,7 @@ fn push_entry(out: &mut Bytes, body: &[u8]) -> Result<(), Memory>
     requires { length body.now < 2 ^ 32 }
     ensures { OnOk result (out.new ≡ out.old ++ entry body.now) }
 {
-    out.push(1)?;
+    out.push(OPEN_GATE)?;
     push_body(out, body)
 }
 
@@ -59,10 +61,10 @@ fn push_body(out: &mut Bytes, body: &[u8]) -> Result<(), Memory>
 /// closed.
 pub(crate) fn behind_the_gate(alloc: Global, body: &[u8]) -> Result<Bytes, Memory>
     requires { length body.now < 2 ^ 32 }
-    ensures { IfOk result (λ bytes. bytes ≡ body_field body.now ++ 0 ∷ []) }
+    ensures { IfOk result (λ bytes. bytes ≡ body_field body.now ++ CLOSED_GATE ∷ []) }
 {
     let mut out = Bytes::new(alloc);
     push_body(&mut out, body)?;
-    out.push(0)?;
+    out.push(CLOSED_GATE)?;
     Ok(out)
 }

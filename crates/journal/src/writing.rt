@@ -7,6 +7,7 @@ ghost use Rattle.disk_model.specs.Moments.{LeavesOnly};
 ghost use Rattle.disk_model.specs.Counts.{MakesCalls};
 ghost use Rattle.journal.specs.Image.{AreBodies, image};
 ghost use Rattle.journal.specs.Journal.{Holds, IsExtent};
+ghost use Rattle.journal.specs.declared.layout.TheConstants.{SECOND_FORMAT};
 
 use crate::{Bodies, Header, Journal, NewImage};
 use disk_model::{Disk, DiskFailed};
@@ -49,11 +50,12 @@ pub fn write_image<D: Disk>(
 ) -> Result<Journal, ImageFault>
     requires { AreBodies bodies.now }
     ensures written { IsTrue D.tells
-        → OnOk result ((D.known disk.new).seen ≡ image 2 header.now bodies.now) }
+        → OnOk result ((D.known disk.new).seen
+        ≡ image SECOND_FORMAT header.now bodies.now) }
     ensures ok { IsTrue D.tells
-        → IfOk result (λ journal. Holds journal 2 header.now bodies.now
+        → IfOk result (λ journal. Holds journal SECOND_FORMAT header.now bodies.now
         (file_of (D.known disk.new))) }
-    ensures extent { IfOk result (λ journal. IsExtent 2 header.now bodies.now journal) }
+    ensures extent { IfOk result (λ journal. IsExtent SECOND_FORMAT header.now bodies.now journal) }
     ensures beside { IsTrue D.tells → (D.known disk.new).beside ≡ (D.known disk.old).beside }
     ensures any_moment { IsTrue D.tells → LeavesOnly (D.known disk.old) (D.known disk.new) IsAny }
     ensures untouched { result ≡ Err ImageFault.Memory → disk.new ≡ disk.old }

@@ -1,4 +1,4 @@
--- What one block of bytes shows.
+-- What one block of bytes shows. Only private clauses speak of it.
 use Rattle.std.specs.Prelude.{◌≡◌, ◌≢◌, ℕ, ◌+◌, ◌<◌, ◌≤◌, ◌==◌, ◌⊎◌, List, Option, None, Some, length, slice_index}
 use Rattle.std.specs.Prelude.{if◌then◌else◌}
 use Rattle.std.specs.Char.{to_ascii_lowercase}

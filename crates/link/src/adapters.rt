@@ -5,7 +5,6 @@ ghost use Rattle.std.specs.Io.KnownBytes.{Appends, Keeps, ReadConsumes};
 ghost use Rattle.u1_base.specs.Causes.{HasCause};
 ghost use Rattle.link.specs.Adapters.{sink_fault, sink_known, source_fault, source_known};
 
-use crate::retried::{read_on, write_on};
 use crate::{ReadFailed, Sink, Source, WriteFailed};
 use std::io::{self, ErrorKind, Read, Write};
 
@@ -57,14 +56,21 @@ impl<R: Read + Drop> Source for StdSource<R> {
         ensures keeps { ⊤ }
         ensures why { OnErr result (IsSome (source_fault self.new)) }
     {
-        match read_on(&mut self.inner, into) {
-            Ok(count) => Ok(count),
-            Err(error) => {
-                self.faults = self.faults.saturating_add(1);
-                self.fault = Some(error);
-                Err(ReadFailed)
+        let mut failure = io::Error::from(ErrorKind::TimedOut);
+        for _ in 0..u64::MAX {
+            match self.inner.read(into) {
+                Ok(count) => return Ok(count),
+                Err(error) => {
+                    if error.kind() != ErrorKind::Interrupted {
+                        failure = error;
+                        break;
+                    }
+                }
             }
         }
+        self.faults = self.faults.saturating_add(1);
+        self.fault = Some(failure);
+        Err(ReadFailed)
     }
 }
 
@@ -165,15 +171,22 @@ fn write_some<W: Write>(writer: &mut W, piece: &[u8], fault: &mut Option<io::Err
         (take result piece.now) }
     ensures why { result ≡ 0 → IsSome fault.new }
 {
-    match write_on(writer, piece) {
-        Ok(0) => {
-            *fault = Some(io::Error::from(ErrorKind::WriteZero));
-            0
-        }
-        Ok(count) => count,
-        Err(error) => {
-            *fault = Some(error);
-            0
+    let mut failure = io::Error::from(ErrorKind::TimedOut);
+    for _ in 0..u64::MAX {
+        match writer.write(piece) {
+            Ok(0) => {
+                failure = io::Error::from(ErrorKind::WriteZero);
+                break;
+            }
+            Ok(count) => return count,
+            Err(error) => {
+                if error.kind() != ErrorKind::Interrupted {
+                    failure = error;
+                    break;
+                }
+            }
         }
     }
+    *fault = Some(failure);
+    0
 }

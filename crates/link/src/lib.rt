@@ -9,7 +9,6 @@ mod calls;
 mod conn;
 mod input;
 mod memory;
-mod retried;
 mod sink;
 mod source;
 #[cfg(test)]

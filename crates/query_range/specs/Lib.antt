@@ -1,4 +1,5 @@
 pub mod Answers
+pub mod Faults
 pub mod Floor
 pub mod Patterns
 pub mod Wanted

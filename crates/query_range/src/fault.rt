@@ -1,4 +1,6 @@
 //! Why the values of a query are no pattern.
+use std::error::Error;
+use std::fmt;
 use u1_base::Memory;
 
 /// The width is tested first.
@@ -10,6 +12,27 @@ pub enum PatternFault {
     BadGlob(u64),
     Memory,
 }
+
+impl fmt::Display for PatternFault {
+    ghost use Rattle.std.specs.Prelude.{Some};
+    ghost use Rattle.query_range.specs.Faults.{pattern_fault_text};
+
+    ghost output = { λ fault. Some (pattern_fault_text fault) };
+
+    fn fmt<W: fmt::Write>(&self, f: &mut fmt::Formatter<W>) -> fmt::Result {
+        match self {
+            PatternFault::WrongWidth => {
+                f.write_str("there is not one value for each expression of the index")
+            }
+            PatternFault::BadGlob(place) => {
+                write!(f, "value {place} stands behind a star and is no star")
+            }
+            PatternFault::Memory => f.write_str("out of memory"),
+        }
+    }
+}
+
+impl Error for PatternFault {}
 
 impl From<Memory> for PatternFault {
     ghost use Rattle.std.specs.Prelude.{◌≡◌};

@@ -9,7 +9,9 @@ mod decoding;
 mod encoding;
 mod kind;
 mod laws;
+mod makings;
 mod reading;
+mod tables;
 #[cfg(test)]
 mod tests;
 mod writing;

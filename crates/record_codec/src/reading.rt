@@ -9,6 +9,7 @@ ghost use Rattle.record_codec.specs.Bodies.{moved_at, step, step_at, table};
 ghost use Rattle.record_codec.specs.declared.kind.Kind.TheVariants as kind_of;
 
 use crate::kind::Kind;
+use crate::{makings, tables};
 use conflicts::{Accept, Making};
 use record_fields::{Format, Reader, Stop};
 use replica_state::{IndexExprs, Move, PosTable, Step};
@@ -108,12 +109,10 @@ fn read_making(reader: &mut Reader<'_>) -> Result<Making, Stop>
     ensures { Reads (λ m. m) (making.read reader.old) result reader.new }
 {
     let start = reader.left();
-    match reader.byte()? {
-        0 => Ok(Making::Edit),
-        1 => Ok(Making::Resolve),
-        2 => Ok(Making::Merge),
-        3 => Ok(Making::Received),
-        _ => Err(Stop::Bad(start)),
+    let byte = reader.byte()?;
+    match makings::of_byte(byte) {
+        Some(making) => Ok(making),
+        None => Err(Stop::Bad(start)),
     }
 }
 
@@ -132,10 +131,9 @@ fn read_table(reader: &mut Reader<'_>) -> Result<PosTable, Stop>
     ensures { Reads (λ t. t) (table.read reader.old) result reader.new }
 {
     let start = reader.left();
-    match reader.byte()? {
-        1 => Ok(PosTable::Known),
-        2 => Ok(PosTable::Told),
-        _ => Err(Stop::Bad(start)),
+    match read_maybe_table(reader)? {
+        Some(table) => Ok(table),
+        None => Err(Stop::Bad(start)),
     }
 }
 
@@ -165,11 +163,10 @@ fn read_maybe_table(reader: &mut Reader<'_>) -> Result<Option<PosTable>, Stop>
     ensures { Reads (λ t. t) (maybe_table.read reader.old) result reader.new }
 {
     let start = reader.left();
-    match reader.byte()? {
-        0 => Ok(None),
-        1 => Ok(Some(PosTable::Known)),
-        2 => Ok(Some(PosTable::Told)),
-        _ => Err(Stop::Bad(start)),
+    let byte = reader.byte()?;
+    match tables::of_byte(byte) {
+        Some(table) => Ok(table),
+        None => Err(Stop::Bad(start)),
     }
 }
 

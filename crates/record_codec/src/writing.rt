@@ -9,6 +9,7 @@ ghost use Rattle.record_codec.specs.Bodies.{accept, making, maybe_moved, moved, 
 ghost use Rattle.record_codec.specs.Steps.{IsAccept, IsMove, IsStep};
 
 use crate::kind::Kind;
+use crate::{makings, tables};
 use conflicts::{Accept, Making};
 use record_fields::Writer;
 use replica_state::{IndexExprs, Move, PosTable, Step};
@@ -77,12 +78,7 @@ fn write_accept(writer: &mut Writer<'_>, value: &Accept) -> Result<(), Memory>
 fn write_making(writer: &mut Writer<'_>, value: Making) -> Result<(), Memory>
     ensures { OnOk result (writer.new ≡ with_field making value writer.old) }
 {
-    match value {
-        Making::Edit => writer.byte(0),
-        Making::Resolve => writer.byte(1),
-        Making::Merge => writer.byte(2),
-        Making::Received => writer.byte(3),
-    }
+    writer.byte(makings::byte(value))
 }
 
 #[tactic(auto, using(crate::proofs::Writings::moved_is))]
@@ -100,10 +96,7 @@ fn write_moved(writer: &mut Writer<'_>, value: &Move) -> Result<(), Memory>
 fn write_table(writer: &mut Writer<'_>, value: PosTable) -> Result<(), Memory>
     ensures { OnOk result (writer.new ≡ with_field table value writer.old) }
 {
-    match value {
-        PosTable::Known => writer.byte(1),
-        PosTable::Told => writer.byte(2),
-    }
+    writer.byte(tables::byte(Some(value)))
 }
 
 #[tactic(auto, using(crate::proofs::Writings::maybe_moved_some, crate::proofs::Writings::maybe_moved_none))]
@@ -114,7 +107,7 @@ fn write_maybe_moved(writer: &mut Writer<'_>, value: &Option<Move>) -> Result<()
 {
     match value {
         Some(moved) => write_moved(writer, moved),
-        None => writer.byte(0),
+        None => writer.byte(tables::byte(None)),
     }
 }
 

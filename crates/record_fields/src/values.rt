@@ -13,6 +13,7 @@ use crate::reader::Reader;
 use crate::stop::Stop;
 use content::Content;
 use expr_parser::{Expr, Exprs};
+use u1_base::limits::MOST_KEY_TEXTS;
 
 impl<'a> Reader<'a> {
     /// A flag, and behind a 1 the canonical text of the content after four bytes of length.
@@ -56,7 +57,7 @@ impl<'a> Reader<'a> {
     {
         let start = self.left();
         let count = self.byte()?;
-        if count < 1 || count > 8 {
+        if count < 1 || count as usize > MOST_KEY_TEXTS {
             return Err(Stop::Bad(start));
         }
         Ok(count)

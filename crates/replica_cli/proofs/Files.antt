@@ -1,8 +1,8 @@
 -- What is found of three files: in the words of a volume, and as commands find it.
 use Rattle.std.specs.Prelude.{IsTrue}
-use Rattle.std.proofs.Common.{◌≡◌, ◌≢◌, ℕ, Bool, true, false, ◌==◌, ◌+◌, if◌then◌else◌, List, [], ◌∷◌, length, Some}
-use Rattle.std.proofs.Common.{None, IfSome, Result, Ok, Err, refl, sym, ◌∙◌, ap}
-use Rattle.conflicts.specs.State.{History, State, Text}
+use Rattle.std.proofs.Common.{◌≡◌, ◌≢◌, ℕ, Bool, true, false, ◌+◌, if◌then◌else◌, List, [], ◌∷◌, length, Some}
+use Rattle.std.proofs.Common.{None, IfSome, Result, Ok, Err, refl, sym, ◌∙◌, ap, ⊎_elim}
+use Rattle.conflicts.specs.State.{State, Text}
 use Rattle.disk_model.specs.Device.{Device}
 use Rattle.disks.specs.declared.name.DiskName.{DiskName}
 use Rattle.disks.specs.declared.trio.Trio.{Trio}
@@ -16,36 +16,26 @@ use Rattle.record_codec.specs.Bodies.{body_of}
 use Rattle.replica_core.specs.Replica.{Found as Left}
 use Rattle.replica_state.specs.Held.{meaning}
 use Rattle.replica_volume.specs.Steps.{Chronicle, state_at, steps_of}
-use Rattle.replica_volume.specs.Store.{StoreFound, holds_steps, with_steps}
+use Rattle.replica_volume.specs.Store.{IsMoved, IsRespelling, IsSameOrMoved, StoreFound, holds_steps, with_steps}
 use Rattle.replica_volume.specs.Store.StoreFound.{Blank as NoStore, Damaged as BrokenStore, Holds}
 use Rattle.replica_volume.specs.Volume.{KeepsHistory, devices, limit_in, limit_of, volume_known}
 use Rattle.replica_volume.specs.declared.replica.Volume.{Volume}
 use Rattle.store_commands.specs.Changes.{HasLimit, IsNow, limit_of as limit_left}
-use Rattle.store_commands.specs.Found.{Blank, Damaged, Former, Found, IsTold, Standing, Stands, in_short, standing_in}
+use Rattle.store_commands.specs.Found.{Blank, Damaged, Found, IsTold, Stands, in_short, standing_in}
 use Rattle.store_commands.specs.Store.{is_blank}
 use Rattle.volume.specs.Store.{Found as FoundImages, chosen, found_by, found_in as image_found, found_of}
 use Rattle.volume.specs.Store.Found.{Blank as NoImages, Damaged as BrokenImage, Stands as StandingImage}
 use Rattle.volume.proofs.Finding.{found_blank}
 use Rattle.volume.proofs.Standing.{store_stands}
-use Rattle.replica_cli.specs.Store.{found_in, image_as, images_as, standing_of}
+use Rattle.replica_cli.specs.Store.{found_in, image_as, image_of, image_with, images_as}
 
 -- ---- what a volume finds is what commands find
 
--- damage, and an image of format 1, in the words of commands; the rest does not matter
+-- damage, in the words of commands; the rest does not matter
 abbrev damage_in : StoreFound → Found
 damage_in NoStore = Blank
 damage_in (BrokenStore disk place) = Damaged disk place
 damage_in (Holds side format head h) = Blank
-
-abbrev former_in : StoreFound → Found
-former_in NoStore = Blank
-former_in (BrokenStore disk place) = Blank
-former_in (Holds side format head h) = Former (state_at head h)
-
-abbrev format_in : StoreFound → ℕ
-format_in NoStore = 0
-format_in (BrokenStore disk place) = 0
-format_in (Holds side format head h) = format
 
 holds_some : (side : DiskName) (format : ℕ) (head : Head) (r : Result Chronicle ℕ)
     → holds_steps side format head r ≢ NoStore
@@ -71,23 +61,25 @@ damaged_as (BrokenImage other at) disk place e = ap damage_in e
 damaged_as (StandingImage side format head bodies) disk place e =
     damaged_image side format head bodies (steps_of format head bodies) disk place e
 
-former_image : (side : DiskName) (format : ℕ) (head : Head) (bodies : List (List ℕ)) (r : Result Chronicle ℕ)
-    (other : DiskName) (h : Head) (history : History)
-    → holds_steps side format head r ≡ Holds other 1 h history
-    → image_as side format head bodies r ≡ Former (state_at h history)
-former_image side format head bodies (Ok read) other h history e =
-    ap (λ (n : ℕ). if n == 1 then Former (state_at head read.steps) else Stands (standing_of head bodies read))
-    (ap format_in e)
-    ∙ ap former_in e
-former_image side format head bodies (Err at) other h history e = absurd (cc e)
+-- ---- an image that opening moved is found as the one that was there
 
-pub former_as : (f : FoundImages) (other : DiskName) (h : Head) (history : History)
-    → with_steps f ≡ Holds other 1 h history
-    → images_as f ≡ Former (state_at h history)
-former_as NoImages other h history e = absurd (cc e)
-former_as (BrokenImage disk place) other h history e = absurd (cc e)
-former_as (StandingImage side format head bodies) other h history e =
-    former_image side format head bodies (steps_of format head bodies) other h history e
+-- both say the same history, and its bodies in format 2 are those that it was moved to
+respelled : (side : DiskName) (head : Head) (bodies : List (List ℕ)) (new : FoundImages)
+    → IsRespelling side head bodies new
+    → (images_as new ≡ image_as side 1 head bodies (steps_of 1 head bodies))
+    × (image_of new ≡ image_with 1 head bodies (steps_of 1 head bodies))
+respelled side head bodies new r = rw (r.found, r.says, r.said) (refl, refl)
+
+moved : (old new : FoundImages) → IsMoved old new → (images_as new ≡ images_as old) × (image_of new ≡ image_of old)
+moved NoImages new is = absurd is
+moved (BrokenImage disk place) new is = absurd is
+moved (StandingImage side format head bodies) new is =
+    rw is.0 (respelled side head bodies new is.1)
+
+pub same_or_moved : (old new : FoundImages) → IsSameOrMoved old new
+    → (images_as new ≡ images_as old) × (image_of new ≡ image_of old)
+same_or_moved old new is =
+    ⊎_elim (λ same. (ap images_as same, ap image_of same)) (λ move. moved old new move) is
 
 -- ---- what stands in an open volume
 
@@ -133,14 +125,9 @@ journal_limit tells known v t k =
 
 -- ---- the limit of what is found
 
-limit_if : (b : Bool) (s : State) (x : Standing) → HasLimit x.limit (if b then Former s else Stands x)
-limit_if true s x = tt
-limit_if false s x = refl
-
 limit_image : (side : DiskName) (format : ℕ) (head : Head) (bodies : List (List ℕ)) (r : Result Chronicle ℕ)
     → HasLimit head.limit (image_as side format head bodies r)
-limit_image side format head bodies (Ok read) =
-    limit_if (format == 1) (state_at head read.steps) (standing_of head bodies read)
+limit_image side format head bodies (Ok read) = refl
 limit_image side format head bodies (Err place) = tt
 
 pub has_limit : (f : FoundImages) → HasLimit (limit_in f) (images_as f)
@@ -151,7 +138,6 @@ has_limit (StandingImage side format head bodies) = limit_image side format head
 pub own_limit : (f : Found) → HasLimit (limit_left f []) f
 own_limit Blank = tt
 own_limit (Damaged disk place) = tt
-own_limit (Former state) = tt
 own_limit (Stands x) = refl
 
 -- what a closed volume tells has its limit
@@ -166,14 +152,9 @@ limit_told false known v = tt
 pub blank_in : (files : Trio (List ℕ)) → files.root ≡ [] → found_in files ≡ Blank
 blank_in files e = ap images_as (found_blank files e)
 
-blank_if : (b : Bool) (s : State) (x : Standing) → is_blank (if b then Former s else Stands x) ≡ false
-blank_if true s x = refl
-blank_if false s x = refl
-
 some_image : (side : DiskName) (format : ℕ) (head : Head) (bodies : List (List ℕ)) (r : Result Chronicle ℕ)
     → is_blank (image_as side format head bodies r) ≡ false
-some_image side format head bodies (Ok read) =
-    blank_if (format == 1) (state_at head read.steps) (standing_of head bodies read)
+some_image side format head bodies (Ok read) = refl
 some_image side format head bodies (Err place) = refl
 
 some_reading : (side : DiskName) (r : Reading) → is_blank (images_as (image_found side r)) ≡ false

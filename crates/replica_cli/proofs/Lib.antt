@@ -2,4 +2,5 @@ mod Files
 mod Looking
 mod Making
 mod Opening
+mod Compacting
 mod Words

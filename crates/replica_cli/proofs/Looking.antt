@@ -1,4 +1,5 @@
--- A store that was only looked at: what stands is what stood, and a crash leaves no more than it might.
+-- A store that was looked at, or moved to the present format: what stands is what stood, and a crash leaves no more
+-- than it might.
 use Rattle.std.specs.Prelude.{IsTrue}
 use Rattle.std.proofs.Common.{◌≡◌, inl, ℕ, ◌<◌, ◌≤◌, Bool, true, false, if◌then◌else◌, List, [], length, Option, refl}
 use Rattle.std.proofs.Common.{sym, ◌∙◌, ap, subst, arith, length-append}
@@ -6,8 +7,9 @@ use Rattle.conflicts.specs.State.{State}
 use Rattle.disks.specs.declared.trio.Trio.{Trio}
 use Rattle.disks.specs.Joint.{AreCrashImages, Devices, JointMoment, now_of, seen_of}
 use Rattle.disks.specs.Moments.{LeavesTogether}
-use Rattle.disks.proofs.Runs.{at_moment, begins, earlier}
+use Rattle.disks.proofs.Runs.{at_moment, begins, earlier, weaker}
 use Rattle.replica_core.specs.Replica.{Found as Left}
+use Rattle.replica_volume.specs.Opening.{LeavesAsBefore}
 use Rattle.replica_volume.specs.Settled.{now_at}
 use Rattle.replica_volume.specs.Store.{MayOpenAs, opens_as}
 use Rattle.replica_volume.specs.Volume.{moments}
@@ -69,18 +71,35 @@ crash_now tells d o t may = (t, subst (λ (m : JointMoment). MayOpenAs m o) (sym
 
 -- ---- the whole
 
+-- reads find what they found, and a crash on the way leaves what opens as after one at the start
+pub record Stays (old new : Devices) : Type 0 where
+  pub found : found_in (seen_of new.files) ≡ found_in (seen_of old.files)
+  pub run : LeavesAsBefore old new
+
+-- what may be found after a crash, as before
+abbrev AsBefore : Devices → Trio (List ℕ) → Type 0
+AsBefore old files = MayOpenAs (now_of old.files) (opens_as files)
+
+-- nothing was written
+pub only_looked : (old new : Devices) → OnlyLooks old new → Stays old new
+only_looked old new looks = record {
+  found = ap found_in looks.seen;
+  run = weaker old new (AreCrashImages (now_of old.files)) (AsBefore old) looks.leaves
+      (λ files images. (files, images, refl));
+}
+
 pub looked : (tells : Bool) (old new : Devices) (found : Found) (told : Option Found)
     → IsNow (in_short found) (limit_of found []) told
-    → (IsTrue tells → OnlyLooks old new) → old.faults ≤ new.faults
+    → (IsTrue tells → Stays old new) → old.faults ≤ new.faults
     → Passes found [] 0 0 (store_seen tells old) (record (store_seen tells new) { found = told })
-looked tells old new found told now looks faults = record {
+looked tells old new found told now stays faults = record {
   stood_reached = omega arith;
   within = omega arith;
-  later = later_if tells old new (λ t. grows old new (AreCrashImages (now_of old.files)) (looks t).leaves);
-  earlier = earlier_crash tells old new (AreCrashImages (now_of old.files)) (λ t. (looks t).leaves);
+  later = later_if tells old new (λ t. grows old new (AsBefore old) (stays t).run);
+  earlier = earlier_crash tells old new (AsBefore old) (λ t. (stays t).run);
   since = λ k o low high crash.
-      let c = crash_since tells old new (AreCrashImages (now_of old.files)) (λ t. (looks t).leaves) k o low crash in
-      inl (crash_now tells old o c.0 (c.1.0, c.1.1, c.1.2));
+      let c = crash_since tells old new (AsBefore old) (λ t. (stays t).run) k o low crash in
+      inl (crash_now tells old o c.0 (subst (MayOpenAs (now_of old.files)) (sym c.1.2) c.1.1));
   now = now;
   faults = faults;
 }
@@ -88,34 +107,34 @@ looked tells old new found told now looks faults = record {
 -- The same of the disks as they are then: what opening would find is what it would have found.
 pub looked_as : (tells : Bool) (old new : Devices) (found : Found)
     → (IsTrue tells → found_in (seen_of old.files) ≡ found)
-    → (IsTrue tells → OnlyLooks old new) → old.faults ≤ new.faults
+    → (IsTrue tells → Stays old new) → old.faults ≤ new.faults
     → Passes found [] 0 0 (store_seen tells old) (store_seen tells new)
-looked_as tells old new found is looks faults =
+looked_as tells old new found is stays faults =
     looked tells old new found (store_seen tells new).found
     (now_if tells (found_in (seen_of new.files)) (in_short found) (limit_of found [])
     (λ t. subst (λ (f : Found). (in_short f ≡ in_short found) × HasLimit (limit_of found []) f)
-    (sym (ap found_in (looks t).seen ∙ is t)) (refl, own_limit found)))
-    looks faults
+    (sym ((stays t).found ∙ is t)) (refl, own_limit found)))
+    stays faults
 
 pub finds : (tells : Bool) (old new : Devices) (found : Found) → (IsTrue tells → found_in (seen_of old.files) ≡ found)
-    → (IsTrue tells → OnlyLooks old new) → old.faults ≤ new.faults
+    → (IsTrue tells → Stays old new) → old.faults ≤ new.faults
     → Finds found (store_seen tells old) (store_seen tells new)
-finds tells old new found is looks faults = record {
+finds tells old new found is stays faults = record {
   told = told_if tells (found_in (seen_of old.files)) found is;
-  keeps = looked_as tells old new found is looks faults;
+  keeps = looked_as tells old new found is stays faults;
 }
 
-pub finds_some : (tells : Bool) (old new : Devices) → (IsTrue tells → OnlyLooks old new) → old.faults ≤ new.faults
+pub finds_some : (tells : Bool) (old new : Devices) → (IsTrue tells → Stays old new) → old.faults ≤ new.faults
     → FindsSome (store_seen tells old) (store_seen tells new)
-finds_some tells old new looks faults =
+finds_some tells old new stays faults =
     let found = found_in (seen_of old.files) in
-    let f = finds tells old new found (λ t. refl) looks faults in
+    let f = finds tells old new found (λ t. refl) stays faults in
     record { found = found; told = f.told; keeps = f.keeps }
 
 -- nothing was called
-pub no_call : (d : Devices) → OnlyLooks d d
-no_call d = record {
+pub no_call : (d : Devices) → Stays d d
+no_call d = only_looked d d (record {
   seen = refl;
   leaves = begins d (AreCrashImages (now_of d.files)) (λ images i. i);
   settled = λ name before. before;
-}
+})

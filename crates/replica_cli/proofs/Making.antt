@@ -18,7 +18,7 @@ use Rattle.replica_volume.specs.Store.{MayOpenAs, opens_as}
 use Rattle.replica_volume.specs.Volume.{IsOpenVolume, devices}
 use Rattle.replica_volume.specs.declared.replica.Volume.{Volume}
 use Rattle.store_commands.specs.Changes.{Change, HasLimit, IsAfterSome, IsNow, Made, Passes, after_all}
-use Rattle.store_commands.specs.Found.{Blank, Damaged, Former, Found, Stands, in_short}
+use Rattle.store_commands.specs.Found.{Blank, Damaged, Found, Stands, in_short}
 use Rattle.store_commands.specs.Store.{BreaksOff, Exists, FindsSome, MadeAnew, Makes, is_blank, making}
 use Rattle.std.specs.Result.{IsErrOf}
 use Rattle.u1_base.specs.Causes.{HasCauseOf, Rose}
@@ -31,7 +31,7 @@ use Rattle.replica_cli.specs.Faults.{make_fault}
 use Rattle.replica_cli.specs.Store.{found_in, images_as, store_seen}
 use Rattle.replica_cli.proofs.Files.{blank_in, journal_limit, now_if, some_in, stands_as, told_if}
 use Rattle.replica_cli.proofs.Looking.{crash_now, crash_since, earlier_crash, finds, finds_some, grows, later_if}
-use Rattle.replica_cli.proofs.Looking.{looked_as, no_call}
+use Rattle.replica_cli.proofs.Looking.{looked_as, no_call, only_looked}
 
 -- of what may be found after a crash, that which was there, or the empty store
 abbrev pub AsBeforeOrNew : Head → Devices → Trio (List ℕ) → Type 0
@@ -104,7 +104,6 @@ empty_or_not (byte ∷ rest) = inr (λ e. absurd (cc e))
 making_nothing : (name : Text) (uid : Uid) (limit : ℕ) (f : Found) → is_blank f ≡ false → making name uid limit f ≡ []
 making_nothing name uid limit Blank e = absurd (cc e)
 making_nothing name uid limit (Damaged disk place) e = refl
-making_nothing name uid limit (Former state) e = refl
 making_nothing name uid limit (Stands x) e = refl
 
 over_blank : (tells : Bool) (head : Head) (old new : Devices) → old.files.root.seen ≡ []
@@ -136,7 +135,7 @@ over_some tells head old new some looks later rose =
       reached = 0;
       passes = subst (λ (changes : List Change). Passes found changes 0 0 (store_seen tells old) (store_seen tells new))
           (sym (making_nothing head.name head.uid head.limit found (some_in (seen_of old.files) some)))
-          (looked_as tells old new found (λ t. refl) looks later);
+          (looked_as tells old new found (λ t. refl) (λ t. only_looked old new (looks t)) later);
       rose = rose;
     }
 
@@ -171,7 +170,7 @@ pub exists : (tells : Bool) (old new : Devices) → (IsTrue tells → old.files.
     → Exists (store_seen tells old) (store_seen tells new)
 exists tells old new some looks later =
     let f = found_in (seen_of old.files) in
-    let x = finds tells old new (shown tells f) (shown_is tells f) looks later in
+    let x = finds tells old new (shown tells f) (shown_is tells f) (λ t. only_looked old new (looks t)) later in
     record {
       found = shown tells f;
       told = x.told;

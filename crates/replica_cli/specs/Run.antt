@@ -16,7 +16,7 @@ use Rattle.link.specs.Streams.{Input, Output}
 use Rattle.store_commands.specs.Complete.{RunsWhole}
 use Rattle.store_commands.specs.Prints.{Prints}
 use Rattle.store_commands.specs.Run.{Seen}
-use Rattle.replica_cli.specs.Store.{store_seen}
+use Rattle.replica_cli.specs.Store.{image_seen, store_seen}
 
 -- what is known of the three disks, of the input and of the output at a moment
 pub record Surroundings : Type 0 where
@@ -27,9 +27,9 @@ pub record Surroundings : Type 0 where
 abbrev pub around : {D : Type 0} → (D → Device) → Disks D → Input → Output → Surroundings
 around known disks input output = record { disks = disks_known known disks; input = input; output = output }
 
--- the store on the disks, and the input
+-- the store on the disks, its image, and the input
 abbrev pub seen_in : Bool → Surroundings → Seen
-seen_in tells s = record { store = store_seen tells s.disks; input = s.input }
+seen_in tells s = record { store = store_seen tells s.disks; image = image_seen tells s.disks; input = s.input }
 
 -- a command was run over the store on the disks
 abbrev pub RunsCommand : Bool → Command → ℕ → Surroundings → Surroundings → Outcome → Type 0

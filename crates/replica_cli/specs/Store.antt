@@ -1,5 +1,8 @@
 -- What is known of a store on three disks.
-use Rattle.std.specs.Prelude.{ℕ, ◌+◌, ◌==◌, Bool, IsTrue, if◌then◌else◌, List, length, Some, None, Result, Ok, Err}
+use Rattle.std.specs.Prelude.{ℕ, ◌+◌, ◌==◌, Bool, IsTrue, if◌then◌else◌, List, [], ◌∷◌, length, Option, Some, None}
+use Rattle.std.specs.Prelude.{Result, Ok, Err}
+use Rattle.compaction.specs.Images.{bodies_of, uids_after}
+use Rattle.conflicts.specs.State.{Step, Text}
 use Rattle.disk_model.specs.Device.{Device}
 use Rattle.disks.specs.Disks.{disks_known}
 use Rattle.disks.specs.Joint.{Devices, moment_at, seen_of}
@@ -7,31 +10,49 @@ use Rattle.disks.specs.declared.name.DiskName.{DiskName}
 use Rattle.disks.specs.declared.trio.Trio.{Trio}
 use Rattle.journal.specs.Image.{Head, header_bytes, up_to_gate}
 use Rattle.journal.specs.Journal.{Extent, need}
+use Rattle.journal.specs.declared.layout.TheConstants.{FIRST_FORMAT, SECOND_FORMAT}
 use Rattle.record_codec.specs.Bodies.{body_of}
 use Rattle.replica_volume.specs.Steps.{Chronicle, state_at, steps_of}
 use Rattle.replica_volume.specs.Store.{MayOpenAs}
-use Rattle.replica_volume.specs.Volume.{moments}
-use Rattle.store_commands.specs.Found.{Blank, Damaged, Former, Found, Standing, Stands, Store}
+use Rattle.replica_volume.specs.Volume.{devices, moments}
+use Rattle.replica_volume.specs.declared.replica.Volume.{Volume}
+use Rattle.store_commands.specs.Compacting.{Image}
+use Rattle.store_commands.specs.Found.{Blank, Damaged, Found, Standing, Stands, Store}
 use Rattle.volume.specs.Store.{Found as FoundImages, found_of}
 use Rattle.volume.specs.Store.Found.{Blank as NoImages, Damaged as BrokenImage, Stands as StandingImage}
 use Rattle.replica_cli.specs.declared.store.StoreOnDisks.{StoreOnDisks}
 
--- the length of an image up to its last gate, and its limit
-abbrev pub extent_of : ℕ → Head → List (List ℕ) → Extent
-extent_of format head bodies = record { length = length (up_to_gate format head bodies) + 1; limit = head.limit }
+-- An image as opening it leaves it: its bodies, and the uids that have numbers behind them. One of the first format is
+-- spelled anew in the second.
+pub record Opened : Type 0 where
+  pub bodies : List (List ℕ)
+  pub uids : List Text
+
+abbrev pub opened_image : ℕ → Head → List (List ℕ) → Chronicle → Opened
+opened_image format head bodies read =
+    if format == FIRST_FORMAT then record {
+      bodies = bodies_of (head.uid ∷ []) read.steps;
+      uids = uids_after (head.uid ∷ []) read.steps;
+    } else record { bodies = bodies; uids = read.uids }
+
+-- its length up to its last gate, and its limit
+abbrev pub extent_of : Head → List (List ℕ) → Extent
+extent_of head bodies = record { length = length (up_to_gate SECOND_FORMAT head bodies) + 1; limit = head.limit }
 
 -- the state of the steps that an image says, with what one step more needs, and the limit of its header
-abbrev pub standing_of : Head → List (List ℕ) → Chronicle → Standing
-standing_of head bodies read = record {
-  state = state_at head read.steps;
-  need = λ x. need (extent_of 2 head bodies) (length (body_of read.uids x));
+abbrev pub standing_in : Head → Opened → List Step → Standing
+standing_in head image steps = record {
+  state = state_at head steps;
+  need = λ x. need (extent_of head image.bodies) (length (body_of image.uids x));
   limit = head.limit;
 }
 
+abbrev pub standing_of : ℕ → Head → List (List ℕ) → Chronicle → Standing
+standing_of format head bodies read = standing_in head (opened_image format head bodies read) read.steps
+
 -- an image whose bodies say steps; or it is damaged where a body has no reading
 abbrev pub image_as : DiskName → ℕ → Head → List (List ℕ) → Result Chronicle ℕ → Found
-image_as side format head bodies (Ok read) =
-    if format == 1 then Former (state_at head read.steps) else Stands (standing_of head bodies read)
+image_as side format head bodies (Ok read) = Stands (standing_of format head bodies read)
 image_as side format head bodies (Err place) = Damaged side (length (header_bytes format head) + place)
 
 abbrev pub images_as : FoundImages → Found
@@ -42,6 +63,34 @@ images_as (StandingImage side format head bodies) = image_as side format head bo
 -- what a command finds of three files
 abbrev pub found_in : Trio (List ℕ) → Found
 found_in files = images_as (found_of files)
+
+-- ---- the image that stands
+
+-- its length and its steps, as opening it leaves it
+abbrev pub image_with : ℕ → Head → List (List ℕ) → Result Chronicle ℕ → Option Image
+image_with format head bodies (Ok read) =
+    Some (record {
+      length = (extent_of head (opened_image format head bodies read).bodies).length;
+      steps = read.steps;
+    })
+image_with format head bodies (Err place) = None
+
+abbrev pub image_of : FoundImages → Option Image
+image_of NoImages = None
+image_of (BrokenImage disk place) = None
+image_of (StandingImage side format head bodies) = image_with format head bodies (steps_of format head bodies)
+
+-- the image of a store, where contracts can see the bytes of its disks
+abbrev pub image_seen : Bool → Devices → Option Image
+image_seen tells d = if tells then image_of (found_of (seen_of d.files)) else None
+
+abbrev pub store_image : {D : Type 0} → Bool → (D → Device) → StoreOnDisks D → Option Image
+store_image tells known s = image_seen tells (disks_known known s.disks)
+
+abbrev pub volume_image : {D : Type 0} → Bool → (D → Device) → Volume D → Option Image
+volume_image tells known v = image_seen tells (devices known v)
+
+-- ---- the store
 
 -- What is known of a store by what is known of its three disks. Where contracts cannot see their bytes only the count
 -- of their faults is known.

@@ -1,34 +1,27 @@
--- What is told of a store is one of what a crash now may leave.
-use Rattle.std.specs.Prelude.{◌≡◌, ℕ, ◌==◌, Bool, true, false, IsTrue, List, if◌then◌else◌, Result, Ok, Err, refl}
-use Rattle.std.proofs.Common.{sym, ap, subst}
-use Rattle.conflicts.specs.State.{State}
+-- Private, the proof of a law of stores: what is told of a store is one of what a crash now may leave. It stands here
+-- since the checker takes the proof of a law from specs/ alone.
+use Rattle.std.specs.Prelude.{◌≡◌, ℕ, Bool, true, false, IsTrue, List, Result, Ok, Err, refl}
+use Rattle.std.proofs.Common.{sym, subst}
 use Rattle.disk_model.specs.Device.{Device, file_of}
 use Rattle.disks.specs.Disks.{disks_known}
 use Rattle.disks.specs.Joint.{JointMoment, MayStay, seen_of}
 use Rattle.disks.specs.declared.name.DiskName.{DiskName}
 use Rattle.disks.proofs.Runs.{reads_may_stay}
 use Rattle.journal.specs.Image.{Head}
-use Rattle.replica_core.specs.Replica.{Stands as LeftStands}
 use Rattle.replica_volume.specs.Settled.{now_at}
-use Rattle.replica_volume.specs.Steps.{Chronicle, state_at, steps_of}
+use Rattle.replica_volume.specs.Steps.{Chronicle, steps_of}
 use Rattle.replica_volume.specs.Store.{MayOpenAs, holds_steps, opened_as, with_steps}
-use Rattle.store_commands.specs.Found.{Former, Standing, Stands, in_short}
+use Rattle.store_commands.specs.Found.{in_short}
 use Rattle.store_commands.specs.Store.{MayStay as Stays}
 use Rattle.volume.specs.Store.{Found as FoundImages, found_of}
 use Rattle.volume.specs.Store.Found.{Blank as NoImages, Damaged as BrokenImage, Stands as StandingImage}
-use Rattle.replica_cli.specs.Store.{found_in, image_as, images_as, standing_of, store_known}
+use Rattle.replica_cli.specs.Store.{found_in, image_as, images_as, store_known}
 use Rattle.replica_cli.specs.declared.store.StoreOnDisks.{StoreOnDisks}
 
 -- in short a command finds what a replica finds
-short_if : (b : Bool) (s : State) (x : Standing) → x.state ≡ s
-    → in_short (if b then Former s else Stands x) ≡ LeftStands s
-short_if true s x e = refl
-short_if false s x e = ap LeftStands e
-
 short_image : (side : DiskName) (format : ℕ) (head : Head) (bodies : List (List ℕ)) (r : Result Chronicle ℕ)
     → in_short (image_as side format head bodies r) ≡ opened_as (holds_steps side format head r)
-short_image side format head bodies (Ok read) =
-    short_if (format == 1) (state_at head read.steps) (standing_of head bodies read) refl
+short_image side format head bodies (Ok read) = refl
 short_image side format head bodies (Err place) = refl
 
 pub short_images : (f : FoundImages) → in_short (images_as f) ≡ opened_as (with_steps f)

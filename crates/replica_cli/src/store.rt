@@ -2,14 +2,14 @@
 ghost use Rattle.std.specs.Prelude.{◌≡◌, ◌≤◌, IfOk};
 ghost use Rattle.u1_base.specs.declared.limits.TheConstants.{GREATEST_IMAGE_LIMIT};
 ghost use Rattle.u1_base.specs.declared.limits.TheConstants.{LEAST_IMAGE_LIMIT};
-ghost use Rattle.replica_cli.specs.Faults.{make_fault, open_fault};
+ghost use Rattle.replica_cli.specs.Faults.{compact_fault, make_fault, open_fault};
 
 use disk_model::Disk;
 use disks::Disks;
 use journal::Header;
-use replica_volume::{Volume, VolumeFault};
+use replica_volume::{CompactFault as VolumeCompactFault, Volume, VolumeFault};
 use std::alloc::Global;
-use store_commands::{MakeFault, OpenFault, Store};
+use store_commands::{CompactFault, MakeFault, OpenFault, Sizes, Store};
 use u1_base::{DbName, Memory, ReplicaUid};
 use volume::InitFault;
 
@@ -36,12 +36,16 @@ impl<D: Disk> StoreOnDisks<D> {
 }
 
 impl<D: Disk> Store for StoreOnDisks<D> {
-    ghost use Rattle.replica_cli.specs.Store.{store_known};
+    ghost use Rattle.replica_cli.specs.Store.{store_image, store_known, volume_image};
     ghost use Rattle.replica_cli.specs.Told.{may_stay};
 
     type Opened = Volume<D>;
 
     ghost known = { store_known D.tells D.known };
+
+    ghost image = { store_image D.tells D.known };
+
+    ghost image_in = { volume_image D.tells D.known };
 
     fn open(self, alloc: Global) -> Result<Volume<D>, (OpenFault, StoreOnDisks<D>)> {
         match Volume::open_volume(alloc, self.disks) {
@@ -63,6 +67,16 @@ impl<D: Disk> Store for StoreOnDisks<D> {
         match Volume::init(alloc, self.disks, header) {
             Ok(volume) => (Ok(()), StoreOnDisks::new(volume.into_disks())),
             Err((disks, fault)) => (Err(make_fault(fault)), StoreOnDisks::new(disks)),
+        }
+    }
+
+    fn compact(opened: &mut Volume<D>) -> Result<Sizes, CompactFault> {
+        match opened.compact() {
+            Ok(sizes) => Ok(Sizes {
+                before: sizes.before,
+                after: sizes.after,
+            }),
+            Err(fault) => Err(compact_fault(fault)),
         }
     }
 
@@ -91,9 +105,18 @@ fn open_fault(fault: VolumeFault) -> OpenFault
     match fault {
         VolumeFault::Blank => OpenFault::Blank,
         VolumeFault::Damaged { disk, place } => OpenFault::Damaged { disk, place },
-        VolumeFault::Former => OpenFault::Former,
         VolumeFault::Disk => OpenFault::Disk,
         VolumeFault::Memory => OpenFault::Memory,
+    }
+}
+
+fn compact_fault(fault: VolumeCompactFault) -> CompactFault
+    ensures { result ≡ compact_fault fault }
+{
+    match fault {
+        VolumeCompactFault::Damaged { disk, place } => CompactFault::Damaged { disk, place },
+        VolumeCompactFault::Disk => CompactFault::Disk,
+        VolumeCompactFault::Memory => CompactFault::Memory,
     }
 }
 

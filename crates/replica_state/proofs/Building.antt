@@ -1,8 +1,8 @@
--- A table that is built document by document.
+-- The pairs of all documents, gathered document by document.
 use Rattle.std.proofs.Common.{◌≡◌, ℕ, zero, suc, ◌+◌, ◌≤◌, T, List, [], ◌∷◌, length, take, sym, subst, ◌∙◌, ap, arith}
 use Rattle.std.proofs.Common.{Some, None}
 use Rattle.std.proofs.lemmas.List.{take_all}
-use Rattle.std.specs.Prelude.{slice_get}
+use Rattle.std.specs.Prelude.{Result, Ok, Err, IfOk, slice_get}
 use Rattle.std.specs.FinMap.Entries.{find, is_sorted}
 use Rattle.conflicts.specs.Kept.{Kept}
 use Rattle.conflicts.specs.State.{Text}
@@ -10,6 +10,7 @@ use Rattle.doc_table.proofs.Walking.{not_before, taken_more}
 use Rattle.index_tables.specs.Documents.{Documents, IsTableOf}
 use Rattle.index_tables.specs.Entries.{AreNew, HoldsBoth, entries_of}
 use Rattle.index_tables.specs.Order.{Entry, Key}
+use Rattle.index_tables.specs.Table.{Indexed}
 use Rattle.index_tables.proofs.Documents.{new_document, push_table}
 use Rattle.u1_base.specs.Ids.{id_cmp}
 use Rattle.replica_state.specs.Keyed.{Docs, keyed, keys_of_kept}
@@ -42,3 +43,10 @@ pub whole : (exprs : List Text) (docs : Docs) (place : ℕ) (entries : List Entr
     → IsTableOf (keyed exprs (take place docs)) entries → IsTableOf (keyed exprs docs) entries
 whole exprs docs place entries all t = subst (λ (ds : Docs). IsTableOf (keyed exprs ds) entries)
     (take_all place docs all) t
+
+-- a table that holds the pairs and no others
+pub ok_table : {E : Type 0} (r : Result Indexed E) (documents : Documents) (pairs : List Entry)
+    → IsTableOf documents pairs → IfOk r (λ table. HoldsBoth [] pairs table.pairs)
+    → IfOk r (λ table. IsTableOf documents table.pairs)
+ok_table (Ok table) documents pairs is both = λ p. both p ∙ is p
+ok_table (Err e) documents pairs is both = both

@@ -4,3 +4,6 @@ pub mod Opens
 pub mod Makes
 pub mod Commits
 pub mod Committed
+pub mod Places
+pub mod Moves
+pub mod Compacts

@@ -1,27 +1,24 @@
 -- The image that the root names was read, and its steps were made.
 use Rattle.std.specs.Prelude.{IsTrue}
-use Rattle.std.proofs.Common.{◌≡◌, ◌≢◌, ⊎_elim, ℕ, Bool, List, Ok, Err, refl, sym, ◌∙◌, ap, subst}
+use Rattle.std.proofs.Common.{◌≡◌, ◌≢◌, ℕ, Bool, List, Ok, Err, refl, sym, ◌∙◌, ap, subst}
+use Rattle.conflicts.specs.State.{History}
 use Rattle.disk_model.specs.Device.{Device}
 use Rattle.disks.specs.declared.name.DiskName.{DiskName}
 use Rattle.disks.specs.declared.name.DiskName.TheVariants.{Root}
 use Rattle.disks.specs.declared.trio.Trio.{Trio}
 use Rattle.disks.specs.declared.three.Disks.{Disks}
-use Rattle.disks.specs.Joint.{AreCrashImages, Devices, now_of}
-use Rattle.disks.proofs.Runs.{weaker}
-use Rattle.journal.specs.Image.{IsFormat}
-use Rattle.journal.specs.Journal.{Extent, IsExtent}
+use Rattle.journal.specs.Journal.{Extent}
 use Rattle.journal.specs.Stored.{StoredImage}
 use Rattle.replica_state.specs.Held.{meaning}
-use Rattle.volume.specs.Crashes.{OnlyLooks}
 use Rattle.volume.specs.Opening.{OpensStore}
 use Rattle.volume.specs.Store.{IsStore, found_of}
 use Rattle.volume.specs.Store.Found.{Stands as StandingImage}
 use Rattle.volume.specs.declared.opening.StoreFault.{StoreFault}
 use Rattle.volume.specs.declared.opening.StoreFault.TheVariants as store
-use Rattle.volume.proofs.Finding.{found_is}
-use Rattle.replica_volume.specs.Faults.{fault_of}
-use Rattle.replica_volume.specs.Opening.{IsFormer, IsOpenedFrom, LeavesAsBefore, OpensVolume}
+use Rattle.replica_volume.specs.Faults.{fault_of, fault_placing}
+use Rattle.replica_volume.specs.Opening.{IsFormer, IsOpenedFrom, OpensVolume}
 use Rattle.replica_volume.specs.Replaying.{IsBadAt, IsReplayed, ReplaysOn}
+use Rattle.replica_volume.specs.Placing.{SaysSteps, StandsWith}
 use Rattle.replica_volume.specs.Steps.{steps_of}
 use Rattle.replica_volume.specs.Store.{holds_steps, store_of, with_steps}
 use Rattle.replica_volume.specs.Store.StoreFound.{Damaged, Holds}
@@ -30,6 +27,9 @@ use Rattle.replica_volume.specs.declared.fault.VolumeFault.{VolumeFault}
 use Rattle.replica_volume.specs.declared.fault.VolumeFault.TheVariants as volume
 use Rattle.replica_volume.specs.declared.replaying.Replayed.{Replayed}
 use Rattle.replica_volume.specs.declared.replica.Volume.{Volume}
+use Rattle.replica_volume.specs.declared.placing.PlaceFault.{PlaceFault}
+use Rattle.replica_volume.specs.declared.placing.PlaceFault.TheVariants as place
+use Rattle.replica_volume.specs.declared.placing.Standing.{Standing}
 
 -- no image was read: the fault is that of the files
 pub no_image : {D : Type 0} (files : Trio (List ℕ)) (disks : Disks D) (why : StoreFault) → OpensStore files (Err why)
@@ -61,62 +61,78 @@ holds : (files : Trio (List ℕ)) (side : DiskName) (image : StoredImage) (r : R
     → store_of files ≡ Holds side image.format image.header i.history
 holds files side image r e i = found_with files side image e ∙ ap (holds_steps side image.format image.header) i.says
 
-pub opened_from : {D : Type 0} (files : Trio (List ℕ)) (image : StoredImage) (r : Replayed) (v : Volume D)
-    → found_of files ≡ StandingImage v.side image.format image.header image.bodies
-    → IsExtent image.format image.header image.bodies image.journal
-    → image.format ≡ 2 → IsReplayed image image.bodies r → v.state ≡ r.state → v.journal ≡ image.journal
-    → IsOpenedFrom files v
-opened_from files image r v e extent format i state journal = record {
+pub opened_from : {D : Type 0} (files : Trio (List ℕ)) (side : DiskName) (image : StoredImage) (r : Replayed)
+    (v : Volume D)
+    → found_of files ≡ StandingImage side image.format image.header image.bodies
+    → IsReplayed image image.bodies r → v.state ≡ r.state → v.journal.limit ≡ image.header.limit → IsOpenedFrom files v
+opened_from files side image r v e i state limit = record {
+  side = side;
+  format = image.format;
   head = image.header;
   history = i.history;
-  found = holds files v.side image r e i ∙ ap (λ (n : ℕ). Holds v.side n image.header i.history) format;
+  found = holds files side image r e i;
   leaves = ap meaning state ∙ i.leaves;
-  limit = ap (λ (j : Extent). j.limit) journal ∙ extent.limit;
+  limit = limit;
 }
 
--- a format that is read, and is not the second
-first_format : (format : ℕ) → IsFormat format → format ≢ 2 → format ≡ 1
-first_format format known other = ⊎_elim (λ e. e) (λ e. absurd (other e)) known
-
-pub former : (files : Trio (List ℕ)) (side : DiskName) (image : StoredImage) (r : Replayed)
-    → found_of files ≡ StandingImage side image.format image.header image.bodies → image.format ≢ 2
-    → IsReplayed image image.bodies r → IsFormer files
-former files side image r e other i =
-    let is = found_is files (StandingImage side image.format image.header image.bodies) e in
-    record {
+-- the image has format 1 only where the store had it at the start
+pub not_first : (files seen : Trio (List ℕ)) (side : DiskName) (image : StoredImage) (r : Replayed)
+    → found_of files ≡ StandingImage side image.format image.header image.bodies → files ≡ seen
+    → IsReplayed image image.bodies r
+    → (IsFormer seen → ⊥) → image.format ≢ 1
+not_first files seen side image r e same i never first =
+    never (subst IsFormer same (record {
       side = side;
       head = image.header;
       history = i.history;
-      found = holds files side image r e i
-          ∙ ap (λ (n : ℕ). Holds side n image.header i.history) (first_format image.format is.3.header.known other);
-    }
+      found = holds files side image r e i ∙ ap (λ (n : ℕ). Holds side n image.header i.history) first;
+    }))
 
--- the volume of the image is open
-pub opened_volume : {D : Type 0} (tells : Bool) (known : D → Device) (image : StoredImage) (r : Replayed) (v : Volume D)
-    → (IsTrue tells → IsStore image.journal v.side image.format image.header image.bodies (devices known v).files)
-    → v.side ≢ Root → image.format ≡ 2 → IsReplayed image image.bodies r
-    → v.state ≡ r.state → v.uids ≡ r.uids → v.journal ≡ image.journal → IsTrue v.open → IsOpenVolume tells known v
-opened_volume tells known image r v stands side format i state uids journal ready = record {
+-- the bodies say what was replayed
+pub says_replayed : (image : StoredImage) (r : Replayed) → (i : IsReplayed image image.bodies r)
+    → SaysSteps image i.history r.uids.uids
+says_replayed image r i = i.says
+
+-- the volume of the image that stands in format 2 is open
+pub opened_volume : {D : Type 0} (tells : Bool) (known : D → Device) (image : StoredImage) (r : Replayed)
+    (s : Standing) (v : Volume D)
+    → (IsTrue tells → (h : History) → SaysSteps image h r.uids.uids
+    → StandsWith image.header h s (devices known v).files)
+    → s.side ≢ Root → IsReplayed image image.bodies r
+    → v.side ≡ s.side → v.state ≡ r.state → v.uids ≡ s.uids → v.journal ≡ s.journal → IsTrue v.open
+    → IsOpenVolume tells known v
+opened_volume tells known image r s v stands root i side state uids journal ready = record {
   ready = ready;
-  image = side;
-  keeps = λ t. record {
-    head = image.header;
-    bodies = image.bodies;
-    history = i.history;
-    stands = subst (λ (j : Extent). IsStore j v.side 2 image.header image.bodies (devices known v).files) (sym journal)
-        (subst (λ (n : ℕ). IsStore image.journal v.side n image.header image.bodies (devices known v).files) format
-        (stands t));
-    says = subst (λ (n : ℕ). steps_of n image.header image.bodies
-        ≡ Ok (record { steps = i.history; uids = r.uids.uids })) format i.says
-        ∙ ap (λ u. Ok (record { steps = i.history; uids = u.uids })) (sym uids);
-    leaves = ap meaning state ∙ i.leaves;
-  };
+  image = λ e. root (sym side ∙ e);
+  keeps = λ t.
+      let is = stands t i.history i.says in
+      record {
+        head = image.header;
+        bodies = is.bodies;
+        history = i.history;
+        stands = subst (λ (d : DiskName). IsStore v.journal d 2 image.header is.bodies (devices known v).files)
+            (sym side)
+            (subst (λ (j : Extent). IsStore j s.side 2 image.header is.bodies (devices known v).files)
+            (sym journal) is.stands);
+        says = is.says ∙ ap (λ u. Ok (record { steps = i.history; uids = u.uids })) (sym uids);
+        leaves = ap meaning state ∙ i.leaves;
+      };
 }
 
--- where nothing was written a crash leaves what opens as it would have
-pub as_before : (old new : Devices) → OnlyLooks old new → LeavesAsBefore old new
-as_before old new looks = weaker old new (AreCrashImages (now_of old.files)) _ looks.leaves
-    (λ files images. (files, images, refl))
+-- an image was not put in place
+pub not_placed : {D : Type 0} (files : Trio (List ℕ)) (disks : Disks D) (why : PlaceFault)
+    → OpensVolume {D = D} files (Err (disks, fault_placing why))
+not_placed files disks place.Disk = tt
+not_placed files disks place.Memory = tt
+
+-- a failed disk is told only where it failed, and running out of memory where it happened
+pub disk_placing : (why : PlaceFault) → fault_placing why ≡ volume.Disk → why ≡ place.Disk
+disk_placing place.Disk e = refl
+disk_placing place.Memory e = absurd (cc e)
+
+pub memory_placing : (why : PlaceFault) → fault_placing why ≡ volume.Memory → why ≡ place.Memory
+memory_placing place.Disk e = absurd (cc e)
+memory_placing place.Memory e = refl
 
 -- what going through the bodies found is what is found of the store
 pub not_replayed : {D : Type 0} (files : Trio (List ℕ)) (disks : Disks D) (side : DiskName) (image : StoredImage)
@@ -125,6 +141,5 @@ pub not_replayed : {D : Type 0} (files : Trio (List ℕ)) (disks : Disks D) (sid
     → OpensVolume {D = D} files (Err (disks, why))
 not_replayed files disks side image volume.Blank e r = absurd r
 not_replayed files disks side image (volume.Damaged disk place) e r = bad_body files side disk image place e r.0 r.1
-not_replayed files disks side image volume.Former e r = former files side image r.1.0 e r.0 r.1.1
 not_replayed files disks side image volume.Disk e r = absurd r
 not_replayed files disks side image volume.Memory e r = tt

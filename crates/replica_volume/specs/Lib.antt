@@ -7,3 +7,5 @@ pub mod Making
 pub mod Faults
 pub mod Replaying
 pub mod Committing
+pub mod Placing
+pub mod Compacting

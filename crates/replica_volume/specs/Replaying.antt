@@ -1,5 +1,5 @@
 -- Private words: what going through the bodies of an image leaves.
-use Rattle.std.specs.Prelude.{◌≡◌, ◌≢◌, ℕ, ◌+◌, List, length, Result, Ok, Err}
+use Rattle.std.specs.Prelude.{◌≡◌, ℕ, ◌+◌, List, length, Result, Ok, Err}
 use Rattle.conflicts.specs.State.{History}
 use Rattle.disks.specs.declared.name.DiskName.{DiskName}
 use Rattle.journal.specs.Image.{header_bytes}
@@ -39,11 +39,10 @@ Replays image (Ok r) = IsReplayed image image.bodies r
 Replays image (Err (record_fault.Bad place)) = IsBadAt image place
 Replays image (Err record_fault.Memory) = Unit {0}
 
--- the same of an image on this side, which has to have format 2
+-- the same of an image on this side
 abbrev pub ReplaysOn : DiskName → StoredImage → Result Replayed VolumeFault → Type 0
-ReplaysOn side image (Ok r) = (image.format ≡ 2) × IsReplayed image image.bodies r
+ReplaysOn side image (Ok r) = IsReplayed image image.bodies r
 ReplaysOn side image (Err (fault.Damaged disk place)) = (disk ≡ side) × IsBadAt image place
-ReplaysOn side image (Err fault.Former) = (image.format ≢ 2) × ((r : Replayed) × IsReplayed image image.bodies r)
 ReplaysOn side image (Err fault.Memory) = Unit {0}
 ReplaysOn side image (Err fault.Blank) = ⊥
 ReplaysOn side image (Err fault.Disk) = ⊥

@@ -31,8 +31,7 @@ opens_its_state known v k files images =
     ∙ ap Stands (sym k.leaves)
 
 pub leaves_its_state : {D : Type 0} (tells : Bool) (known : D → Device) (v : Volume D) (o : Found State)
-    → IsOpenVolume tells known v
-    → volume_crash tells known v (moments tells (devices known v)) o
+    → IsOpenVolume tells known v → volume_crash tells known v (moments tells (devices known v)) o
     → o ≡ Stands (state_in (volume_known tells known v))
 leaves_its_state tells known v o is crash =
     let t = crash.0 in let files = crash.1.0 in

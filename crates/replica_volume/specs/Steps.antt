@@ -32,8 +32,8 @@ after_body body (Err place) later = Err (5 + place)
 -- no reading, counted from the first entry.
 abbrev pub steps_in : ℕ → List Text → List (List ℕ) → Result Chronicle ℕ
 steps_in format us [] = Ok (record { steps = []; uids = us })
-steps_in format us (body ∷ bodies) = after_body body (body_in format us body)
-    (λ said. steps_in format (us ++ said.added) bodies)
+steps_in format us (body ∷ bodies) =
+    after_body body (body_in format us body) (λ said. steps_in format (us ++ said.added) bodies)
 
 -- the uid of the header has the number 0
 abbrev pub steps_of : ℕ → Head → List (List ℕ) → Result Chronicle ℕ

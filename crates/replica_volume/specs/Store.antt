@@ -1,10 +1,12 @@
 -- What is found of three files, with the steps that the bodies say.
-use Rattle.std.specs.Prelude.{◌≡◌, ℕ, ◌+◌, List, length, Result, Ok, Err}
-use Rattle.conflicts.specs.State.{History, State}
+use Rattle.std.specs.Prelude.{◌≡◌, ◌≢◌, ◌⊎◌, ℕ, ◌+◌, List, [], ◌∷◌, length, Result, Ok, Err}
+use Rattle.compaction.specs.Images.{bodies_of, uids_after}
+use Rattle.conflicts.specs.State.{History, State, Text}
 use Rattle.disks.specs.declared.name.DiskName.{DiskName}
 use Rattle.disks.specs.declared.trio.Trio.{Trio}
 use Rattle.disks.specs.Joint.{JointMoment, AreCrashImages}
 use Rattle.journal.specs.Image.{Head, header_bytes}
+use Rattle.journal.specs.declared.layout.TheConstants.{FIRST_FORMAT}
 use Rattle.volume.specs.Store.{Found as FoundImages, found_of}
 use Rattle.volume.specs.Store.Found.{Blank as NoImages, Damaged as BrokenImage, Stands as StandingImage}
 use Rattle.replica_core.specs.Replica.{Found}
@@ -27,6 +29,26 @@ abbrev pub with_steps : FoundImages → StoreFound
 with_steps NoImages = Blank
 with_steps (BrokenImage disk place) = Damaged disk place
 with_steps (StandingImage side format head bodies) = holds_steps side format head (steps_of format head bodies)
+
+-- this is found of the image of format 2 on the other side that spells the steps which these bodies say in format 1
+pub record IsRespelling (side : DiskName) (head : Head) (bodies : List (List ℕ)) (new : FoundImages) : Type 0 where
+  pub history : History
+  pub uids : List Text
+  pub said : steps_of 1 head bodies ≡ Ok (record { steps = history; uids = uids })
+  pub to : DiskName
+  pub other : to ≢ side
+  pub found : new ≡ StandingImage to 2 head (bodies_of (head.uid ∷ []) history)
+  pub says : steps_of 2 head (bodies_of (head.uid ∷ []) history)
+      ≡ Ok (record { steps = history; uids = uids_after (head.uid ∷ []) history })
+
+-- the store had format 1, and was moved
+abbrev pub IsMoved : FoundImages → FoundImages → Type 0
+IsMoved NoImages new = ⊥
+IsMoved (BrokenImage disk place) new = ⊥
+IsMoved (StandingImage side format head bodies) new = (format ≡ FIRST_FORMAT) × IsRespelling side head bodies new
+
+abbrev pub IsSameOrMoved : FoundImages → FoundImages → Type 0
+IsSameOrMoved old new = (new ≡ old) ⊎ IsMoved old new
 
 -- what is found of three files
 abbrev pub store_of : Trio (List ℕ) → StoreFound

@@ -9,6 +9,7 @@ use Rattle.disks.specs.Joint.{Devices, moment_at, seen_of}
 use Rattle.disks.specs.Disks.{disks_known}
 use Rattle.journal.specs.Image.{Head}
 use Rattle.journal.specs.Journal.{need}
+use Rattle.journal.specs.declared.layout.TheConstants.{SECOND_FORMAT}
 use Rattle.volume.specs.Store.{Found as FoundImages, IsStore, found_of}
 use Rattle.volume.specs.Store.Found.{Blank, Damaged, Stands}
 use Rattle.record_codec.specs.Bodies.{body_of}
@@ -53,7 +54,7 @@ pub record KeepsHistory {D : Type 0} (v : Volume D) (files : Trio File) : Type 0
   pub head : Head
   pub bodies : List (List ℕ)
   pub history : History
-  pub stands : IsStore v.journal v.side 2 head bodies files
+  pub stands : IsStore v.journal v.side SECOND_FORMAT head bodies files
   pub says : steps_of 2 head bodies ≡ Ok (record { steps = history; uids = v.uids.uids })
   pub leaves : meaning v.state ≡ state_at head history
 

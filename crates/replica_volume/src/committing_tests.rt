@@ -4,8 +4,8 @@ ghost use Rattle.std.specs.Prelude.{IsTrue};
 
 use crate::Volume;
 use crate::tests::{
-    CREATED, EMPTY, Found, NOTHING, ONE, Three, are, calls, disks_of, has, header, hold, leave,
-    look,
+    CREATED, EMPTY, Found, NOTHING, ONE, TAKEN, Three, are, calls, disks_of, has, has_both, header,
+    hold, leave, look,
 };
 use content::Content;
 use disk_model::MemDisk;
@@ -23,9 +23,9 @@ use vector_rev::Clock;
 
 const CONTENT: &[u8] = b"{\"b\":1,\"a\":\"x\"}";
 
-// What creating the document answers: its first revision, or a fault.
+/// What creating the document answers: its first revision, or a fault.
 #[derive(Clone, Copy, Debug, PartialEq, Eq)]
-enum Done {
+pub(crate) enum Done {
     First,
     Full(u64, u64),
     Disk,
@@ -58,14 +58,14 @@ const NOT_DONE: After = After {
     open: false,
 };
 
-fn reads_as(clock: &Clock, text: &[u8]) -> bool {
+pub(crate) fn reads_as(clock: &Clock, text: &[u8]) -> bool {
     match clock.text() {
         Ok(read) => are(read.as_str().as_bytes(), text),
         Err(_) => false,
     }
 }
 
-fn has_text(content: &Content, text: &[u8]) -> bool {
+pub(crate) fn has_text(content: &Content, text: &[u8]) -> bool {
     match content.text() {
         Ok(read) => are(read.as_slice(), text),
         Err(_) => false,
@@ -113,6 +113,16 @@ fn put<R: Replica>(alloc: Global, replica: &mut R, content: &Content) -> After
         done,
         has: has(replica.state()),
         open: replica.is_open(),
+    }
+}
+
+/// The same with the text of a content: what was answered.
+pub(crate) fn put_text<R: Replica>(alloc: Global, replica: &mut R, text: &[u8]) -> Done
+    requires { R.is_open replica.old }
+{
+    match Content::read(alloc, text) {
+        Ok(content) => put(alloc, replica, &content).done,
+        Err(_) => Done::Other,
     }
 }
 
@@ -191,7 +201,7 @@ fn is_kept(alloc: Global, disks: Disks<MemDisk>) -> bool {
 }
 
 // Making the store is four calls of the root and three of each image; the commit is four of the
-// left.
+// left one.
 fn creates_the_first(alloc: Global) -> bool {
     match disks_of(alloc, (b"", b"", b""), DiskName::Root, &[]) {
         Ok(disks) => {
@@ -255,16 +265,7 @@ fn is_full_above_its_limit(rt: HostRuntime) {
 
 // ---- uids get numbers
 
-// A revision of another replica, with the move of its place: 119 bytes. It gives b the number 1.
-const TAKEN: &[u8] =
-    b"\x01\0\x02d1\x01\0\0\0\x01\0\x01b\0\0\0\0\0\0\0\x01\x03\0\0\0\0\x01\x01\0\0\0\x02{}\0\x22T-a1\
-      2aa9bff3485ffcbd67876eea76a865\x02\0\0\0\x01\0\0\0\0\0\0\0\x01\0\x22T-a12aa9bff3485ffcbd67876\
-      eea76a865";
-
-// Where b has its number: the position of b moves to its second entry.
-const MOVED: &[u8] = b"\x03\x01\0\0\0\x01\0\0\0\0\0\0\0\x02\0\x01T";
-
-// The same where b has none.
+// The second of the two bodies where b has no number.
 const MOVED_ALONE: &[u8] = b"\x03\x01\0\0\0\x01\0\x01b\0\0\0\0\0\0\0\x02\0\x01T";
 
 fn own(alloc: Global) -> Result<Uids, Memory> {
@@ -321,25 +322,6 @@ fn open_and_commit(alloc: Global, disks: Disks<MemDisk>) -> (Disks<MemDisk>, boo
     }
 }
 
-// The entry of the body stands at the place, and behind it a gate.
-fn has_entry(image: &[u8], place: usize, body: &[u8]) -> bool {
-    let start = place.saturating_add(5);
-    let end = start.saturating_add(body.len());
-    match image.get(place..end) {
-        Some(entry) => {
-            are(&entry[..4], &[1, 0, 0, 0])
-                && entry[4] as usize == body.len()
-                && are(&entry[5..], body)
-        }
-        None => false,
-    }
-}
-
-fn has_both(disks: &Disks<MemDisk>) -> bool {
-    let image = disks.disk(DiskName::Right).bytes();
-    image.len() == 170 && has_entry(image, 23, TAKEN) && has_entry(image, 147, MOVED)
-}
-
 fn opens_as_one(alloc: Global, disks: Disks<MemDisk>) -> bool {
     let (_disks, found) = look(alloc, disks);
     found == ONE
@@ -349,7 +331,7 @@ fn numbers(alloc: Global) -> bool {
     match disks_of(alloc, (&[1], b"other", EMPTY), DiskName::Root, &[]) {
         Ok(disks) => {
             let (disks, done) = open_and_commit(alloc, disks);
-            done && has_both(&disks) && opens_as_one(alloc, disks)
+            done && has_both(disks.disk(DiskName::Right).bytes()) && opens_as_one(alloc, disks)
         }
         Err(_) => false,
     }
@@ -365,11 +347,21 @@ fn gives_numbers_to_uids(rt: HostRuntime) {
 
 const FILES: Three = (&[0], EMPTY, CREATED);
 
-fn put_again(alloc: Global, disks: Disks<MemDisk>) -> (Disks<MemDisk>, After) {
-    match Content::read(alloc, CONTENT) {
+fn put_again(alloc: Global, disks: Disks<MemDisk>, text: &[u8]) -> (Disks<MemDisk>, After) {
+    match Content::read(alloc, text) {
         Ok(content) => open_and_put(alloc, disks, &content),
         Err(_) => (disks, NOT_DONE),
     }
+}
+
+/// Opens the store, and creates the document with this text: the disks, and what was answered.
+pub(crate) fn open_and_put_text(
+    alloc: Global,
+    disks: Disks<MemDisk>,
+    text: &[u8],
+) -> (Disks<MemDisk>, Done) {
+    let (disks, after) = put_again(alloc, disks, text);
+    (disks, after.done)
 }
 
 // Whether this comes of a commit where the call of this number of the left disk fails, and a crash
@@ -377,7 +369,7 @@ fn put_again(alloc: Global, disks: Disks<MemDisk>) -> (Disks<MemDisk>, After) {
 fn leaves(alloc: Global, number: u64, want: After, is: &[Found]) -> bool {
     match disks_of(alloc, FILES, DiskName::Left, &[number]) {
         Ok(disks) => {
-            let (mut disks, after) = put_again(alloc, disks);
+            let (mut disks, after) = put_again(alloc, disks, CONTENT);
             after == want && leave(alloc, &mut disks, is)
         }
         Err(_) => false,

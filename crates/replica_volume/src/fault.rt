@@ -2,6 +2,7 @@
 ghost use Rattle.std.specs.Prelude.{◌≡◌};
 ghost use Rattle.volume.specs.Faults.{disk_text};
 
+use crate::placing::PlaceFault;
 use disks::DiskName;
 use std::error::Error;
 use std::fmt;
@@ -14,8 +15,6 @@ pub enum VolumeFault {
     Blank,
     /// The file of this disk is damaged. The place counts bytes from 0.
     Damaged { disk: DiskName, place: u64 },
-    /// The image has format 1. It reads, and is not opened.
-    Former,
     Disk,
     Memory,
 }
@@ -36,6 +35,20 @@ impl From<StoreFault> for VolumeFault {
     }
 }
 
+impl From<PlaceFault> for VolumeFault {
+    ghost use Rattle.std.specs.Prelude.{◌≡◌};
+    ghost use Rattle.replica_volume.specs.Faults.{fault_placing};
+
+    ghost from_gives = { λ fault e. e ≡ fault_placing fault };
+
+    fn from(fault: PlaceFault) -> VolumeFault {
+        match fault {
+            PlaceFault::Disk => VolumeFault::Disk,
+            PlaceFault::Memory => VolumeFault::Memory,
+        }
+    }
+}
+
 impl fmt::Display for VolumeFault {
     ghost use Rattle.std.specs.Prelude.{Some};
     ghost use Rattle.replica_volume.specs.Faults.{volume_fault_text};
@@ -48,7 +61,6 @@ impl fmt::Display for VolumeFault {
             VolumeFault::Damaged { disk, place } => {
                 write!(f, "the file {} is damaged at byte {place}", text_of(*disk))
             }
-            VolumeFault::Former => f.write_str("the store has an older format"),
             VolumeFault::Disk => f.write_str("the disk failed"),
             VolumeFault::Memory => f.write_str("out of memory"),
         }
@@ -57,8 +69,8 @@ impl fmt::Display for VolumeFault {
 
 impl Error for VolumeFault {}
 
-// The name of the disk's file.
-fn text_of(disk: DiskName) -> &'static str
+/// The name of the disk's file.
+pub(crate) fn text_of(disk: DiskName) -> &'static str
     ensures { result.now ≡ disk_text disk }
 {
     match disk {

@@ -1,14 +1,17 @@
 //! Opening the store that stands.
-ghost use Rattle.std.specs.Prelude.{◌≡◌, ℕ, List, IfOk, IsTrue};
+ghost use Rattle.std.specs.Prelude.{◌≡◌, ℕ, List, IfOk, IsErrOf, IsTrue};
 ghost use Rattle.u1_base.specs.Causes.{HasCauseOf};
 ghost use Rattle.disks.specs.declared.trio.Trio.{Trio};
 ghost use Rattle.disks.specs.Disks.{disks_known};
 ghost use Rattle.disks.specs.Joint.{seen_of};
 ghost use Rattle.volume.specs.Crashes.{OnlyLooks};
-ghost use Rattle.replica_volume.specs.Opening.{LeavesAsBefore, OpensVolume};
+ghost use Rattle.replica_volume.specs.Opening.{IsFormer, IsLeft, LeavesAsBefore};
+ghost use Rattle.replica_volume.specs.Opening.{LeavesOldOrMoved, OpensVolume};
 ghost use Rattle.replica_volume.specs.Replaying.{ReplaysOn};
 ghost use Rattle.replica_volume.specs.Volume.{IsOpenVolume, disks_in, fault_in};
 
+use crate::moving::bring_forward;
+use crate::placing::Standing;
 use crate::replaying::{Replayed, replay};
 use crate::{Volume, VolumeFault};
 use disk_model::Disk;
@@ -22,13 +25,22 @@ impl<D: Disk> Volume<D> {
     /// Opens the store: it has the state of the steps that the bodies of the image say which the
     /// root names.
     ///
-    /// Nothing is written, and a crash on the way leaves no more than one at the start might.
+    /// An image of format 1 is moved to the other side, in format 2, and the root names it then.
+    /// It may come out longer than its limit, which is not tested. All memory is taken before a
+    /// disk is written, and a store of format 2 is not written at all. A crash on the way leaves no
+    /// more than one at the start might, or the image that was moved.
     pub fn open_volume(alloc: Global, disks: Disks<D>) -> Result<Volume<D>, (Disks<D>, VolumeFault)>
         ensures reads { (files : Trio (List ℕ))
             × (IsTrue D.tells → files ≡ seen_of (disks_known D.known disks).files)
             × OpensVolume files result }
         ensures open { IfOk result (IsOpenVolume D.tells D.known) }
-        ensures looks { IsTrue D.tells → OnlyLooks
+        ensures left { IsTrue D.tells
+            → IsLeft (disks_known D.known disks) (disks_known D.known (disks_in result)) }
+        ensures looks { IsTrue D.tells → ¬ (IsFormer (seen_of (disks_known D.known disks).files))
+            → OnlyLooks (disks_known D.known disks) (disks_known D.known (disks_in result)) }
+        ensures memory { IsTrue D.tells → IsErrOf (fault_in result) VolumeFault.Memory
+            → OnlyLooks (disks_known D.known disks) (disks_known D.known (disks_in result)) }
+        ensures moves { IsTrue D.tells → LeavesOldOrMoved
             (disks_known D.known disks) (disks_known D.known (disks_in result)) }
         ensures any_moment { IsTrue D.tells → LeavesAsBefore
             (disks_known D.known disks) (disks_known D.known (disks_in result)) }
@@ -44,7 +56,15 @@ impl<D: Disk> Volume<D> {
             Ok(replayed) => replayed,
             Err(fault) => return Err((disks, fault)),
         };
-        let journal = image.journal();
+        let standing = match bring_forward(alloc, &mut disks, side, &image, uids) {
+            Ok(standing) => standing,
+            Err(fault) => return Err((disks, VolumeFault::from(fault))),
+        };
+        let Standing {
+            side,
+            journal,
+            uids,
+        } = standing;
         Ok(Volume {
             alloc,
             disks,
@@ -57,17 +77,12 @@ impl<D: Disk> Volume<D> {
     }
 }
 
-// The state of the steps that this image says, which lies on this side and has to have format 2.
+// The state of the steps that this image says, which lies on this side.
 fn replay_on(alloc: Global, side: DiskName, image: &Stored) -> Result<Replayed, VolumeFault>
     ensures { ReplaysOn side image.now result }
 {
     match replay(alloc, image) {
-        Ok(replayed) => {
-            if image.format() != 2 {
-                return Err(VolumeFault::Former);
-            }
-            Ok(replayed)
-        }
+        Ok(replayed) => Ok(replayed),
         Err(RecordFault::Bad(place)) => Err(VolumeFault::Damaged { disk: side, place }),
         Err(RecordFault::Memory) => Err(VolumeFault::Memory),
     }

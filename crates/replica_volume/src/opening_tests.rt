@@ -1,30 +1,13 @@
 //! Opening: worked damage, each byte of the root, cuts and changed bytes, each call that fails.
 use crate::VolumeFault;
 use crate::tests::{
-    CREATED, CREATED_FIRST, EMPTY, Found, NOTHING, ONE, Three, calls, damaged, disks_of, find,
-    hold, leave, look,
+    CREATED, CREATED_FIRST, EMPTY, Found, NOTHING, ONE, Three, calls, changed, damaged, disks_of,
+    find, hold, is_found, leave, look,
 };
 use disks::DiskName;
 use std::alloc::Global;
-use u1_base::Memory;
 
 // ---- worked images
-
-// The image with other bytes from this place on.
-fn changed(alloc: Global, image: &[u8], place: usize, bytes: &[u8]) -> Result<Vec<u8>, Memory> {
-    let mut image = image.to_vec(alloc)?;
-    for (at, byte) in bytes.iter().enumerate() {
-        if let Some(slot) = image.get_mut(place.saturating_add(at)) {
-            *slot = *byte;
-        }
-    }
-    Ok(image)
-}
-
-// Whether the store of these files is found to be so.
-fn is_found(alloc: Global, bytes: Three, want: Found) -> bool {
-    find(alloc, bytes) == want
-}
 
 // Whether this is found where the left image is this one with other bytes at the place.
 fn finds(alloc: Global, image: &[u8], place: usize, bytes: &[u8], want: Found) -> bool {
@@ -90,33 +73,6 @@ fn finds_what_is_cut(rt: HostRuntime) {
     }
 }
 
-const FORMER: Found = Err(VolumeFault::Former);
-
-#[test]
-fn tells_the_older_format(rt: HostRuntime) {
-    assert!(rt; is_found(rt.alloc(), (&[0], CREATED_FIRST, EMPTY), FORMER));
-    assert!(rt; finds(rt.alloc(), CREATED_FIRST, 23, &[0], FORMER));
-    assert!(rt;
-        finds(
-            rt.alloc(),
-            CREATED_FIRST,
-            28,
-            &[9],
-            damaged(DiskName::Left, 28)
-        )
-    );
-    assert!(rt; finds(rt.alloc(), CREATED_FIRST, 35, b"b", FORMER));
-    assert!(rt;
-        finds(
-            rt.alloc(),
-            CREATED_FIRST,
-            35,
-            b"?",
-            damaged(DiskName::Left, 33)
-        )
-    );
-}
-
 // ---- the root
 
 #[test]
@@ -173,7 +129,6 @@ fn may_be(found: Found, place: usize) -> bool {
         Err(VolumeFault::Damaged { disk, place: at }) => {
             disk == DiskName::Left && at as usize >= field_of(place) && at as usize <= CREATED.len()
         }
-        Err(VolumeFault::Former) => place == 7,
         Err(_) => false,
     }
 }

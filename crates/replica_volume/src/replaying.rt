@@ -1,14 +1,16 @@
 //! The state of the steps that the bodies of an image say.
-ghost use Rattle.std.specs.Prelude.{◌≡◌, ◌+◌, ◌<◌, ◌^◌, ◌++◌, ◌∷◌, [], IfOk, OnOk, length};
+ghost use Rattle.std.specs.Prelude.{◌≡◌, ◌≢◌, ◌+◌, ◌<◌, ◌^◌, ◌++◌, ◌∷◌, [], IfOk, OnOk, length};
 ghost use Rattle.conflicts.specs.State.{after};
 ghost use Rattle.replica_state.specs.Held.{meaning};
 ghost use Rattle.replica_state.specs.Steps.{step_of};
-ghost use Rattle.record_codec.specs.Decoding.{Decodes, IsBadWithin};
+ghost use Rattle.journal.specs.declared.layout.TheConstants.{FIRST_FORMAT};
+ghost use Rattle.record_codec.specs.Decoding.{Decodes, IsBadWithin, recorded};
+ghost use Rattle.record_codec.specs.Laws.{Says};
 ghost use Rattle.record_fields.specs.Table.{AreNumbered};
 ghost use Rattle.replica_volume.specs.Replaying.{DecodesAt, Replays};
 ghost use Rattle.replica_volume.specs.Steps.{body_in, state_at};
 
-use journal::{Entry, Stored};
+use journal::{Entry, FIRST_FORMAT, Stored};
 use record_codec::{Decoded, RecordFault, ReplicaUids, Uids, decode, decode_first};
 use replica_state::State;
 use std::alloc::Global;
@@ -49,8 +51,8 @@ fn nothing_yet(alloc: Global, image: &Stored) -> Result<Replayed, Memory>
     Ok(Replayed { state, uids })
 }
 
-// What the entry's body says in this format, where these uids have numbers.
-fn step_at(
+/// What the entry's body says in this format, where these uids have numbers.
+pub(crate) fn step_at(
     alloc: Global,
     format: u8,
     entry: &Entry<'_>,
@@ -59,6 +61,8 @@ fn step_at(
     requires fits { entry.now.place + length entry.now.body.now < 2 ^ 64 }
     ensures says { DecodesAt entry.now.place
         (body_in format uids.now.uids entry.now.body.now) result }
+    ensures spelled { format ≢ FIRST_FORMAT
+        → IfOk result (λ d. Says uids.now.uids entry.now.body.now (recorded d)) }
     ensures numbered { IfOk result (λ d. AreNumbered (uids.now.uids ++ d.added)) }
 {
     match step_in(alloc, format, entry.body, uids) {
@@ -70,10 +74,12 @@ fn step_at(
 
 fn step_in(alloc: Global, format: u8, body: &[u8], uids: &Uids) -> Result<Decoded, RecordFault>
     ensures says { Decodes (body_in format uids.now.uids body.now) result }
+    ensures spelled { format ≢ FIRST_FORMAT
+        → IfOk result (λ d. Says uids.now.uids body.now (recorded d)) }
     ensures within { IsBadWithin (length body.now) result }
     ensures numbered { IfOk result (λ d. AreNumbered (uids.now.uids ++ d.added)) }
 {
-    if format != 1 {
+    if format != FIRST_FORMAT {
         return decode(alloc, body, uids);
     }
     // Lending the uids is what tells the proof that they are as they have numbers.

@@ -18,7 +18,10 @@ pub(crate) const CREATED: &[u8] =
       \0\0\x01\0\0\0\0\0\x01\x01\0\0\0\x0f{\"a\":\"x\",\"b\":1}\0\x22T-a12aa9bff3485ffcbd67876eea76\
       a865\0\0";
 
-/// The same in format 1: 102 bytes.
+/// The empty image in format 1.
+pub(crate) const EMPTY_FIRST: &[u8] = b"U1DBVOL\x01\0\x02db\0\x01a\0\0\x01\0\0\0\0\0\0";
+
+/// The image of the document in format 1: 102 bytes.
 pub(crate) const CREATED_FIRST: &[u8] =
     b"U1DBVOL\x01\0\x02db\0\x01a\0\0\x01\0\0\0\0\0\x01\0\0\0\x49\x01\0\x02d1\0\x03a:1\0\0\0\0\0\x01\
       \x01\0\0\0\x0f{\"a\":\"x\",\"b\":1}\0\x22T-a12aa9bff3485ffcbd67876eea76a865\0\0";
@@ -41,6 +44,16 @@ const CHOICES: [Choice; 5] = [
     Choice::Fill(0),
     Choice::Fill(1),
 ];
+
+/// The body of a revision of another replica, with the move of its place, in format 2: 119 bytes.
+/// It gives b the number 1.
+pub(crate) const TAKEN: &[u8] =
+    b"\x01\0\x02d1\x01\0\0\0\x01\0\x01b\0\0\0\0\0\0\0\x01\x03\0\0\0\0\x01\x01\0\0\0\x02{}\0\x22T-a1\
+      2aa9bff3485ffcbd67876eea76a865\x02\0\0\0\x01\0\0\0\0\0\0\0\x01\0\x22T-a12aa9bff3485ffcbd67876\
+      eea76a865";
+
+/// Where b has its number: the position of b moves to its second entry.
+pub(crate) const MOVED: &[u8] = b"\x03\x01\0\0\0\x01\0\0\0\0\0\0\0\x02\0\x01T";
 
 /// The bytes of each disk: of the root, left and right.
 pub(crate) type Three<'a> = (&'a [u8], &'a [u8], &'a [u8]);
@@ -102,6 +115,25 @@ pub(crate) fn header(alloc: Global, limit: u64) -> Result<Header, IdFault> {
     Ok(Header { name, uid, limit })
 }
 
+// The entry of the body stands at the place, and behind it a gate.
+fn has_entry(image: &[u8], place: usize, body: &[u8]) -> bool {
+    let start = place.saturating_add(5);
+    let end = start.saturating_add(body.len());
+    match image.get(place..end) {
+        Some(entry) => {
+            are(&entry[..4], &[1, 0, 0, 0])
+                && entry[4] as usize == body.len()
+                && are(&entry[5..], body)
+        }
+        None => false,
+    }
+}
+
+/// Whether this image has the two bodies.
+pub(crate) fn has_both(image: &[u8]) -> bool {
+    image.len() == 170 && has_entry(image, 23, TAKEN) && has_entry(image, 147, MOVED)
+}
+
 /// What a state has: its generation, and how many documents.
 pub(crate) fn has(state: &State) -> (u64, u64) {
     (state.log().generation(), state.docs().length())
@@ -127,6 +159,27 @@ pub(crate) fn find(alloc: Global, bytes: Three) -> Found {
         }
         Err(_) => Err(VolumeFault::Memory),
     }
+}
+
+/// The image with other bytes from this place on.
+pub(crate) fn changed(
+    alloc: Global,
+    image: &[u8],
+    place: usize,
+    bytes: &[u8],
+) -> Result<Vec<u8>, Memory> {
+    let mut image = image.to_vec(alloc)?;
+    for (at, byte) in bytes.iter().enumerate() {
+        if let Some(slot) = image.get_mut(place.saturating_add(at)) {
+            *slot = *byte;
+        }
+    }
+    Ok(image)
+}
+
+/// Whether the store of these files is found to be so.
+pub(crate) fn is_found(alloc: Global, bytes: Three, want: Found) -> bool {
+    find(alloc, bytes) == want
 }
 
 // What a crash now leaves of the disk by this choice. A look is noted first, whose image is the one

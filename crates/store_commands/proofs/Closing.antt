@@ -13,8 +13,9 @@ use Rattle.store_commands.specs.Answer.{changes_of}
 use Rattle.replica_state.specs.Held.{Lists}
 use Rattle.store_commands.specs.Carries.{InStore}
 use Rattle.store_commands.specs.Changes.{HasLimit, IsAfterSome, IsNow, IsSettled, Passes, after_all, limit_of}
+use Rattle.store_commands.specs.Compacting.{Image}
 use Rattle.store_commands.specs.Deeds.{Deed}
-use Rattle.store_commands.specs.Found.{Found, Blank, Damaged as DamagedStore, Former, Stands, Store, in_short}
+use Rattle.store_commands.specs.Found.{Found, Blank, Damaged as DamagedStore, Stands, Store, in_short}
 use Rattle.store_commands.specs.Found.{opened_as}
 use Rattle.store_commands.specs.Leaves.{Does, Leaves}
 use Rattle.store_commands.specs.Store.{Closes, MayStay}
@@ -26,7 +27,6 @@ module _ (found : Found) (a : Result Deed Outcome) (unread : Type 0) (before : S
   same_limit : (limit : ℕ) (told : Found) → known.limit ≡ limit → HasLimit known.limit told → HasLimit limit told
   same_limit limit Blank same has = tt
   same_limit limit (DamagedStore disk place) same has = tt
-  same_limit limit (Former state) same has = tt
   same_limit limit (Stands x) same has = has ∙ same
 
   -- what is told is what stands after some of the changes
@@ -139,18 +139,24 @@ module _ (found : Found) (a : Result Deed Outcome) (unread : Type 0) (before : S
   closed decided does = part does.stood does.reached does.passes decided does.leaves
 
 -- a command in the store, once it is closed
-pub within_closed : (command : Command) (seed : ℕ) (found : Found) (lists : Lists) (before : Store) (known : Known)
+pub within_closed : (command : Command) (seed : ℕ) (found : Found) (lists : Lists)
+    (image_before image_open image_after : Option Image) (before : Store) (known : Known)
     (crash : ℕ → Left State → Type 0) (after : Store)
     (input_before input_after : Input) (out_before out_after : Output) (result : Result (Unit {0}) Outcome)
     → IsSettled (in_short found) before → Closes known crash after → MayStay after after.found
-    → InStore command seed found lists before
+    → image_after ≡ image_open
+    → InStore command seed found lists image_before image_open before
     (opened_as known crash) input_before input_after out_before out_after result
-    → InStore command seed found lists before after input_before input_after out_before out_after result
-within_closed command seed found lists before known crash after input_before input_after out_before out_after result
-    at_rest closes may within = record {
+    → InStore command seed found lists image_before image_after before after
+    input_before input_after out_before out_after result
+within_closed command seed found lists image_before image_open image_after before known crash after
+    input_before input_after out_before out_after result
+    at_rest closes may same within = record {
       decided = within.decided;
       exprs = within.exprs;
       exprs_read = within.exprs_read;
+      sizes = within.sizes;
+      compacted = λ is. rw same (within.compacted is);
       given = within.given;
       read = within.read;
       a = within.a;

@@ -11,7 +11,7 @@ use Rattle.replica_state.specs.Held.{Lists}
 use Rattle.vector_rev.specs.Clock.{Clock}
 use Rattle.vector_rev.specs.Counts.{Uid}
 use Rattle.command_lines.specs.declared.outcome.Outcome.{Outcome}
-use Rattle.command_lines.specs.declared.outcome.Outcome.TheVariants.{Usage}
+use Rattle.command_lines.specs.declared.outcome.Outcome.TheVariants.{Memory, Usage}
 use Rattle.command_lines.specs.declared.outcome.UsageKind.TheVariants.{Words}
 use Rattle.store_commands.specs.Answer.{built, exprs_given, has_exprs, makes_store, reads_input}
 use Rattle.store_commands.specs.Deeds.{does, shows}
@@ -62,11 +62,12 @@ pub record WritesNothing (given : Command) : Type 0 where
   pub resolve_deleted : (id : Text) (revs : List Clock) → given ≡ command.ResolveDeleted id revs → ⊥
   pub index_create : (name : Text) (exprs : List Text) → given ≡ command.IndexCreate name exprs → ⊥
   pub index_delete : (name : Text) → given ≡ command.IndexDelete name → ⊥
+  pub compact : given ≡ command.Compact → ⊥
 
 -- it reads no input and no expressions, and only shows something
 pub only_shows : (seed : ℕ) (given : Command) (l : Lists) → WritesNothing given → makes_store given ≡ false
     → (reads_input given ≡ false) × HaveRead (exprs_given given) (Ok [])
-    × (shows given l ≡ does seed (Ok []) given l null)
+    × (shows given l ≡ does seed (Ok []) (Err Memory) given l null)
 only_shows seed (command.Init name uid limit) l other stays = true_not_false stays
 only_shows seed (command.Create id) l other stays = absurd (other.create id refl)
 only_shows seed (command.Get id deleted) l other stays = (refl, refl, refl)
@@ -84,7 +85,7 @@ only_shows seed (command.Keys name) l other stays = (refl, refl, refl)
 only_shows seed (command.All deleted) l other stays = (refl, refl, refl)
 only_shows seed (command.Changes after) l other stays = (refl, refl, refl)
 only_shows seed command.Info l other stays = (refl, refl, refl)
-only_shows seed command.Compact l other stays = (refl, refl, refl)
+only_shows seed command.Compact l other stays = absurd (other.compact refl)
 only_shows seed (command.Sync with) l other stays = (refl, refl, refl)
 only_shows seed (command.Serve port count) l other stays = (refl, refl, refl)
 only_shows seed (command.ServeDocs port count) l other stays = (refl, refl, refl)

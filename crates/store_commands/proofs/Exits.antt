@@ -18,7 +18,7 @@ use Rattle.store_commands.specs.Found.{Store, in_short, opened_as}
 use Rattle.store_commands.specs.Prints.{PutsPart}
 use Rattle.store_commands.proofs.Moving.{open_now, unmoved}
 
-no_step : {x : Change} (rest : List Change) → ◌≡◌ {A = List Change} [] (x ∷ rest) → ⊥
+pub no_step : {x : Change} (rest : List Change) → ◌≡◌ {A = List Change} [] (x ∷ rest) → ⊥
 no_step rest is = cc
 
 -- one step and a text

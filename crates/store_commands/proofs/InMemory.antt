@@ -1,14 +1,16 @@
--- A store in memory that is made.
-use Rattle.std.proofs.Common.{◌≡◌, ℕ, [], Option, Some, None, false, refl, ap, ◌∙◌, inr, arith}
+-- A store in memory that is made, and one that is compacted.
+use Rattle.std.proofs.Common.{◌≡◌, ℕ, [], Option, Some, None, Ok, false, refl, ap, ◌∙◌, inr, arith}
 use Rattle.std.specs.Prelude.{is_some}
 use Rattle.conflicts.specs.State.{State, Text, state_of}
 use Rattle.replica_core.specs.Memory.{known_in_memory}
 use Rattle.replica_core.specs.Replica.{state_in, Stands as LeftStands}
 use Rattle.vector_rev.specs.Counts.{Uid}
-use Rattle.store_commands.specs.Memory.{known_open, store_known}
+use Rattle.store_commands.specs.Compacting.{Compacts}
+use Rattle.store_commands.specs.Memory.{always, known_open, left_open, store_known}
 use Rattle.store_commands.specs.Store.{MadeAnew}
 use Rattle.store_commands.specs.declared.memory.MemOpened.{MemOpened}
 use Rattle.store_commands.specs.declared.memory.MemStore.{MemStore}
+use Rattle.store_commands.specs.declared.store.Sizes.{Sizes}
 
 pub none_there : {A : Type 0} (o : Option A) → is_some o ≡ false → o ≡ None
 none_there None is = refl
@@ -34,3 +36,18 @@ made_in_memory s new r name uid limit none made state is_limit =
       };
       settled = λ o crashed. rw made at crashed ∙ same;
     }
+
+-- it has no image, and a compaction leaves its state
+pub kept_in_memory : (r : MemOpened) (sizes : Sizes)
+    → Compacts known_open (λ (m : MemOpened). always) left_open (λ (m : MemOpened). None) r r (Ok sizes)
+kept_in_memory r sizes = record {
+  state = refl;
+  limit = refl;
+  later = omega arith;
+  any_moment = record {
+    later = omega arith;
+    same = λ k o before crashed. crashed;
+    added = λ k o from to crashed. crashed;
+  };
+  ends = (tt, tt);
+}

@@ -5,6 +5,7 @@ pub mod Closing
 pub mod Opening
 pub mod Making
 pub mod Unbuilt
+pub mod Compacted
 pub mod Taken
 pub mod Defaults
 pub mod ReadExprs

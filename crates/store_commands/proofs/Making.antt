@@ -19,8 +19,9 @@ use Rattle.store_commands.specs.Answer.{Occasion, answer, built, due_of, is_limi
 use Rattle.store_commands.specs.Answer.{opens_for, text_of}
 use Rattle.store_commands.specs.Carries.{Answers, Carried, TellsMade}
 use Rattle.store_commands.specs.Changes.{Passes}
+use Rattle.store_commands.specs.Compacting.{Image}
 use Rattle.store_commands.specs.Deeds.{Deed, and_then, init_deed, limit_given, uid_made}
-use Rattle.store_commands.specs.Found.{Blank, Damaged as DamagedStore, Former, Found, HasLists, IsTold, Stands, Store}
+use Rattle.store_commands.specs.Found.{Blank, Damaged as DamagedStore, Found, HasLists, IsTold, Stands, Store}
 use Rattle.store_commands.specs.Leaves.{Does, IsRead}
 use Rattle.store_commands.specs.Run.{HasAnswer, IsAnswered, IsUnread, LeavesUntouched}
 use Rattle.store_commands.specs.Store.{Keeps, Makes, is_blank, making}
@@ -60,13 +61,15 @@ opens_by : (b : Result (Unit {0}) Outcome) (found : Found) (lists : Lists) → b
     → and_then b (λ done. opens true found lists) ≡ opens true found lists
 opens_by b found lists is = rw is refl
 
-module _ (name : Text) (uid : Option Uid) (limit : Option ℕ) (seed : ℕ) (before after : Store) (input : Input)
+module _ (name : Text) (uid : Option Uid) (limit : Option ℕ) (seed : ℕ) (before after : Store)
+    (image_before image_after : Option Image) (input : Input)
     (out_before out_after : Output) (result : Result (Unit {0}) Outcome)
     (is_built : built (command.Init name uid limit) ≡ Ok tt) where
   abbrev of_init : Found → Occasion
   of_init found = record {
     command = command.Init name uid limit;
     exprs = Ok [];
+    sizes = Err Memory;
     seed = seed;
     found = found;
     lists = no_lists [] [];
@@ -78,8 +81,8 @@ module _ (name : Text) (uid : Option Uid) (limit : Option ℕ) (seed : ℕ) (bef
 
   -- a run of init
   abbrev Ran : Type 0
-  Ran = Carried (command.Init name uid limit) seed (record { store = before; input = input })
-      (record { store = after; input = input }) out_before out_after result
+  Ran = Carried (command.Init name uid limit) seed (record { store = before; image = image_before; input = input })
+      (record { store = after; image = image_after; input = input }) out_before out_after result
 
   opens_so : (found : Found) → opens_for (command.Init name uid limit) found (no_lists [] [])
       ≡ opens true found (no_lists [] [])
@@ -114,6 +117,7 @@ module _ (name : Text) (uid : Option Uid) (limit : Option ℕ) (seed : ℕ) (bef
       is_command = refl;
       is_seed = refl;
       exprs_read = refl;
+      compacted = λ is. tt;
       told = told;
       opened = opened;
       read = [];
@@ -127,8 +131,9 @@ module _ (name : Text) (uid : Option Uid) (limit : Option ℕ) (seed : ℕ) (bef
     answers = prints;
   }
     where
-      untouched : LeavesUntouched (command.Init name uid limit) (record { store = before; input = input })
-          (record { store = after; input = input })
+      untouched : LeavesUntouched (command.Init name uid limit)
+          (record { store = before; image = image_before; input = input })
+          (record { store = after; image = image_after; input = input })
       untouched not = true_not_false (rw is_built at not)
 
   -- there is a store
@@ -145,11 +150,6 @@ module _ (name : Text) (uid : Option Uid) (limit : Option ℕ) (seed : ℕ) (bef
         leaves =
             (refl, stays (DamagedStore disk place) before after keeps);
       }) tells
-  exists (Former state) told keeps there tells =
-      ran (Former state) (Refused DatabaseExists) (Err (Refused DatabaseExists)) false told
-      (inl (answered (Former state) (λ goes_on. tt)))
-      (record { stood = 0; reached = 0; passes = keeps; leaves = (refl, stays (Former state) before after keeps) })
-      tells
   exists (Stands x) told keeps there tells =
       ran (Stands x) (Refused DatabaseExists) (Err (Refused DatabaseExists)) false told
       (inl (answered (Stands x) (λ goes_on. false_not_true goes_on)))
@@ -172,8 +172,6 @@ module _ (name : Text) (uid : Option Uid) (limit : Option ℕ) (seed : ℕ) (bef
       (record { stood = stood; reached = reached; passes = passes; leaves = rose }) tells
   breaks (DamagedStore disk place) stood reached told passes rose tells =
       broke_off (DamagedStore disk place) stood reached told passes rose tells
-  breaks (Former state) stood reached told passes rose tells =
-      broke_off (Former state) stood reached told passes rose tells
   breaks (Stands x) stood reached told passes rose tells = broke_off (Stands x) stood reached told passes rose tells
 
   pub made_so : (made : Result (Unit {0}) MakeFault)

@@ -1,7 +1,8 @@
 -- A command from the opening of its store on.
 use Rattle.std.proofs.Common.{◌≡◌, ℕ, List, [], Result, Ok, Err, true, false, refl, sym, ap, ◌∙◌, inl, inr}
-use Rattle.std.specs.Prelude.{Bool, is_ok}
+use Rattle.std.specs.Prelude.{Bool, Option, is_ok}
 use Rattle.cli_words.specs.declared.command.Command.{Command}
+use Rattle.cli_words.specs.declared.command.Command.TheVariants.{Compact}
 use Rattle.conflicts.specs.State.{State}
 use Rattle.link.proofs.Taking.{took_nothing}
 use Rattle.link.specs.Streams.{Input, IsFront, Output}
@@ -12,14 +13,15 @@ use Rattle.command_lines.specs.declared.outcome.Outcome.TheVariants.{Done, Usage
 use Rattle.command_lines.specs.declared.outcome.Outcome.TheVariants.{StoreFull, DiskFault, SourceFault, SinkFault}
 use Rattle.command_lines.specs.declared.outcome.Outcome.TheVariants.{LinkFault, AcceptFault, Peer, BrokenReply}
 use Rattle.command_lines.specs.declared.outcome.Outcome.TheVariants.{LogCheck, Memory}
-use Rattle.command_lines.specs.declared.outcome.Refusal.TheVariants.{NoDatabase, NotBuilt}
+use Rattle.command_lines.specs.declared.outcome.Refusal.TheVariants.{NoDatabase}
 use Rattle.store_commands.specs.Answer.{Occasion, built, changes_of, due, due_of, makes_store, most_input, opens}
 use Rattle.store_commands.specs.Answer.{opens_for, reads_input, takes}
 use Rattle.store_commands.specs.Carries.{Answers, Carried, InStore, found_open}
 use Rattle.store_commands.specs.Changes.{Passes}
+use Rattle.store_commands.specs.Compacting.{ComesTo, Image}
 use Rattle.store_commands.specs.Deeds.{Deed, and_then, does}
 use Rattle.store_commands.specs.Faults.{open_end}
-use Rattle.store_commands.specs.Found.{Blank, Damaged as DamagedStore, Former, Found, HasLists, IsTold, Store}
+use Rattle.store_commands.specs.Found.{Blank, Damaged as DamagedStore, Found, HasLists, IsTold, Store}
 use Rattle.store_commands.specs.Found.{opened_as}
 use Rattle.store_commands.specs.Leaves.{Does, IsRead, Leaves}
 use Rattle.store_commands.specs.Run.{BreaksOff, IsAnswered, IsUnread, LeavesUntouched}
@@ -71,24 +73,25 @@ is_so : (b : Result (Unit {0}) Outcome) → ◌≡◌ {A = Result (Unit {0}) Out
 is_so (Ok done) is not = cc
 is_so (Err outcome) is not = cc
 
-module _ (command : Command) (seed : ℕ) (before after : Store) (input_before input_after : Input)
-    (out_before out_after : Output)
+module _ (command : Command) (seed : ℕ) (before after : Store) (image_before image_after : Option Image)
+    (input_before input_after : Input) (out_before out_after : Output)
     (is_built : built command ≡ Ok tt) (no_making : makes_store command ≡ false) where
-  untouched : LeavesUntouched command (record { store = before; input = input_before })
-      (record { store = after; input = input_after })
+  untouched : LeavesUntouched command (record { store = before; image = image_before; input = input_before })
+      (record { store = after; image = image_after; input = input_after })
   untouched not = absurd (is_so (built command) is_built not)
 
-  pub opened_then : (known : Known) (crash : ℕ → Left State → Type 0) (is_open : Type 0)
+  pub opened_then : (known : Known) (crash : ℕ → Left State → Type 0) (is_open : Type 0) (image : Option Image)
       (result : Result (Unit {0}) Outcome)
-      → Opens before known crash is_open
-      → InStore command seed (found_open known) (lists_of known.state)
+      → Opens before known crash is_open → image ≡ image_before
+      → InStore command seed (found_open known) (lists_of known.state) image image_after
       (opened_as known crash) after input_before input_after out_before out_after result
-      → Carried command seed (record { store = before; input = input_before })
-      (record { store = after; input = input_after }) out_before out_after result
-  opened_then known crash is_open result opened within =
+      → Carried command seed (record { store = before; image = image_before; input = input_before })
+      (record { store = after; image = image_after; input = input_after }) out_before out_after result
+  opened_then known crash is_open image result opened same within =
       let o : Occasion = record {
         command = command;
         exprs = within.exprs;
+        sizes = within.sizes;
         seed = seed;
         found = found_open known;
         lists = lists_of known.state;
@@ -104,6 +107,7 @@ module _ (command : Command) (seed : ℕ) (before after : Store) (input_before i
           is_command = refl;
           is_seed = refl;
           exprs_read = within.exprs_read;
+          compacted = λ is. rw same at (within.compacted is);
           told = opened.told;
           opened = true;
           answers = inl (record {
@@ -111,7 +115,7 @@ module _ (command : Command) (seed : ℕ) (before after : Store) (input_before i
             is = within.is ∙ sym (ap
                 (λ (l : Result Lists Outcome). and_then l
                 (λ ls. and_then (takes (reads_input command) within.given)
-                (λ content. does seed within.exprs command ls content))) lists);
+                (λ content. does seed within.exprs within.sizes command ls content))) lists);
             there = rw lists refl;
           });
           does = looked_then (found_open known) within.a _ (IsUnread o input_before input_after) before
@@ -132,12 +136,14 @@ nothing_read : (reads : Bool) (given : List ℕ) (opened : Result Lists Outcome)
 nothing_read reads given opened = (due_of opened reads given, refl)
 
 -- a command that finds no store that it wants, or of which nothing is known but that it was looked at
-module _ (command : Command) (seed : ℕ) (before after : Store) (input : Input) (out : Output)
+module _ (command : Command) (seed : ℕ) (before after : Store) (image_before image_after : Option Image)
+    (input : Input) (out : Output)
     (is_built : built command ≡ Ok tt) (no_making : makes_store command ≡ false) where
   abbrev occasion : Found → Occasion
   occasion found = record {
     command = command;
     exprs = Err Memory;
+    sizes = Err Memory;
     seed = seed;
     found = found;
     lists = no_lists [] [];
@@ -149,8 +155,8 @@ module _ (command : Command) (seed : ℕ) (before after : Store) (input : Input)
       → IsAnswered (occasion found) false [] (Err decided) decided → IsRead (due (occasion found)) [] decided
       → Leaves found false (Err decided) (IsUnread (occasion found) input input) 0 0 before after decided
       → Answers [] out out decided (Err decided)
-      → Carried command seed (record { store = before; input = input })
-      (record { store = after; input = input }) out out (Err decided)
+      → Carried command seed (record { store = before; image = image_before; input = input })
+      (record { store = after; image = image_after; input = input }) out out (Err decided)
   closed found decided told keeps answered read leaves prints = record {
     decided = decided;
     a = Err decided;
@@ -159,6 +165,7 @@ module _ (command : Command) (seed : ℕ) (before after : Store) (input : Input)
       is_command = refl;
       is_seed = refl;
       exprs_read = tt;
+      compacted = λ is. tt;
       told = told;
       opened = false;
       answers = answered;
@@ -167,7 +174,7 @@ module _ (command : Command) (seed : ℕ) (before after : Store) (input : Input)
       takes = (took_nothing most_input input).1;
       is_read = read;
     };
-    untouched = untouched command seed before after input input out out is_built no_making;
+    untouched = untouched command seed before after image_before image_after input input out out is_built no_making;
     answers = prints;
   }
 
@@ -177,8 +184,8 @@ module _ (command : Command) (seed : ℕ) (before after : Store) (input : Input)
       → Finds found before after → IsRead [] [] decided
       → Leaves found false (Err decided) (IsUnread (occasion found) input input) 0 0 before after decided
       → Answers [] out out decided (Err decided)
-      → Carried command seed (record { store = before; input = input })
-      (record { store = after; input = input }) out out (Err decided)
+      → Carried command seed (record { store = before; image = image_before; input = input })
+      (record { store = after; image = image_after; input = input }) out out (Err decided)
   unwanted found decided none lists finds read leaves prints =
       closed found decided finds.told finds.keeps
       (inl (record { lists = λ goes_on. lists; is = rw none refl; there = rw none refl })) (rw none read) leaves prints
@@ -188,8 +195,8 @@ module _ (command : Command) (seed : ℕ) (before after : Store) (input : Input)
       → IsRead (due (occasion finds.found)) [] decided
       → Leaves finds.found false (Err decided) (IsUnread (occasion finds.found) input input) 0 0 before after decided
       → Answers [] out out decided (Err decided)
-      → Carried command seed (record { store = before; input = input })
-      (record { store = after; input = input }) out out (Err decided)
+      → Carried command seed (record { store = before; image = image_before; input = input })
+      (record { store = after; image = image_after; input = input }) out out (Err decided)
   ended decided finds broke read leaves prints =
       closed finds.found decided finds.told finds.keeps
       (inr (record { broke = broke; is = refl; closed = refl; unread = refl })) read leaves prints
@@ -199,17 +206,14 @@ module _ (command : Command) (seed : ℕ) (before after : Store) (input : Input)
       (opens_for command found (no_lists [] []))
 
   pub unopened : (given : OpenFault) → FailsToOpen before after given
-      → Carried command seed (record { store = before; input = input })
-      (record { store = after; input = input }) out out (Err (open_end given))
+      → Carried command seed (record { store = before; image = image_before; input = input })
+      (record { store = after; image = image_after; input = input }) out out (Err (open_end given))
   unopened fault.Blank finds =
       unwanted Blank (Refused NoDatabase) (rw (is_built, no_making) refl) tt finds refl
       (refl, stays Blank before after finds.keeps) (refl, refl)
   unopened (fault.Damaged disk place) finds =
       unwanted (DamagedStore disk place) (Damaged disk place) (rw (is_built, no_making) refl) tt finds refl
       (refl, stays (DamagedStore disk place) before after finds.keeps) (refl, refl)
-  unopened fault.Former finds =
-      unwanted (Former finds.0) (Refused NotBuilt) (rw (is_built, no_making) refl) tt finds.1 refl
-      (refl, stays (Former finds.0) before after finds.1.keeps) (refl, refl)
   unopened fault.Disk finds = ended DiskFault finds.0 tt (unread_of finds.0.found) finds.1 (refl, refl)
   unopened fault.Memory finds = ended Memory finds tt (unread_of finds.found)
       (refl, stays finds.found before after finds.keeps) (refl, refl)

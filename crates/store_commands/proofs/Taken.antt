@@ -1,10 +1,11 @@
 -- A command with its input.
 use Rattle.std.proofs.Common.{◌≡◌, ◌≢◌, ℕ, List, [], Some, None, Result, Ok, Err, true, false, refl, sym, ap}
 use Rattle.std.proofs.Common.{append-nil}
-use Rattle.std.specs.Prelude.{Bool}
+use Rattle.std.specs.Prelude.{Bool, Option}
 use Rattle.std.specs.Result.{IsErrOf}
 use Rattle.u1_base.specs.Causes.{Rose}
 use Rattle.cli_words.specs.declared.command.Command.{Command}
+use Rattle.cli_words.specs.declared.command.Command.TheVariants.{Compact}
 use Rattle.conflicts.specs.State.{State, Text}
 use Rattle.content.specs.Faults.{fault_of}
 use Rattle.content.specs.Reading.{content_in}
@@ -24,11 +25,13 @@ use Rattle.command_lines.specs.declared.outcome.Outcome.TheVariants.{StoreFull, 
 use Rattle.command_lines.specs.declared.outcome.Outcome.TheVariants.{LinkFault, AcceptFault, Peer, BrokenReply}
 use Rattle.command_lines.specs.declared.outcome.Outcome.TheVariants.{LogCheck, Memory}
 use Rattle.store_commands.specs.Answer.{changes_of, exprs_given, most_input, reads_input, takes}
-use Rattle.store_commands.specs.Carries.{Carries, InStore, TakesFor, found_open}
-use Rattle.store_commands.specs.Deeds.{Deed, and_then, does}
+use Rattle.store_commands.specs.Carries.{Carries, CarriesCompacting, InStore, TakesFor, found_open}
+use Rattle.store_commands.specs.Compacting.{Image}
+use Rattle.store_commands.specs.Deeds.{Deed, and_then, compacts_as, does}
 use Rattle.store_commands.specs.Expressions.{HaveRead}
 use Rattle.store_commands.specs.Found.{Found, Store, opened_as}
 use Rattle.store_commands.specs.Leaves.{Does, IsRead, Leaves}
+use Rattle.store_commands.specs.declared.store.Sizes.{Sizes}
 use Rattle.store_commands.proofs.Exits.{at_rest}
 use Rattle.store_commands.proofs.Moving.{open_now, unmoved}
 
@@ -121,18 +124,25 @@ module _ (found : Found) (opened : Bool) (a : Result Deed Outcome) (other : Type
 module _ {R : Type 0} (known : R → Known) (is_open : R → Type 0) (crash : R → ℕ → Left State → Type 0)
     (settled : (r : R) (o : Left State) → is_open r → crash r (known r).moment o → o ≡ LeftStands (state_in (known r)))
     (command : Command) (seed : ℕ) (exprs : Result (List Text) Outcome)
-    (exprs_read : HaveRead (exprs_given command) exprs) (lists : Lists) where
+    (exprs_read : HaveRead (exprs_given command) exprs) (other : command ≢ Compact) (lists : Lists)
+    (image_before image_after : Option Image) where
+  -- it is not compact
+  abbrev sizes : Result Sizes Outcome
+  sizes = Err Memory
+
   -- a command that reads no input
   pub without_input : (a : Result Deed Outcome) (old new : R) (given : Input) (out_before out_after : Output)
       (result : Result (Unit {0}) Outcome)
-      → reads_input command ≡ false → a ≡ does seed exprs command lists null
+      → reads_input command ≡ false → a ≡ does seed exprs sizes command lists null
       → Carries known crash a old new out_before out_after result
-      → InStore command seed (found_open (known old)) lists (opened_as (known old) (crash old))
+      → InStore command seed (found_open (known old)) lists image_before image_after (opened_as (known old) (crash old))
       (opened_as (known new) (crash new)) given given out_before out_after result
   without_input a old new given out_before out_after result reads is carries = record {
     decided = carries.decided;
     exprs = exprs;
     exprs_read = exprs_read;
+    sizes = sizes;
+    compacted = λ is. absurd (other is);
     given = (took_nothing most_input given).0;
     read = [];
     a = a;
@@ -147,14 +157,16 @@ module _ {R : Type 0} (known : R → Known) (is_open : R → Type 0) (crash : R 
   -- a command whose content was read
   pub with_input : (tree : Tree) (a : Result Deed Outcome) (old new : R) (before after : Input)
       (out_before out_after : Output) (result : Result (Unit {0}) Outcome)
-      → reads_input command ≡ true → TakesFor before after (Ok tree) → a ≡ does seed exprs command lists tree
+      → reads_input command ≡ true → TakesFor before after (Ok tree) → a ≡ does seed exprs sizes command lists tree
       → Carries known crash a old new out_before out_after result
-      → InStore command seed (found_open (known old)) lists (opened_as (known old) (crash old))
+      → InStore command seed (found_open (known old)) lists image_before image_after (opened_as (known old) (crash old))
       (opened_as (known new) (crash new)) before after out_before out_after result
   with_input tree a old new before after out_before out_after result reads taken is carries = record {
     decided = carries.decided;
     exprs = exprs;
     exprs_read = exprs_read;
+    sizes = sizes;
+    compacted = λ is. absurd (other is);
     given = taken.0;
     read = taken.0;
     a = a;
@@ -169,12 +181,14 @@ module _ {R : Type 0} (known : R → Known) (is_open : R → Type 0) (crash : R 
   -- the input gave no content
   module _ (r : R) (before after : Input) (out : Output) (ready : is_open r) (reads : reads_input command ≡ true) where
     pub untaken : (outcome : Outcome) → TakesFor before after (Err outcome)
-        → InStore command seed (found_open (known r)) lists (opened_as (known r) (crash r))
+        → InStore command seed (found_open (known r)) lists image_before image_after (opened_as (known r) (crash r))
         (opened_as (known r) (crash r)) before after out out (Err outcome)
     untaken (BadContent fault) taken = record {
       decided = BadContent fault;
       exprs = exprs;
       exprs_read = exprs_read;
+      sizes = sizes;
+      compacted = λ is. absurd (other is);
       given = taken.0;
       read = taken.0;
       a = Err (BadContent fault);
@@ -191,11 +205,13 @@ module _ {R : Type 0} (known : R → Known) (is_open : R → Type 0) (crash : R 
     }
     untaken SourceFault taken =
         let a : Result Deed Outcome = and_then (takes (reads_input command) taken.0)
-        (λ content. does seed exprs command lists content) in
+        (λ content. does seed exprs sizes command lists content) in
         record {
           decided = SourceFault;
           exprs = exprs;
           exprs_read = exprs_read;
+          sizes = sizes;
+          compacted = λ is. absurd (other is);
           given = taken.0;
           read = taken.1;
           a = a;
@@ -213,11 +229,13 @@ module _ {R : Type 0} (known : R → Known) (is_open : R → Type 0) (crash : R 
         }
     untaken Memory taken =
         let a : Result Deed Outcome = and_then (takes (reads_input command) taken.0)
-        (λ content. does seed exprs command lists content) in
+        (λ content. does seed exprs sizes command lists content) in
         record {
           decided = Memory;
           exprs = exprs;
           exprs_read = exprs_read;
+          sizes = sizes;
+          compacted = λ is. absurd (other is);
           given = taken.0;
           read = taken.1;
           a = a;
@@ -245,3 +263,28 @@ module _ {R : Type 0} (known : R → Known) (is_open : R → Type 0) (crash : R 
     untaken (Peer status) taken = absurd taken
     untaken (BrokenReply line) taken = absurd taken
     untaken (LogCheck mine theirs) taken = absurd taken
+
+-- ---- compact reads no input
+
+module _ {O : Type 0} (known : O → Known) (crash : O → ℕ → Left State → Type 0) (image : O → Option Image)
+    (seed : ℕ) (lists : Lists) where
+  pub compacting : (old new : O) (given : Input) (out_before out_after : Output) (result : Result (Unit {0}) Outcome)
+      → CarriesCompacting known crash image old new out_before out_after result
+      → InStore Compact seed (found_open (known old)) lists (image old) (image new)
+      (opened_as (known old) (crash old)) (opened_as (known new) (crash new)) given given out_before out_after result
+  compacting old new given out_before out_after result done = record {
+    decided = done.carries.decided;
+    exprs = Ok [];
+    exprs_read = refl;
+    sizes = done.sizes;
+    compacted = λ is. done.comes;
+    given = (took_nothing most_input given).0;
+    read = [];
+    a = compacts_as done.sizes;
+    is = refl;
+    store = reads_free (found_open (known old)) true (compacts_as done.sizes) _ (opened_as (known old) (crash old))
+        (opened_as (known new) (crash new)) done.carries.decided done.carries.does;
+    input = (took_nothing most_input given).1;
+    is_read = all_read [] done.carries.decided;
+    answers = done.carries.answers;
+  }

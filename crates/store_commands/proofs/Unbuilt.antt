@@ -13,8 +13,9 @@ use Rattle.command_lines.specs.declared.outcome.UsageKind.TheVariants.{Words}
 use Rattle.store_commands.specs.Answer.{Occasion, built, has_exprs, is_limit, most_input, opens_for}
 use Rattle.store_commands.specs.Carries.{Answers, Carried}
 use Rattle.store_commands.specs.Changes.{HasLimit, IsNow, IsSettled, limit_of}
+use Rattle.store_commands.specs.Compacting.{Image}
 use Rattle.store_commands.specs.Deeds.{limit_given}
-use Rattle.store_commands.specs.Found.{Blank, Damaged as DamagedStore, Former, Found, IsTold, Stands, Store, in_short}
+use Rattle.store_commands.specs.Found.{Blank, Damaged as DamagedStore, Found, IsTold, Stands, Store, in_short}
 use Rattle.store_commands.specs.Leaves.{IsRead, Leaves}
 use Rattle.store_commands.specs.Run.{IsUnread, LeavesUntouched}
 use Rattle.store_commands.specs.Store.{FindsSome}
@@ -36,7 +37,6 @@ told_so (Some found) = refl
 own_limit : (found : Found) → HasLimit (limit_of found []) found
 own_limit Blank = tt
 own_limit (DamagedStore disk place) = tt
-own_limit (Former state) = tt
 own_limit (Stands x) = refl
 
 now_so : (told : Option Found) → IsNow (in_short (found_or told)) (limit_of (found_or told) []) told
@@ -89,7 +89,7 @@ built_ends (command.Keys name) outcome is = is_built outcome is
 built_ends (command.All deleted) outcome is = is_built outcome is
 built_ends (command.Changes after) outcome is = is_built outcome is
 built_ends command.Info outcome is = is_built outcome is
-built_ends command.Compact outcome is = not_yet outcome is
+built_ends command.Compact outcome is = is_built outcome is
 built_ends (command.Sync with) outcome is = not_yet outcome is
 built_ends (command.Serve port count) outcome is = not_yet outcome is
 built_ends (command.ServeDocs port count) outcome is = not_yet outcome is
@@ -101,19 +101,21 @@ built_ends (command.ViewDelete name) outcome is = no_command outcome is
 
 -- ---- the run
 
-module _ (given : Command) (seed : ℕ) (store : Store) (input : Input) (out : Output) where
+module _ (given : Command) (seed : ℕ) (store : Store) (image : Option Image) (input : Input) (out : Output) where
   abbrev met : Occasion
   met = record {
     command = given;
     exprs = Err Memory;
+    sizes = Err Memory;
     seed = seed;
     found = found_or store.found;
     lists = no_lists [] [];
     given = (took_nothing most_input input).0;
   }
 
-  same : LeavesUntouched given (record { store = store; input = input }) (record { store = store; input = input })
-  same not = (record { found = refl; crash = λ k o crashed. crashed; moment = refl; faults = refl }, refl)
+  same : LeavesUntouched given (record { store = store; image = image; input = input })
+      (record { store = store; image = image; input = input })
+  same not = (record { found = refl; crash = λ k o crashed. crashed; moment = refl; faults = refl }, refl, refl)
 
   at_rest : (false ≡ true) ⊎ IsSettled (in_short (found_or store.found)) store
       → IsSettled (in_short (found_or store.found)) store
@@ -122,8 +124,8 @@ module _ (given : Command) (seed : ℕ) (store : Store) (input : Input) (out : O
   not_built : (outcome : Outcome) → built given ≡ Err outcome → IsRead [] [] outcome
       → Leaves (found_or store.found) false (Err outcome) (IsUnread met input input) 0 0 store store outcome
       → Answers [] out out outcome (Err outcome)
-      → Carried given seed (record { store = store; input = input }) (record { store = store; input = input }) out out
-      (Err outcome)
+      → Carried given seed (record { store = store; image = image; input = input })
+      (record { store = store; image = image; input = input }) out out (Err outcome)
   unfolding left_alone
   not_built outcome is read leaves prints =
       let none : opens_for given (found_or store.found) (no_lists [] []) ≡ Err outcome = rw is refl in
@@ -135,6 +137,7 @@ module _ (given : Command) (seed : ℕ) (store : Store) (input : Input) (out : O
           is_command = refl;
           is_seed = refl;
           exprs_read = tt;
+          compacted = λ is. tt;
           told = told_so store.found;
           opened = false;
           read = [];
@@ -153,8 +156,8 @@ module _ (given : Command) (seed : ℕ) (store : Store) (input : Input) (out : O
       }
 
   pub unbuilt : (outcome : Outcome) → built given ≡ Err outcome
-      → Carried given seed (record { store = store; input = input }) (record { store = store; input = input }) out out
-      (Err outcome)
+      → Carried given seed (record { store = store; image = image; input = input })
+      (record { store = store; image = image; input = input }) out out (Err outcome)
   unbuilt outcome is =
       ⊎_elim
       (λ refused. rw refused (not_built (Refused NotBuilt) (rw refused at is) refl (refl, at_rest) (refl, refl)))

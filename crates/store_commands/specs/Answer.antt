@@ -21,13 +21,15 @@ use Rattle.command_lines.specs.declared.outcome.Refusal.TheVariants as refusal
 use Rattle.command_lines.specs.declared.outcome.UsageKind.TheVariants as usage
 use Rattle.store_commands.specs.Changes.{Change}
 use Rattle.store_commands.specs.Deeds.{Deed, and_then, does, limit_given}
-use Rattle.store_commands.specs.Found.{Found, Blank, Damaged, Former, Stands}
+use Rattle.store_commands.specs.declared.store.Sizes.{Sizes}
+use Rattle.store_commands.specs.Found.{Found, Blank, Damaged, Stands}
 
--- What a run meets: its command, what that one's index expressions read as, its seed, what its store is found as, the
--- lists of what stands there, and what its input gives.
+-- What a run meets: its command, what that one's index expressions read as, what compacting comes to, its seed, what
+-- its store is found as, the lists of what stands there, and what its input gives.
 pub record Occasion : Type 0 where
   pub command : Command
   pub exprs : Result (List Text) Outcome
+  pub sizes : Result Sizes Outcome
   pub seed : ℕ
   pub found : Found
   pub lists : Lists
@@ -49,7 +51,6 @@ is_limit limit = nat_le LEAST_IMAGE_LIMIT limit && nat_le limit GREATEST_IMAGE_L
 abbrev pub built : Command → Result (Unit {0}) Outcome
 built (command.Init name uid limit) = if is_limit (limit_given limit) then Ok tt else Err (outcome.Usage usage.Words)
 built (command.IndexCreate name exprs) = if has_exprs exprs then Ok tt else Err (outcome.Usage usage.Words)
-built command.Compact = Err (outcome.Refused refusal.NotBuilt)
 built (command.Sync with) = Err (outcome.Refused refusal.NotBuilt)
 built (command.Serve port count) = Err (outcome.Refused refusal.NotBuilt)
 built (command.ServeDocs port count) = Err (outcome.Refused refusal.NotBuilt)
@@ -75,11 +76,9 @@ makes_store _ = false
 abbrev pub opens : Bool → Found → Lists → Result Lists Outcome
 opens true Blank lists = Ok (no_lists [] [])
 opens true (Damaged disk place) lists = Err (outcome.Refused refusal.DatabaseExists)
-opens true (Former state) lists = Err (outcome.Refused refusal.DatabaseExists)
 opens true (Stands x) lists = Err (outcome.Refused refusal.DatabaseExists)
 opens false Blank lists = Err (outcome.Refused refusal.NoDatabase)
 opens false (Damaged disk place) lists = Err (outcome.Damaged disk place)
-opens false (Former state) lists = Err (outcome.Refused refusal.NotBuilt)
 opens false (Stands x) lists = Ok lists
 
 abbrev pub opens_for : Command → Found → Lists → Result Lists Outcome
@@ -112,7 +111,8 @@ takes false given = Ok null
 abbrev pub answer : Occasion → Result Deed Outcome
 answer o =
     and_then (opens_for o.command o.found o.lists)
-    (λ lists. and_then (takes (reads_input o.command) o.given) (λ content. does o.seed o.exprs o.command lists content))
+    (λ lists. and_then (takes (reads_input o.command) o.given)
+    (λ content. does o.seed o.exprs o.sizes o.command lists content))
 
 -- the bytes of the input that are read: none where the store is not what the command wants
 abbrev pub due_of : Result Lists Outcome → Bool → List ℕ → List ℕ

@@ -3,7 +3,7 @@ use Rattle.std.specs.Prelude.{◌≡◌, ◌⊎◌, ℕ, ◌<◌, ◌≤◌, Lis
 use Rattle.conflicts.specs.State.{State, Step, Text, after, state_of}
 use Rattle.vector_rev.specs.Counts.{Uid}
 use Rattle.replica_core.specs.Replica.{Found as Left, Blank as LeftBlank, Damaged as LeftDamaged, Stands as LeftStands}
-use Rattle.store_commands.specs.Found.{Found, Blank, Damaged, Former, Stands, Store, in_short}
+use Rattle.store_commands.specs.Found.{Found, Blank, Damaged, Stands, Store, in_short}
 
 -- one change: a store is made, with its name, its uid and its limit; or a step is made in it
 pub data Change : Type 0 where
@@ -38,13 +38,11 @@ abbrev pub limit_of : Found → List Change → ℕ
 limit_of (Stands x) changes = x.limit
 limit_of Blank changes = limit_made changes
 limit_of (Damaged disk place) changes = 0
-limit_of (Former state) changes = 0
 
 -- the store stands so now, with this limit, if it stands
 abbrev pub HasLimit : ℕ → Found → Type 0
 HasLimit limit Blank = Unit {0}
 HasLimit limit (Damaged disk place) = Unit {0}
-HasLimit limit (Former state) = Unit {0}
 HasLimit limit (Stands x) = x.limit ≡ limit
 
 -- what is told is in short this, with this limit

@@ -17,12 +17,13 @@ use Rattle.u1_base.specs.NewId.{new_id_text}
 use Rattle.u1_base.specs.declared.limits.TheConstants.{GREATEST_IMAGE_LIMIT}
 use Rattle.u1_base.specs.declared.made.IdKind.TheVariants.{Replica}
 use Rattle.vector_rev.specs.Counts.{Uid}
-use Rattle.command_lines.specs.Lines.{init_line, lines_text}
+use Rattle.command_lines.specs.Lines.{compacted_line, init_line, lines_text}
 use Rattle.command_lines.specs.Outcomes.{refusal_end}
 use Rattle.command_lines.specs.declared.outcome.Outcome.{Outcome}
 use Rattle.command_lines.specs.declared.outcome.Outcome.TheVariants.{Refused}
 use Rattle.command_lines.specs.declared.outcome.Refusal.TheVariants.{NotBuilt}
 use Rattle.store_commands.specs.Changes.{Change, Made, Stepped}
+use Rattle.store_commands.specs.declared.store.Sizes.{Sizes}
 
 -- the changes of the store, and the text that is printed
 pub record Deed : Type 0 where
@@ -52,6 +53,19 @@ abbrev pub and_then : {A B : Type 0} → Result A Outcome → (A → Result B Ou
 and_then (Ok a) next = next a
 and_then (Err outcome) next = Err outcome
 
+-- ---- compact
+
+-- it makes no step: the state stays
+abbrev pub compact_deed : Sizes → Deed
+compact_deed sizes = record { changes = []; text = compacted_line sizes.before sizes.after }
+
+-- by what compacting comes to
+abbrev pub compacts_as : Result Sizes Outcome → Result Deed Outcome
+compacts_as (Ok sizes) = Ok (compact_deed sizes)
+compacts_as (Err outcome) = Err outcome
+
+-- ---- all of them
+
 -- what the commands that only show give, over the lists of the store
 abbrev pub shows : Command → Lists → Result Deed Outcome
 shows (command.Get id deleted) l = over_replica (get_effect (meaning_of l) id deleted)
@@ -65,17 +79,20 @@ shows (command.Changes generation) l = over_replica (changes_effect (meaning_of 
 shows command.Info l = over_replica (info_effect l)
 shows _ l = Err (Refused NotBuilt)
 
--- DOES: what each command gives, by the seed, what its index expressions read as, the lists of the store, and the
--- content that was read
-abbrev pub does : ℕ → Result (List Text) Outcome → Command → Lists → Tree → Result Deed Outcome
-does seed exprs (command.Init name uid limit) l content = Ok (init_deed name (uid_made seed uid) (limit_given limit))
-does seed exprs (command.Create id) l content = over_replica (create_effect (meaning_of l) seed id content)
-does seed exprs (command.Put id rev) l content = over_replica (put_effect (meaning_of l) seed id rev content)
-does seed exprs (command.Delete id rev) l content = over_replica (delete_effect (meaning_of l) seed id rev)
-does seed exprs (command.Resolve id revs) l content = over_replica (resolve_effect (meaning_of l) seed id revs content)
-does seed exprs (command.ResolveDeleted id revs) l content =
+-- DOES: what each command gives, by the seed, what its index expressions read as, what compacting comes to, the lists
+-- of the store, and the content that was read
+abbrev pub does : ℕ → Result (List Text) Outcome → Result Sizes Outcome → Command → Lists → Tree → Result Deed Outcome
+does seed exprs sizes (command.Init name uid limit) l content =
+    Ok (init_deed name (uid_made seed uid) (limit_given limit))
+does seed exprs sizes (command.Create id) l content = over_replica (create_effect (meaning_of l) seed id content)
+does seed exprs sizes (command.Put id rev) l content = over_replica (put_effect (meaning_of l) seed id rev content)
+does seed exprs sizes (command.Delete id rev) l content = over_replica (delete_effect (meaning_of l) seed id rev)
+does seed exprs sizes (command.Resolve id revs) l content =
+    over_replica (resolve_effect (meaning_of l) seed id revs content)
+does seed exprs sizes (command.ResolveDeleted id revs) l content =
     over_replica (resolve_deleted_effect (meaning_of l) seed id revs)
-does seed exprs (command.IndexCreate name texts) l content =
+does seed exprs sizes (command.IndexCreate name texts) l content =
     and_then exprs (λ canonicals. over_replica (index_create_effect l name canonicals))
-does seed exprs (command.IndexDelete name) l content = over_replica (index_delete_effect l name)
-does seed exprs shown l content = shows shown l
+does seed exprs sizes (command.IndexDelete name) l content = over_replica (index_delete_effect l name)
+does seed exprs sizes command.Compact l content = compacts_as sizes
+does seed exprs sizes shown l content = shows shown l

@@ -12,19 +12,16 @@ pub record Standing : Type 0 where
   pub need : Step → ℕ
   pub limit : ℕ
 
--- what opening finds: no database; a damaged file, and from which byte on; an image of an earlier format, which cannot
--- be changed yet, with its state; or what stands there
+-- what opening finds: no database; a damaged file, and from which byte on; or what stands there
 pub data Found : Type 0 where
   Blank : Found
   Damaged : DiskName → ℕ → Found
-  Former : State → Found
   Stands : Standing → Found
 
 -- the same, as it is told of what a crash leaves: the state alone
 abbrev pub in_short : Found → Left State
 in_short Blank = LeftBlank
 in_short (Damaged disk place) = LeftDamaged
-in_short (Former state) = LeftStands state
 in_short (Stands x) = LeftStands x.state
 
 -- What is known of a store: what opening would find, where its disks tell it; what a crash at each moment leaves; its
@@ -44,7 +41,6 @@ IsTold (Some told) found = told ≡ found
 abbrev pub HasLists : Found → Lists → Type 0
 HasLists Blank lists = Unit {0}
 HasLists (Damaged disk place) lists = Unit {0}
-HasLists (Former state) lists = Unit {0}
 HasLists (Stands x) lists = (held : Held) × (meaning held ≡ x.state) × (lists ≡ lists_of held)
 
 -- ---- an open store

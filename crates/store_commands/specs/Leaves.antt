@@ -11,7 +11,7 @@ use Rattle.command_lines.specs.declared.outcome.Outcome.TheVariants.{LogCheck, M
 use Rattle.store_commands.specs.Answer.{changes_of}
 use Rattle.store_commands.specs.Changes.{Change, IsSettled, Passes, Stepped, after_all}
 use Rattle.store_commands.specs.Deeds.{Deed}
-use Rattle.store_commands.specs.Found.{Found, Blank, Damaged as DamagedStore, Former, Stands, Store, in_short}
+use Rattle.store_commands.specs.Found.{Found, Blank, Damaged as DamagedStore, Stands, Store, in_short}
 
 abbrev pub IsDeed : Result Deed Outcome → Type 0
 IsDeed a = (deed : Deed) × (a ≡ Ok deed)
@@ -20,7 +20,6 @@ IsDeed a = (deed : Deed) × (a ≡ Ok deed)
 abbrev pub IsTooLong : Found → Step → ℕ → ℕ → Type 0
 IsTooLong Blank x need limit = ⊥
 IsTooLong (DamagedStore disk place) x need limit = ⊥
-IsTooLong (Former state) x need limit = ⊥
 IsTooLong (Stands s) x need limit = (need ≡ s.need x) × (limit ≡ s.limit) × (s.limit < s.need x)
 
 abbrev pub Overfills : Found → Result Deed Outcome → ℕ → ℕ → Type 0

@@ -1,7 +1,8 @@
 -- What the top call promises.
-use Rattle.std.specs.Prelude.{◌≡◌, ◌⊎◌, ℕ, Bool, true, false, is_ok, List, [], Result, Ok, Err}
+use Rattle.std.specs.Prelude.{◌≡◌, ◌⊎◌, ℕ, Bool, true, false, is_ok, List, [], Option, Result, Ok, Err}
 use Rattle.u1_base.specs.Causes.{Rose}
 use Rattle.cli_words.specs.declared.command.Command.{Command}
+use Rattle.cli_words.specs.declared.command.Command.TheVariants.{Compact}
 use Rattle.conflicts.specs.State.{State}
 use Rattle.link.specs.Streams.{Input, Output, Takes}
 use Rattle.replica_core.specs.Replica.{Found as Left}
@@ -10,15 +11,17 @@ use Rattle.command_lines.specs.declared.outcome.Outcome.{Outcome}
 use Rattle.command_lines.specs.declared.outcome.Outcome.TheVariants.{DiskFault, Memory}
 use Rattle.store_commands.specs.Answer.{Occasion, answer, built, due, exprs_given, is_opened, most_input, opens_for}
 use Rattle.store_commands.specs.Answer.{reads_input}
+use Rattle.store_commands.specs.Compacting.{ComesTo, Image}
 use Rattle.store_commands.specs.Deeds.{Deed}
 use Rattle.store_commands.specs.Expressions.{HaveRead}
 use Rattle.store_commands.specs.Found.{HasLists, IsTold, Store}
 use Rattle.store_commands.specs.Leaves.{Does, IsRead}
 use Rattle.store_commands.specs.Prints.{Prints, printed}
 
--- the store and the input at a moment
+-- the store, its image, where contracts can see it, and the input at a moment
 pub record Seen : Type 1 where
   pub store : Store
+  pub image : Option Image
   pub input : Input
 
 -- a read failed of an input that was due
@@ -54,13 +57,14 @@ abbrev pub IsAnswered : Occasion → Bool → List ℕ → Result Deed Outcome �
 IsAnswered o opened read a decided = HasAnswer o opened a ⊎ HasNone opened read a decided
 
 -- How a run is decided: the store was found as something and the input gave some bytes, which are those that are told,
--- where they are told; for them this is the answer.
+-- where they are told; what a compaction comes to is told of the image before and after; for these this is the answer.
 pub record Decides (command : Command) (seed : ℕ) (before after : Seen) (a : Result Deed Outcome) (decided : Outcome)
     : Type 0 where
   pub o : Occasion
   pub is_command : o.command ≡ command
   pub is_seed : o.seed ≡ seed
   pub exprs_read : HaveRead (exprs_given command) o.exprs
+  pub compacted : command ≡ Compact → ComesTo o.sizes before.image after.image
   pub told : IsTold before.store.found o.found
   pub opened : Bool
   pub read : List ℕ
@@ -79,7 +83,8 @@ pub record IsSame (before after : Store) : Type 0 where
 -- nothing is touched for a command that is not built
 abbrev pub LeavesUntouched : Command → Seen → Seen → Type 0
 LeavesUntouched command before after =
-    is_ok (built command) ≡ false → IsSame before.store after.store × (after.input ≡ before.input)
+    is_ok (built command) ≡ false
+    → IsSame before.store after.store × (after.image ≡ before.image) × (after.input ≡ before.input)
 
 -- a run: a decision, and what is printed of it
 pub record Runs (command : Command) (seed : ℕ) (before after : Seen) (out_before out_after : Output)

@@ -5,7 +5,7 @@ use Rattle.conflicts.specs.State.{State, Text, state_of}
 use Rattle.vector_rev.specs.Counts.{Uid}
 use Rattle.replica_core.specs.Replica.{Found as Left, Known, Stands as LeftStands}
 use Rattle.store_commands.specs.Changes.{Change, HasLimit, IsSettled, Made, Passes}
-use Rattle.store_commands.specs.Found.{Blank, Damaged, Former, Found, IsTold, Stands, Store, in_short, opened_as}
+use Rattle.store_commands.specs.Found.{Blank, Damaged, Found, IsTold, Stands, Store, in_short, opened_as}
 use Rattle.store_commands.specs.Found.{standing_in}
 use Rattle.store_commands.specs.declared.store.OpenFault.{OpenFault}
 use Rattle.store_commands.specs.declared.store.OpenFault.TheVariants as open_fault
@@ -17,7 +17,8 @@ abbrev pub MayStay : Store → Option Found → Type 0
 MayStay store None = Unit {0}
 MayStay store (Some told) = store.crash store.moment (in_short told)
 
--- the store was looked at: what stands is what stood, and a crash leaves no more than it might
+-- What stands is what stood, and a crash on the way leaves what one might have left before, or just that. The bytes may
+-- be others: opening writes an image of an earlier format anew.
 abbrev pub Keeps : Found → Store → Store → Type 0
 Keeps found before after = Passes found [] 0 0 before after
 
@@ -42,7 +43,6 @@ pub record Finds (found : Found) (before after : Store) : Type 0 where
 abbrev pub FailsToOpen : Store → Store → OpenFault → Type 0
 FailsToOpen before after open_fault.Blank = Finds Blank before after
 FailsToOpen before after (open_fault.Damaged disk place) = Finds (Damaged disk place) before after
-FailsToOpen before after open_fault.Former = (state : State) × Finds (Former state) before after
 FailsToOpen before after open_fault.Disk = FindsSome before after × Rose before.faults after.faults
 FailsToOpen before after open_fault.Memory = FindsSome before after
 
@@ -51,14 +51,12 @@ FailsToOpen before after open_fault.Memory = FindsSome before after
 abbrev pub is_blank : Found → Bool
 is_blank Blank = true
 is_blank (Damaged disk place) = false
-is_blank (Former state) = false
 is_blank (Stands x) = false
 
 -- the changes of making a store: none, where there is one
 abbrev pub making : Text → Uid → ℕ → Found → List Change
 making name uid limit Blank = Made name uid limit ∷ []
 making name uid limit (Damaged disk place) = []
-making name uid limit (Former state) = []
 making name uid limit (Stands x) = []
 
 -- a disk failed while a store was made: there is what was there, or the empty store

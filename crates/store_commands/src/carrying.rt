@@ -6,6 +6,7 @@ ghost use Rattle.store_commands.specs.Deeds.{limit_given};
 ghost use Rattle.store_commands.specs.Carries.{Carried, InStore, found_open};
 ghost use Rattle.store_commands.specs.Found.{opened_as};
 
+use crate::compacting::compact;
 use crate::doing::do_command;
 use crate::init::init;
 use crate::{Ended, Store};
@@ -26,8 +27,8 @@ pub fn carry_out<T: Store, S: Source, K: Sink>(
     out: &mut K,
 ) -> (Ended, T)
     ensures { Carried command.now seed
-        (record { store = T.known store; input = S.known input.old })
-        (record { store = T.known result.1; input = S.known input.new })
+        (record { store = T.known store; image = T.image store; input = S.known input.old })
+        (record { store = T.known result.1; image = T.image result.1; input = S.known input.new })
         (K.known out.old) (K.known out.new) result.0 }
 {
     match check_built(command) {
@@ -42,8 +43,7 @@ fn check_built(command: &Command) -> Ended
     ensures { result ≡ built command.now }
 {
     match command {
-        Command::Compact
-        | Command::Sync { .. }
+        Command::Sync { .. }
         | Command::Serve { .. }
         | Command::ServeDocs { .. }
         | Command::Node { .. }
@@ -92,8 +92,8 @@ fn carry_out_built<T: Store, S: Source, K: Sink>(
 ) -> (Ended, T)
     requires { built command.now ≡ Ok tt }
     ensures { Carried command.now seed
-        (record { store = T.known store; input = S.known input.old })
-        (record { store = T.known result.1; input = S.known input.new })
+        (record { store = T.known store; image = T.image store; input = S.known input.old })
+        (record { store = T.known result.1; image = T.image result.1; input = S.known input.new })
         (K.known out.old) (K.known out.new) result.0 }
 {
     match command {
@@ -114,8 +114,8 @@ fn open_and_do<T: Store, S: Source, K: Sink>(
     requires built { built command.now ≡ Ok tt }
     requires opens { makes_store command.now ≡ false }
     ensures { Carried command.now seed
-        (record { store = T.known store; input = S.known input.old })
-        (record { store = T.known result.1; input = S.known input.new })
+        (record { store = T.known store; image = T.image store; input = S.known input.old })
+        (record { store = T.known result.1; image = T.image result.1; input = S.known input.new })
         (K.known out.old) (K.known out.new) result.0 }
 {
     match store.open(alloc) {
@@ -139,11 +139,38 @@ fn do_in_opened<T: Store, S: Source, K: Sink>(
     ensures { InStore command.now seed
         (found_open (T.Opened.Replica.known opened))
         (lists_of (T.Opened.Replica.known opened).state)
+        (T.image_in opened) (T.image result.1)
         (opened_as (T.Opened.Replica.known opened) (T.Opened.Replica.crash opened))
         (T.known result.1)
         (S.known input.old) (S.known input.new) (K.known out.old) (K.known out.new) result.0 }
 {
     let mut opened = opened;
-    let ended = do_command(alloc, command, seed, &mut opened, input, out);
+    let ended = do_in_open::<T, S, K>(alloc, command, seed, &mut opened, input, out);
     (ended, T::close(opened))
+}
+
+// Does the command in a store that stays open.
+fn do_in_open<T: Store, S: Source, K: Sink>(
+    alloc: Global,
+    command: &Command,
+    seed: u128,
+    opened: &mut T::Opened,
+    input: &mut S,
+    out: &mut K,
+) -> Ended
+    requires built { built command.now ≡ Ok tt }
+    requires opens { makes_store command.now ≡ false }
+    requires open { T.Opened.Replica.is_open opened.old }
+    ensures { InStore command.now seed
+        (found_open (T.Opened.Replica.known opened.old))
+        (lists_of (T.Opened.Replica.known opened.old).state)
+        (T.image_in opened.old) (T.image_in opened.new)
+        (opened_as (T.Opened.Replica.known opened.old) (T.Opened.Replica.crash opened.old))
+        (opened_as (T.Opened.Replica.known opened.new) (T.Opened.Replica.crash opened.new))
+        (S.known input.old) (S.known input.new) (K.known out.old) (K.known out.new) result }
+{
+    match command {
+        Command::Compact => compact::<T, K>(opened, out),
+        _ => do_command(alloc, command, seed, opened, input, out),
+    }
 }

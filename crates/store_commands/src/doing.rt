@@ -1,8 +1,10 @@
 //! A command in a store that is what it wants.
-ghost use Rattle.std.specs.Prelude.{◌≡◌, Ok, false};
+ghost use Rattle.std.specs.Prelude.{◌≡◌, ◌≢◌, Ok, Option, false};
+ghost use Rattle.cli_words.specs.declared.command.Command.TheVariants.{Compact};
 ghost use Rattle.replica_state.specs.Held.{lists_of};
 ghost use Rattle.store_commands.specs.Answer.{built, makes_store};
 ghost use Rattle.store_commands.specs.Carries.{Carries, InStore, TakesFor, found_open};
+ghost use Rattle.store_commands.specs.Compacting.{Image};
 ghost use Rattle.store_commands.specs.Deeds.{shows};
 ghost use Rattle.store_commands.specs.Found.{opened_as};
 
@@ -30,7 +32,7 @@ use replica_core::Replica;
 use std::alloc::Global;
 use u1_base::limits::MOST_CONTENT_BYTES;
 
-/// Does the command over an open replica.
+/// Does the command over an open replica. It is not `compact`, which wants the store.
 pub fn do_command<R: Replica, S: Source, K: Sink>(
     alloc: Global,
     command: &Command,
@@ -41,9 +43,12 @@ pub fn do_command<R: Replica, S: Source, K: Sink>(
 ) -> Ended
     requires built { built command.now ≡ Ok tt }
     requires opens { makes_store command.now ≡ false }
+    requires other { command.now ≢ Compact }
     requires open { R.is_open replica.old }
-    ensures { InStore command.now seed
+    // whatever the image is: nothing is said of it
+    ensures { (before after : Option Image) → InStore command.now seed
         (found_open (R.known replica.old)) (lists_of (R.known replica.old).state)
+        before after
         (opened_as (R.known replica.old) (R.crash replica.old))
         (opened_as (R.known replica.new) (R.crash replica.new))
         (S.known input.old) (S.known input.new) (K.known out.old) (K.known out.new) result }

@@ -29,8 +29,8 @@ pub fn init<T: Store, K: Sink>(
     requires { built (command.Init name.now uid.now limit) ≡ Ok tt }
     // whatever the input is: it is left alone
     ensures { (input : Input) → Carried (command.Init name.now uid.now limit) seed
-        (record { store = T.known store; input = input })
-        (record { store = T.known result.1; input = input })
+        (record { store = T.known store; image = T.image store; input = input })
+        (record { store = T.known result.1; image = T.image result.1; input = input })
         (K.known out.old) (K.known out.new) result.0 }
 {
     match uid_for(alloc, seed, uid) {

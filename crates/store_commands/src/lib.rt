@@ -8,6 +8,7 @@
 mod all;
 mod carrying;
 mod changes;
+mod compacting;
 mod conflicting;
 mod create;
 mod delete;
@@ -37,7 +38,7 @@ mod uncounted;
 
 use command_lines::Outcome;
 pub use memory::{MemOpened, MemStore};
-pub use store::{MakeFault, OpenFault, Store};
+pub use store::{CompactFault, MakeFault, OpenFault, Sizes, Store};
 pub use top::{finish, run_over};
 
 /// How far a command came: Ok where its text was printed, else how the run ends.

@@ -1,12 +1,13 @@
 //! A store in memory.
-use crate::{MakeFault, OpenFault, Store};
+use crate::{CompactFault, MakeFault, OpenFault, Sizes, Store};
 use replica_core::{CommitFault, MemReplica, Replica};
 use replica_state::{State, Step};
 use std::alloc::Global;
 use u1_base::{DbName, ReplicaUid};
 
 /// A store in memory: there is none, or it stands with its limit. No disk fails, no entry is too
-/// long, and a crash leaves what stands.
+/// long, and a crash leaves what stands. It keeps a state and no image, so a compaction leaves it
+/// as it is, and both lengths are 0.
 #[derive(Drop)]
 pub struct MemStore {
     opened: Option<MemOpened>,
@@ -60,11 +61,16 @@ impl Replica for MemOpened {
 }
 
 impl Store for MemStore {
+    ghost use Rattle.std.specs.Prelude.{None};
     ghost use Rattle.store_commands.specs.Memory.{may_stay, store_known};
 
     type Opened = MemOpened;
 
     ghost known = { store_known };
+
+    ghost image = { λ s. None };
+
+    ghost image_in = { λ r. None };
 
     fn open(self, alloc: Global) -> Result<MemOpened, (OpenFault, MemStore)> {
         match self.opened {
@@ -89,6 +95,13 @@ impl Store for MemStore {
         let replica = MemReplica::new(alloc, name, uid);
         let opened = Some(MemOpened { replica, limit });
         (Ok(()), MemStore { opened })
+    }
+
+    fn compact(opened: &mut MemOpened) -> Result<Sizes, CompactFault> {
+        Ok(Sizes {
+            before: 0,
+            after: 0,
+        })
     }
 
     fn close(opened: MemOpened) -> MemStore {

@@ -1,7 +1,8 @@
 //! The trait of stores that are not open.
-ghost use Rattle.std.specs.Prelude.{◌≤◌, IfErr, IfOk};
+ghost use Rattle.std.specs.Prelude.{◌≡◌, ◌≤◌, IfErr, IfOk, Option};
 ghost use Rattle.u1_base.specs.declared.limits.TheConstants.{GREATEST_IMAGE_LIMIT};
 ghost use Rattle.u1_base.specs.declared.limits.TheConstants.{LEAST_IMAGE_LIMIT};
+ghost use Rattle.store_commands.specs.Compacting.{Compacts, Image};
 ghost use Rattle.store_commands.specs.Found.{Store as StoreKnown};
 ghost use Rattle.store_commands.specs.Store.{Closes, FailsToOpen, Makes, MayStay, Opens};
 
@@ -20,8 +21,6 @@ pub enum OpenFault {
     Blank,
     /// A file does not read, from this byte on.
     Damaged { disk: DiskName, place: u64 },
-    /// It has an earlier format, and cannot be changed yet.
-    Former,
     /// A disk failed.
     Disk,
     Memory,
@@ -37,6 +36,25 @@ pub enum MakeFault {
     Memory,
 }
 
+/// The lengths of an image before a compaction and after it, in bytes.
+#[derive(Clone, Copy, Debug, PartialEq, Eq)]
+pub struct Sizes {
+    pub before: u64,
+    pub after: u64,
+}
+
+/// Why an open store was not compacted.
+#[derive(Clone, Copy, Debug, PartialEq, Eq)]
+pub enum CompactFault {
+    /// The image was read anew, and this file does not read, from this byte on. Nothing was
+    /// written.
+    Damaged { disk: DiskName, place: u64 },
+    /// A disk failed. The old image stands or the new one, and the store is not open any more.
+    Disk,
+    /// Nothing was written.
+    Memory,
+}
+
 impl fmt::Display for OpenFault {
     ghost use Rattle.std.specs.Prelude.{Some};
     ghost use Rattle.store_commands.specs.Faults.{open_fault_text};
@@ -49,7 +67,6 @@ impl fmt::Display for OpenFault {
             OpenFault::Damaged { disk: _, place } => {
                 write!(f, "a file of the store is damaged at byte {place}")
             }
-            OpenFault::Former => f.write_str("the store has an earlier format"),
             OpenFault::Disk => f.write_str("a disk failed"),
             OpenFault::Memory => f.write_str("out of memory"),
         }
@@ -75,6 +92,25 @@ impl fmt::Display for MakeFault {
 
 impl Error for MakeFault {}
 
+impl fmt::Display for CompactFault {
+    ghost use Rattle.std.specs.Prelude.{Some};
+    ghost use Rattle.store_commands.specs.Faults.{compact_fault_text};
+
+    ghost output = { λ fault. Some (compact_fault_text fault) };
+
+    fn fmt<W: fmt::Write>(&self, f: &mut fmt::Formatter<W>) -> fmt::Result {
+        match self {
+            CompactFault::Damaged { disk: _, place } => {
+                write!(f, "a file of the store is damaged at byte {place}")
+            }
+            CompactFault::Disk => f.write_str("a disk failed"),
+            CompactFault::Memory => f.write_str("out of memory"),
+        }
+    }
+}
+
+impl Error for CompactFault {}
+
 impl From<OpenFault> for Outcome {
     ghost use Rattle.std.specs.Prelude.{◌≡◌};
     ghost use Rattle.store_commands.specs.Faults.{open_end};
@@ -85,7 +121,6 @@ impl From<OpenFault> for Outcome {
         match fault {
             OpenFault::Blank => Outcome::Refused(Refusal::NoDatabase),
             OpenFault::Damaged { disk, place } => Outcome::Damaged { disk, place },
-            OpenFault::Former => Outcome::Refused(Refusal::NotBuilt),
             OpenFault::Disk => Outcome::DiskFault,
             OpenFault::Memory => Outcome::Memory,
         }
@@ -107,21 +142,42 @@ impl From<MakeFault> for Outcome {
     }
 }
 
+impl From<CompactFault> for Outcome {
+    ghost use Rattle.std.specs.Prelude.{◌≡◌};
+    ghost use Rattle.store_commands.specs.Faults.{compact_end};
+
+    ghost from_gives = { λ fault e. e ≡ compact_end fault };
+
+    fn from(fault: CompactFault) -> Outcome {
+        match fault {
+            CompactFault::Damaged { disk, place } => Outcome::Damaged { disk, place },
+            CompactFault::Disk => Outcome::DiskFault,
+            CompactFault::Memory => Outcome::Memory,
+        }
+    }
+}
+
 /// A store on its disks, before it is opened and after it was closed.
 ///
 /// `known` is what contracts see of it: what opening it would find, where the disks tell it, what a
-/// crash at each moment leaves, and how often the disks failed.
+/// crash at each moment leaves, and how often the disks failed. `image` is its image, and
+/// `image_in` that of an open store, where contracts can see it.
 pub trait Store: Sized {
     /// The store while it is open.
     type Opened: Replica;
 
     ghost known: { Self → StoreKnown };
 
+    ghost image: { Self → Option Image };
+
+    ghost image_in: { Self.Opened → Option Image };
+
     /// Opens the store that is there. At a fault it comes back with it.
     fn open(self, alloc: Global) -> Result<Self::Opened, (OpenFault, Self)>
         ensures ok { IfOk result (λ opened. Opens (known self)
             (Self.Opened.Replica.known opened) (Self.Opened.Replica.crash opened)
             (Self.Opened.Replica.is_open opened)) }
+        ensures image { IfOk result (λ opened. image_in opened ≡ image self) }
         ensures err { IfErr result (λ failed. FailsToOpen (known self) (known failed.1) failed.0) };
 
     /// Makes the empty store of this database and replica, where there is none. Its image may have
@@ -137,10 +193,18 @@ pub trait Store: Sized {
         requires greatest { limit ≤ GREATEST_IMAGE_LIMIT }
         ensures { Makes name.now uid.now limit (known self) (known result.1) result.0 };
 
+    /// Writes the image anew, with what a compaction leaves of its steps. The state stays, at every
+    /// moment on the way too.
+    fn compact(opened: &mut Self::Opened) -> Result<Sizes, CompactFault>
+        requires { Self.Opened.Replica.is_open opened.old }
+        ensures { Compacts Self.Opened.Replica.known Self.Opened.Replica.is_open
+            Self.Opened.Replica.crash image_in opened.old opened.new result };
+
     /// Closes a store.
     fn close(opened: Self::Opened) -> Self
-        ensures { Closes (Self.Opened.Replica.known opened) (Self.Opened.Replica.crash opened)
-            (known result) };
+        ensures known { Closes (Self.Opened.Replica.known opened) (Self.Opened.Replica.crash opened)
+            (known result) }
+        ensures image { image result ≡ image_in opened };
 
     /// What is told is one of what a crash now may leave.
     ghost told: { (store : Self) → MayStay (known store) (known store).found };

@@ -7,7 +7,7 @@ use std::alloc::Global;
 
 // What is not built touches nothing. Then the store counts, and only then the input.
 const LAYERS: &[Row] = &[
-    ("compact", "{}", "refused not-built\n", "{}"),
+    ("compact", "{}", "refused no-database\n", "{}"),
     ("sync http://h:1/db", "{}", "refused not-built\n", "{}"),
     ("serve 1 1", "{}", "refused not-built\n", "{}"),
     ("work 0 1", "{}", "refused not-built\n", "{}"),
@@ -16,7 +16,7 @@ const LAYERS: &[Row] = &[
     ("index-create i a lower(", "", "refused no-database\n", ""),
     ("init db a", "{}", "database db replica a\n", "{}"),
     ("init db b", "{}", "refused database-exists\n", "{}"),
-    ("compact", "", "refused not-built\n", ""),
+    ("compact", "{}", "compacted 0 0\n", "{}"),
     (
         "info",
         "{}",

@@ -23,8 +23,8 @@ pub fn run_over<T: Store, S: Source, K: Sink>(
     out: &mut K,
 ) -> (Outcome, T)
     ensures { RunsWhole command.now seed
-        (record { store = T.known store; input = S.known input.old })
-        (record { store = T.known result.1; input = S.known input.new })
+        (record { store = T.known store; image = T.image store; input = S.known input.old })
+        (record { store = T.known result.1; image = T.image result.1; input = S.known input.new })
         (K.known out.old) (K.known out.new) result.0 }
 {
     let (ended, store) = carry_out(alloc, command, seed, store, input, out);

@@ -1,12 +1,12 @@
 -- The bytes of the heads that are written, and what is read of them.
-use Rattle.std.proofs.Common.{◌≡◌, ℕ, suc, ◌+◌, ◌^◌, ◌<◌, ◌≤◌, Bool, true, false, not, cond, eqb, ltb, ◌&&◌, List, []}
+use Rattle.std.proofs.Common.{◌≡◌, ℕ, suc, ◌+◌, ◌^◌, ◌<◌, ◌≤◌, Bool, true, false, not, cond, eqb, leb, ◌&&◌, List, []}
 use Rattle.std.proofs.Common.{◌∷◌, ◌++◌, length, reverse, Some, IsUtf8, refl, sym, ap, ap₂, ◌∙◌, arith, decimal, take}
 use Rattle.std.proofs.Common.{drop, append_assoc}
 use Rattle.std.specs.Prelude.{All}
 use Rattle.std.specs.List.{list_all, before_first, after_first, position_or_len, prefix_len}
 use Rattle.std.specs.Char.{is_ascii_digit}
 use Rattle.std.specs.Str.Parse.{digits_value}
-use Rattle.std.proofs.lemmas.Bool.{and_parts, and_from, le-leb, lt-ltb, ltb-true, not-true}
+use Rattle.std.proofs.lemmas.Bool.{and_parts, and_from, le-leb, ltb-true, not-true}
 use Rattle.std.proofs.lemmas.Bool.Decides.{nat_tests}
 use Rattle.std.proofs.lemmas.Fmt.{decimal_nonempty, digits_decimal, digits_value-decimal, length-decimal-le}
 use Rattle.std.proofs.lemmas.List.{take_at, drop_at, length_push}
@@ -16,11 +16,13 @@ use Rattle.httparse.specs.Grammar.{AllPass, IsField, IsToken, is_ows, is_token, 
 use Rattle.httparse.specs.Grammar.{is_value_byte, skip_ows, trim_ows}
 use Rattle.httparse.proofs.TrimLemmas.{AllPass-reverse, trim_ows_space}
 use Rattle.u1_base.specs.Ids.{is_allowed}
+use Rattle.u1_base.specs.declared.limits.TheConstants.{GREATEST_COUNT}
 use Rattle.u1_base.specs.declared.ids.Form.{Form}
 use Rattle.u1_base.specs.declared.ids.Form.TheVariants.{Document, Replica, Transaction, Name}
 use Rattle.sync_http.specs.Fields.{number_in}
 use Rattle.sync_http.specs.Slashes.{part_of, rest_of}
 use Rattle.sync_http.specs.Written.{field}
+use Rattle.sync_http.specs.declared.fields.TheConstants.{MOST_DIGITS}
 use Rattle.sync_http.proofs.Numerals.{own_numerals, number_at}
 
 -- ---- tests of all bytes
@@ -92,15 +94,15 @@ trim_decimal n fits =
     trim_ows_space (decimal n) (skip_digits (decimal n) all)
     (skip_digits (reverse (decimal n)) (AllPass-reverse is_ascii_digit (decimal n) all))
 
-pub number_in-decimal : (n : ℕ) → n < 2 ^ 63 → number_in (decimal n) ≡ Some n
-number_in-decimal n less =
-    let fits : n < 2 ^ 64 = omega (arith, less) in
+pub number_in-decimal : (n : ℕ) → n ≤ GREATEST_COUNT → number_in (decimal n) ≡ Some n
+number_in-decimal n few =
+    let fits : n < 2 ^ 64 = omega (arith, few) in
     let value = digits_value-decimal own_numerals n fits in
     number_at (decimal n) true
     (and_from _ _ (and_from _ _ (le-leb 1 (length (decimal n)) (decimal_nonempty n fits))
-    (le-leb (length (decimal n)) 19 (length-decimal-le 19 n (omega arith) (omega (arith, less)) fits)))
+    (le-leb (length (decimal n)) MOST_DIGITS (length-decimal-le 19 n (omega arith) (omega (arith, few)) fits)))
     (digits_pass n fits))
-    (ap (λ m. ltb m (2 ^ 63)) value ∙ lt-ltb n (2 ^ 63) less)
+    (ap (λ m. leb m GREATEST_COUNT) value ∙ le-leb n GREATEST_COUNT few)
     ∙ ap Some value
 
 -- ---- slashes

@@ -14,6 +14,7 @@ use Rattle.json.proofs.Printed.Utf8.{IsUtf8-are_ascii}
 use Rattle.http.specs.StatusCode.{IsStatusCode, reason_phrase}
 use Rattle.httparse.specs.Grammar as grammar
 use Rattle.u1_base.specs.Ids.{IsId, is_allowed, id_in}
+use Rattle.u1_base.specs.declared.limits.TheConstants.{GREATEST_COUNT}
 use Rattle.u1_base.specs.declared.ids.Form.TheVariants.{Name, Replica}
 use Rattle.u1_base.proofs.IdFacts.{id_facts, in_id}
 use Rattle.sync_http.specs.Heads.{target_in, target_with, request_of, reply_of}
@@ -148,7 +149,7 @@ wrote verb host port db source n =
     (record { verb = verb; db = db; source = source; body = n })
 
 says_asked : (verb : Verb) (host : List ℕ) (port : ℕ) (db source : List ℕ) (n : ℕ) → IsId Name db → IsId Replica source
-    → n < 2 ^ 63
+    → n ≤ GREATEST_COUNT
     → (verb ≡ Get → n ≡ 0) → request_of (wrote verb host port db source n) ≡ asked verb db source n
 says_asked Get host port db source n d s less none =
     rw (target_back db source d s) (ap (asked Get db source) (sym (none refl)))

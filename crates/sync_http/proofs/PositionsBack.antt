@@ -1,10 +1,10 @@
 -- Ids are ASCII, and a position that was written is read as itself.
-use Rattle.std.proofs.Common.{◌≡◌, ◌↔◌, ℕ, ◌^◌, ◌<◌, ◌≤◌, pos, eqb, true, false, nat_lt, List, [], ◌∷◌, Option, Some}
+use Rattle.std.proofs.Common.{◌≡◌, ◌↔◌, ℕ, ◌<◌, ◌≤◌, pos, eqb, true, false, List, [], ◌∷◌, Option, Some}
 use Rattle.std.proofs.Common.{None, IsNone, IfSome, IsUtf8, FitsSigned, unwrap_or, true≢false, refl, sym, ap, ◌∙◌}
 use Rattle.std.proofs.Common.{subst, arith}
 use Rattle.std.specs.List.{list_all}
 use Rattle.std.specs.Int.{w64}
-use Rattle.std.proofs.lemmas.Bool.{and_parts, and_from, lt-ltb, ne_eqb}
+use Rattle.std.proofs.lemmas.Bool.{and_parts, and_from, le-leb, lt-ltb, ne_eqb}
 use Rattle.std.proofs.lemmas.Int.{ints}
 use Rattle.std.proofs.lemmas.Str.{is_utf8-from_IsUtf8}
 use Rattle.json.proofs.Printed.Utf8.{are_ascii, IsUtf8-are_ascii}
@@ -20,6 +20,7 @@ use Rattle.u1_base.specs.Ids.{IsId, is_allowed}
 use Rattle.u1_base.specs.Places.{Place}
 use Rattle.u1_base.specs.declared.ids.Form.{Form}
 use Rattle.u1_base.specs.declared.ids.Form.TheVariants.{Document, Replica, Transaction, Name}
+use Rattle.u1_base.specs.declared.limits.TheConstants.{GREATEST_COUNT}
 use Rattle.u1_base.proofs.IdFacts.{id_facts, in_id}
 use Rattle.content.proofs.ReadBack.{read-canonical}
 use Rattle.sync_http.specs.Positions.{IsPosition, place_at, position_in, trans_text}
@@ -73,4 +74,4 @@ pub position_back : (generation_name trans_name : List ℕ) (d : Data) (p : Plac
     → position_in generation_name trans_name d ≡ Some p
 unfolding position_in
 position_back generation_name trans_name d p h at1 at2 =
-    rw (at1, lt-ltb p.generation (2 ^ 63) h.counted, at2) (place_of p.generation p.trans h.named h.id)
+    rw (at1, le-leb p.generation GREATEST_COUNT h.counted, at2) (place_of p.generation p.trans h.named h.id)

@@ -1,10 +1,12 @@
 -- What the header fields of a message say.
-use Rattle.std.specs.Prelude.{ℕ, ◌^◌, ◌&&◌, Bool, nat_le, nat_lt, not, if◌then◌else◌, List, [], ◌∷◌, length, map}
+use Rattle.std.specs.Prelude.{ℕ, ◌&&◌, Bool, nat_le, nat_lt, not, if◌then◌else◌, List, [], ◌∷◌, length, map}
 use Rattle.std.specs.Prelude.{filter, codes, Option, Some, None, option_map}
 use Rattle.std.specs.List.{list_all}
 use Rattle.std.specs.Str.{str_eq_ignore_ascii_case}
 use Rattle.std.specs.Str.Parse.{digits_value}
 use Rattle.std.specs.Char.{is_ascii_digit}
+use Rattle.u1_base.specs.declared.limits.TheConstants.{GREATEST_COUNT}
+use Rattle.sync_http.specs.declared.fields.TheConstants.{MOST_DIGITS}
 
 -- a field: its name, and its value without the white space around it
 abbrev pub Pair : Type 0
@@ -16,13 +18,13 @@ values_named name [] = []
 values_named name (p ∷ ps) = if str_eq_ignore_ascii_case p.0 name then p.1
     ∷ values_named name ps else values_named name ps
 
--- 1 to 19 decimal digits
+-- some decimal digits, and not too many
 abbrev pub is_numeral : List ℕ → Bool
-is_numeral text = nat_le 1 (length text) && nat_le (length text) 19 && list_all is_ascii_digit text
+is_numeral text = nat_le 1 (length text) && nat_le (length text) MOST_DIGITS && list_all is_ascii_digit text
 
--- whose number is below 2^63
+-- whose number is not above the greatest count
 abbrev pub is_length : List ℕ → Bool
-is_length text = is_numeral text && nat_lt (digits_value 10 text) (2 ^ 63)
+is_length text = is_numeral text && nat_le (digits_value 10 text) GREATEST_COUNT
 
 abbrev pub number_in : List ℕ → Option ℕ
 number_in text = if is_length text then Some (digits_value 10 text) else None

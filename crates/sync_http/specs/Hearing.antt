@@ -2,6 +2,7 @@
 use Rattle.std.specs.Prelude.{◌≡◌, ℕ, ◌<◌, ◌≤◌, ◌⊎◌, nat_lt, if◌then◌else◌, List, length, take, Result, Ok, Err}
 use Rattle.httparse.specs.Grammar as grammar
 use Rattle.httparse.specs.Spans.{RequestExceeds, ResponseExceeds}
+use Rattle.u1_base.specs.declared.limits.TheConstants.{MOST_HEAD_BYTES, MOST_HEADERS}
 use Rattle.sync_http.specs.Heads.{request_of, reply_of}
 use Rattle.sync_http.specs.declared.heads.Heard.{Heard}
 use Rattle.sync_http.specs.declared.heads.Heard.TheVariants.{NotYet, Head}
@@ -17,10 +18,10 @@ Said T = Result T WireFault
 
 -- the longest head, in bytes, and the most fields
 abbrev pub most_bytes : ℕ
-most_bytes = 16384
+most_bytes = MOST_HEAD_BYTES
 
 abbrev pub most_fields : ℕ
-most_fields = 64
+most_fields = MOST_HEADERS
 
 -- the part of the bytes in which a head is looked for
 abbrev pub front : List ℕ → List ℕ

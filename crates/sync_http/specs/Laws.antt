@@ -5,6 +5,7 @@ use Rattle.http.specs.StatusCode.{IsStatusCode, reason_phrase}
 use Rattle.httparse.specs.Grammar.{is_value_byte, print_request, print_response}
 use Rattle.u1_base.specs.Ids.{IsId}
 use Rattle.u1_base.specs.Places.{Place}
+use Rattle.u1_base.specs.declared.limits.TheConstants.{GREATEST_COUNT}
 use Rattle.u1_base.specs.declared.ids.Form.TheVariants.{Name, Replica}
 use Rattle.sync_http.specs.Positions.{IsPosition}
 use Rattle.sync_http.specs.Bodies.{IsInfo, told_in, told_text, info_in, info_text}
@@ -24,7 +25,7 @@ pub record CanAsk (to : Address) (head : RequestHead) : Type 0 where
   pub source : IsId Replica head.source
   pub host : list_all is_value_byte to.host ≡ true
   pub port : to.port < 2 ^ 16
-  pub body : head.body < 2 ^ 63
+  pub body : head.body ≤ GREATEST_COUNT
   pub none : head.verb ≡ Get → head.body ≡ 0
   pub short : length (print_request (request_written to head)) ≤ most_bytes
 
@@ -32,7 +33,7 @@ pub record CanAsk (to : Address) (head : RequestHead) : Type 0 where
 pub record CanReply (head : ReplyHead) : Type 0 where
   pub status : IsStatusCode head.status
   pub phrase : IsSome (reason_phrase head.status)
-  pub body : head.body < 2 ^ 63
+  pub body : head.body ≤ GREATEST_COUNT
 
 -- the bytes of a head that was written begin with it and no other, whatever follows
 pub record HeadsReadBack : Type 0 where

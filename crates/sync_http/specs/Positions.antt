@@ -1,28 +1,29 @@
 -- Positions in messages: two members of a JSON object, a generation and the id of the transaction that made it.
-use Rattle.std.specs.Prelude.{◌≡◌, ◌↔◌, ℕ, ◌^◌, ◌<◌, ◌==◌, nat_lt, Bool, true, false, if◌then◌else◌, List, [], Option}
+use Rattle.std.specs.Prelude.{◌≡◌, ◌↔◌, ℕ, ◌≤◌, ◌==◌, nat_le, Bool, true, false, if◌then◌else◌, List, [], Option}
 use Rattle.std.specs.Prelude.{Some, None, IsNone, IfSome, option_map, unwrap_or}
 use Rattle.serde_json.specs.Data.{Data, null, boolean, number, string, array, object}
 use Rattle.serde_json.specs.Find.{get, as_str, as_number, as_u64}
 use Rattle.u1_base.specs.Ids.{IsId, id_in}
 use Rattle.u1_base.specs.Places.{Place, nowhere}
+use Rattle.u1_base.specs.declared.limits.TheConstants.{GREATEST_COUNT}
 use Rattle.u1_base.specs.declared.ids.Form.{Form}
 use Rattle.u1_base.specs.declared.ids.Form.TheVariants.{Transaction}
 use Rattle.sync_http.specs.Chained.{◌>>=◌, only_if}
 
--- a place that a log can have: its generation is below 2^63, and only generation 0 has no transaction
+-- a place that a log can have: its generation is not too great, and only generation 0 has no transaction
 pub record IsPosition (p : Place) : Type 0 where
-  pub counted : p.generation < 2 ^ 63
+  pub counted : p.generation ≤ GREATEST_COUNT
   pub named : (IsNone p.trans) ↔ (p.generation ≡ 0)
   pub id : IfSome p.trans (IsId Transaction)
 
 -- ---- reading
 
--- a whole number from 0 to 2^63-1
+-- a whole number from 0 to the greatest count
 abbrev pub generation_in : Data → Option ℕ
 generation_in d = do
   n ← as_number d
   g ← as_u64 n
-  only_if (nat_lt g (2 ^ 63)) g
+  only_if (nat_le g GREATEST_COUNT) g
 
 -- a string that is an id of this form
 abbrev pub text_id_in : Form → Data → Option (List ℕ)

@@ -13,6 +13,7 @@ use httparse::spans::{HeaderSpan, Span};
 use std::str;
 use u1_base::limits::GREATEST_COUNT;
 
+// As many digits as `GREATEST_COUNT` has.
 const MOST_DIGITS: usize = 19;
 
 /// The fields of one name: where the value of a single one lies.

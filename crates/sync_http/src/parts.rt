@@ -1,9 +1,10 @@
 //! The parts of JSON bodies: values, texts and positions.
-ghost use Rattle.std.specs.Prelude.{◌≡◌, ◌<◌, ◌^◌, IfOk, option_map};
+ghost use Rattle.std.specs.Prelude.{◌≡◌, ◌≤◌, IfOk, option_map};
 ghost use Rattle.serde_json.specs.View.{view};
 ghost use Rattle.content.specs.Faults.{value_of};
 ghost use Rattle.u1_base.specs.Ids.{id_in};
 ghost use Rattle.u1_base.specs.declared.ids.Form.TheVariants.{Transaction};
+ghost use Rattle.u1_base.specs.declared.limits.TheConstants.{GREATEST_COUNT};
 ghost use Rattle.sync_http.specs.Positions.{generation_in, is_text_or_null, place_at, position_in};
 ghost use Rattle.sync_http.specs.Positions.{text_id_in, trans_text};
 
@@ -27,8 +28,8 @@ pub fn value_in(alloc: Global, bytes: &[u8]) -> Result<Option<Value>, Memory>
     }
 }
 
-/// The position that two members of an object say: a generation below 2^63, and the id of its
-/// transaction. At generation 0 any string or null stands for no transaction.
+/// The position that two members of an object say: a generation, which is at most `GREATEST_COUNT`,
+/// and the id of its transaction. At generation 0 any string or null stands for no transaction.
 #[tactic(auto, unfolding(crate::specs::Positions::position_in))]
 pub fn position_in(
     alloc: Global,
@@ -67,7 +68,7 @@ fn generation_in(value: &Value) -> Option<u64>
 }
 
 fn place_at(alloc: Global, generation: u64, trans: &Value) -> Result<Option<Position>, Memory>
-    requires { generation < 2 ^ 63 }
+    requires { generation ≤ GREATEST_COUNT }
     ensures { IfOk result (λ p. p ≡ place_at generation (view trans.now)) }
 {
     if generation == 0 {

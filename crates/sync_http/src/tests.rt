@@ -1,5 +1,6 @@
 //! Worked heads and addresses, at the borders of each rule, and each call that allocates once.
-ghost use Rattle.std.specs.Prelude.{◌≡◌, ◌^◌, ◌<◌};
+ghost use Rattle.std.specs.Prelude.{◌≡◌, ◌≤◌};
+ghost use Rattle.u1_base.specs.declared.limits.TheConstants.{GREATEST_COUNT};
 ghost use Rattle.sync_http.specs.declared.heads.Verb.TheVariants.{Get};
 
 use crate::{
@@ -198,7 +199,7 @@ fn tells_what_a_reply_says(rt: HostRuntime) -> Result<(), Fail> {
 }
 
 fn request(alloc: Global, verb: Verb, body: u64) -> Result<Vec<u8>, Fail>
-    requires short { body < 2 ^ 63 }
+    requires short { body ≤ GREATEST_COUNT }
     requires none { verb ≡ Get → body ≡ 0 }
 {
     let to = Address {

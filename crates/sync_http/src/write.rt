@@ -1,9 +1,10 @@
 //! Heads are written in one spelling.
-ghost use Rattle.std.specs.Prelude.{◌≡◌, ◌^◌, ◌<◌, [], ◌∷◌, ◌++◌, IfOk, IsSome, OnOk, decimal};
+ghost use Rattle.std.specs.Prelude.{◌≡◌, ◌≤◌, [], ◌∷◌, ◌++◌, IfOk, IsSome, OnOk, decimal};
 ghost use Rattle.std.specs.Prelude.{string_bytes, unwrap_or};
 ghost use Rattle.std.specs.List.{flat_map};
 ghost use Rattle.http.specs.StatusCode.{IsStatusCode, reason_phrase};
 ghost use Rattle.httparse.specs.Grammar.{print_field, print_request, print_response, print_version};
+ghost use Rattle.u1_base.specs.declared.limits.TheConstants.{GREATEST_COUNT};
 ghost use Rattle.sync_http.specs.Written.{field, host_text, length_field, reply_written};
 ghost use Rattle.sync_http.specs.Written.{request_body_fields, request_written, target_text};
 ghost use Rattle.sync_http.specs.Written.{type_field, type_of, verb_text};
@@ -22,7 +23,7 @@ const STREAM_TYPE: &str = "application/x-u1db-sync-stream";
 #[tactic(auto, unfolding(httparse::specs::Grammar::print_request))]
 pub fn write_request(alloc: Global, to: &Address, head: &RequestHead) -> Result<Bytes, Memory>
     requires db { to.now.db ≡ head.now.db }
-    requires body { head.now.body < 2 ^ 63 }
+    requires body { head.now.body ≤ GREATEST_COUNT }
     requires none { head.now.verb ≡ Get → head.now.body ≡ 0 }
     ensures { IfOk result (λ bytes. bytes ≡ print_request (request_written to.now head.now)) }
 {
@@ -114,7 +115,7 @@ fn push_body(alloc: Global, out: &mut Bytes, kind: &str, length: u64) -> Result<
 /// The head of a reply. Its body is a stream of documents, or a small JSON object.
 #[tactic(auto, unfolding(httparse::specs::Grammar::print_response))]
 pub fn write_reply(alloc: Global, head: &ReplyHead, stream: bool) -> Result<Bytes, Memory>
-    requires body { head.now.body < 2 ^ 63 }
+    requires body { head.now.body ≤ GREATEST_COUNT }
     requires code { IsStatusCode head.now.status }
     requires phrase { IsSome (reason_phrase head.now.status) }
     ensures { IfOk result (λ bytes. bytes ≡ print_response (reply_written head.now stream)) }

@@ -1,4 +1,4 @@
--- What a link in memory is doing.
+-- What a link in memory is doing. Only private clauses speak of it.
 use Rattle.std.specs.Prelude.{◌≡◌, ℕ, ◌≤◌, min, List, length, take, drop, Option, Some, None}
 use Rattle.sync_link.specs.declared.asking.Phase.{Phase}
 use Rattle.sync_link.specs.declared.asking.Phase.TheVariants as phase

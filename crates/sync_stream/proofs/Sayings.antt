@@ -1,7 +1,7 @@
 -- What is said of names: by an object to which one more member comes, by tokens, and by the document that it makes.
-use Rattle.std.proofs.Common.{◌≡◌, ℕ, zero, suc, ◌^◌, ◌-◌, ◌<◌, ◌≤◌, ◌==◌, ◌&&◌, Bool, true, false, true≢false, nat_lt}
-use Rattle.std.proofs.Common.{if◌then◌else◌, List, [], ◌∷◌, length, codes, Option, Some, None, IfSome, option_map}
-use Rattle.std.proofs.Common.{option_and_then, refl, sym, ap, ◌∙◌, arith, lt-ltb, ne_eqb}
+use Rattle.std.proofs.Common.{◌≡◌, ℕ, zero, suc, ◌-◌, ◌<◌, ◌≤◌, ◌==◌, ◌&&◌, Bool, true, false, true≢false, nat_le}
+use Rattle.std.proofs.Common.{nat_lt, if◌then◌else◌, List, [], ◌∷◌, length, codes, Option, Some, None, IfSome}
+use Rattle.std.proofs.Common.{option_map, option_and_then, refl, sym, ap, ◌∙◌, arith, lt-ltb, ne_eqb}
 use Rattle.std.specs.Str.{IsUtf8, bytes_eq}
 use Rattle.std.proofs.lemmas.Slice.Eq.{bytes_eq-Decides}
 use Rattle.std.proofs.lemmas.Str.{is_utf8-from_IsUtf8}
@@ -20,6 +20,7 @@ use Rattle.content.specs.Tree.{Tree}
 use Rattle.vector_rev.specs.ClockText.{clock_in}
 use Rattle.u1_base.specs.Ids.{id_in}
 use Rattle.u1_base.specs.Places.{Place}
+use Rattle.u1_base.specs.declared.limits.TheConstants.{GREATEST_COUNT}
 use Rattle.u1_base.specs.declared.ids.Form.TheVariants.{Document, Transaction}
 use Rattle.sync_http.specs.Chained.{◌>>=◌, only_if}
 use Rattle.sync_http.specs.Positions.{generation_in, made_by, place_at, position_in}
@@ -229,7 +230,7 @@ unfolding place_said
 place_same None t = refl
 place_same (Some null) t = refl
 place_same (Some (boolean b)) t = refl
-place_same (Some (number (unsigned n))) t = counted (nat_lt n (2 ^ 63)) n t
+place_same (Some (number (unsigned n))) t = counted (nat_le n GREATEST_COUNT) n t
 place_same (Some (number (negative z))) t = refl
 place_same (Some (number (float x))) t = refl
 place_same (Some (string s)) t = refl

@@ -1,5 +1,6 @@
--- What an object says of the names that the object of a document has, as far as a document is made of it.
-use Rattle.std.specs.Prelude.{◌≡◌, ◌^◌, ◌&&◌, ℕ, nat_lt, if◌then◌else◌, List, ◌∷◌, codes, Option, Some, None}
+-- Words of private clauses: what an object says of the names that the object of a document has, as far as a document is
+-- made of it.
+use Rattle.std.specs.Prelude.{◌≡◌, ◌&&◌, ℕ, nat_le, nat_lt, if◌then◌else◌, List, ◌∷◌, codes, Option, Some, None}
 use Rattle.std.specs.Prelude.{option_map}
 use Rattle.std.specs.Str.{bytes_eq}
 use Rattle.json.specs.Token as json
@@ -12,6 +13,7 @@ use Rattle.content.specs.Tree.{Tree}
 use Rattle.vector_rev.specs.ClockText.{clock_in}
 use Rattle.u1_base.specs.Ids.{id_in}
 use Rattle.u1_base.specs.Places.{Place}
+use Rattle.u1_base.specs.declared.limits.TheConstants.{GREATEST_COUNT}
 use Rattle.u1_base.specs.declared.ids.Form.TheVariants.{Document, Transaction}
 use Rattle.sync_http.specs.Chained.{◌>>=◌, only_if}
 use Rattle.sync_http.specs.Positions.{made_by}
@@ -97,11 +99,11 @@ content_said (whole n) = None
 content_said (text s) = option_map Some (content_in s)
 content_said other = None
 
--- a generation from 1 to 2^63-1
+-- a generation from 1 to the greatest count
 abbrev pub generation_said : Saying → Option ℕ
 generation_said absent = None
 generation_said nothing = None
-generation_said (whole n) = only_if (nat_lt 0 n && nat_lt n (2 ^ 63)) n
+generation_said (whole n) = only_if (nat_lt 0 n && nat_le n GREATEST_COUNT) n
 generation_said (text s) = None
 generation_said other = None
 

@@ -4,6 +4,7 @@ use Rattle.std.specs.Prelude.{drop, take, Option, Some, None, Ok, Err}
 use Rattle.serde_json.specs.Data.{Data, null, boolean, number, string, array, object}
 use Rattle.content.specs.Faults.{value_of}
 use Rattle.u1_base.specs.Places.{Place}
+use Rattle.u1_base.specs.declared.limits.TheConstants.{MOST_POSITION_BODY_BYTES}
 use Rattle.sync_http.specs.Chained.{◌>>=◌, only_if}
 use Rattle.sync_http.specs.Bodies.{info_in, told_in}
 use Rattle.sync_http.specs.Hearing.{HearsReply, HearsRequest, IsReplyFault, SaysReply, SaysRequest}
@@ -53,7 +54,7 @@ pub record SaysStream (kind : HeadKind) (bytes : List ℕ) (n : ℕ) (stream : S
 
 -- the longest small body, in bytes
 abbrev pub most_small : ℕ
-most_small = 65536
+most_small = MOST_POSITION_BODY_BYTES
 
 -- a small body: what it says, or that it is outside its format, ends before its length, or is longer than may be read
 pub data Small (A : Type 0) : Type 0 where

@@ -1,6 +1,7 @@
 -- A stream: the lines of a text, what they say, and its first faulty line. Lines count from 1.
 use Rattle.std.specs.Prelude.{◌≡◌, ◌≢◌, ◌⊎◌, ℕ, ◌+◌, ◌-◌, ◌^◌, ◌==◌, ◌&&◌, min, Bool, true, false, not, nat_lt}
 use Rattle.std.specs.Prelude.{if◌then◌else◌, List, [], ◌∷◌, ◌++◌, length, slice_index, Option, Some, None}
+use Rattle.u1_base.specs.declared.limits.TheConstants.{MOST_LINE_BYTES}
 use Rattle.sync_stream.specs.Lines.{ended, IsUnbroken, Splits}
 use Rattle.sync_stream.specs.Says.{says}
 use Rattle.sync_stream.specs.declared.line.HeadKind.{HeadKind}
@@ -15,7 +16,7 @@ use Rattle.sync_stream.specs.declared.fault.StreamFault.TheVariants as fault
 
 -- the most bytes of a line before its CR LF
 abbrev pub max_line : ℕ
-max_line = 33554432
+max_line = MOST_LINE_BYTES
 
 -- a count of lines, which stands still at the end of its type
 abbrev pub counted : ℕ → ℕ

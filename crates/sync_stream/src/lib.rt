@@ -16,6 +16,7 @@ mod line;
 mod objects;
 mod reader;
 mod says;
+mod scratches;
 #[cfg(test)]
 mod telling;
 #[cfg(test)]

@@ -9,6 +9,7 @@ ghost use Rattle.sync_stream.specs.Fields.{text_said, told, told_of};
 ghost use Rattle.sync_stream.specs.Objects.{doc_in, head_in};
 
 use crate::fields::{Field, Fields, fields_of, plain_fields};
+use crate::scratches::Scratches;
 use crate::{HeadKind, SyncDoc};
 use conflicts::Member;
 use content::{Content, ContentFault};
@@ -46,22 +47,26 @@ pub(crate) fn head_in(
 #[tactic(auto, using(crate::proofs::Sayings::doc_in_said, crate::proofs::Sayings::doc_in_none))]
 pub(crate) fn doc_in(
     alloc: Global,
-    scratch: &mut Scratch<Global>,
+    scratch: &mut Scratches,
     bytes: &[u8],
 ) -> Result<Option<SyncDoc>, Memory>
     ensures { IfOk result (λ doc. doc ≡ doc_in bytes.now) }
 {
-    if let Some(fields) = plain_fields(bytes, scratch)? {
-        return doc_of(alloc, fields);
+    if let Some(fields) = plain_fields(bytes, &mut scratch.line)? {
+        return doc_of(alloc, &mut scratch.content, fields);
     }
     let Some(value) = value_in(alloc, bytes)? else {
         return Ok(None);
     };
-    doc_of(alloc, fields_of(&value))
+    doc_of(alloc, &mut scratch.content, fields_of(&value))
 }
 
 #[tactic(auto, unfolding(crate::specs::Fields::doc_said))]
-fn doc_of(alloc: Global, fields: Fields<'_>) -> Result<Option<SyncDoc>, Memory>
+fn doc_of(
+    alloc: Global,
+    scratch: &mut Scratch<Global>,
+    fields: Fields<'_>,
+) -> Result<Option<SyncDoc>, Memory>
     ensures { IfOk result (λ doc. doc ≡ doc_said (told_of fields.entry)) }
 {
     let Some(text) = text_in(fields.id) else {
@@ -76,7 +81,7 @@ fn doc_of(alloc: Global, fields: Fields<'_>) -> Result<Option<SyncDoc>, Memory>
     let Some(rev) = clock_of(alloc, text)? else {
         return Ok(None);
     };
-    let Some(content) = content_of(alloc, fields.content)? else {
+    let Some(content) = content_of(alloc, scratch, fields.content)? else {
         return Ok(None);
     };
     let Some(at) = place_of(alloc, fields.generation, fields.trans)? else {
@@ -174,12 +179,16 @@ fn trans_of(alloc: Global, text: &str) -> Result<Option<TransId>, Memory>
 }
 
 // What a field says of a content: null that there is none, a text the content that it is.
-fn content_of(alloc: Global, field: Field<'_>) -> Result<Option<Option<Content>>, Memory>
+fn content_of(
+    alloc: Global,
+    scratch: &mut Scratch<Global>,
+    field: Field<'_>,
+) -> Result<Option<Option<Content>>, Memory>
     ensures { IfOk result (λ content. content ≡ content_said (told field.entry)) }
 {
     match field {
         Field::Null => Ok(Some(None)),
-        Field::Text(text) => match content_in(alloc, text.as_bytes())? {
+        Field::Text(text) => match content_in(alloc, scratch, text.as_bytes())? {
             Some(content) => Ok(Some(Some(content))),
             None => Ok(None),
         },
@@ -189,10 +198,14 @@ fn content_of(alloc: Global, field: Field<'_>) -> Result<Option<Option<Content>>
     }
 }
 
-fn content_in(alloc: Global, bytes: &[u8]) -> Result<Option<Content>, Memory>
+fn content_in(
+    alloc: Global,
+    scratch: &mut Scratch<Global>,
+    bytes: &[u8],
+) -> Result<Option<Content>, Memory>
     ensures { IfOk result (λ content. content ≡ content_in bytes.now) }
 {
-    match Content::read(alloc, bytes) {
+    match Content::read_with(alloc, scratch, bytes) {
         Ok(content) => Ok(Some(content)),
         Err(ContentFault::Memory) => Err(Memory),
         Err(_) => Ok(None),

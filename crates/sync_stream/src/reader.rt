@@ -16,8 +16,8 @@ ghost use Rattle.sync_stream.specs.declared.line.Next.TheVariants.{Closed, Headi
 use crate::buffer::Buffer;
 use crate::line::{HeadKind, Line, Next, Passed};
 use crate::says::says;
+use crate::scratches::Scratches;
 use crate::{LineFault, StreamFault};
-use json::Scratch;
 use std::alloc::Global;
 use std::marker::Model;
 use u1_base::Memory;
@@ -32,7 +32,7 @@ pub struct Reader {
     place: Next,
     fault: Option<LineFault>,
     rest: Buffer,
-    scratch: Scratch<Global>,
+    scratch: Scratches,
 }
 
 impl Model for Reader {
@@ -62,7 +62,7 @@ impl Reader {
             place: Next::Opening,
             fault: None,
             rest: Buffer::new(alloc),
-            scratch: Scratch::new(alloc),
+            scratch: Scratches::new(alloc),
         }
     }
 
@@ -258,7 +258,7 @@ fn is_long_rest(bytes: &[u8]) -> bool
 #[tactic(auto, using(crate::proofs::Stands::shape_of))]
 fn read_line(
     alloc: Global,
-    scratch: &mut Scratch<Global>,
+    scratch: &mut Scratches,
     kind: HeadKind,
     number: u64,
     place: Next,
@@ -280,7 +280,7 @@ fn read_line(
 // The fault of a body that ends with this rest.
 fn end_fault(
     alloc: Global,
-    scratch: &mut Scratch<Global>,
+    scratch: &mut Scratches,
     kind: HeadKind,
     number: u64,
     place: Next,

@@ -6,7 +6,7 @@ ghost use Rattle.sync_stream.specs.Says.{is_blank, object_part, says, trim_end, 
 use crate::HeadKind;
 use crate::line::{Line, Next, Passed};
 use crate::objects::{doc_in, head_in};
-use json::Scratch;
+use crate::scratches::Scratches;
 use std::alloc::Global;
 use u1_base::Memory;
 
@@ -14,7 +14,7 @@ use u1_base::Memory;
 #[tactic(auto, unfolding(crate::specs::Says::says))]
 pub(crate) fn says(
     alloc: Global,
-    scratch: &mut Scratch<Global>,
+    scratch: &mut Scratches,
     kind: HeadKind,
     place: Next,
     line: &[u8],

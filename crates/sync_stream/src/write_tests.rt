@@ -1,5 +1,6 @@
 //! Streams that are written, byte by byte and read back.
-ghost use Rattle.std.specs.Prelude.{◌≡◌, ◌≢◌, ◌<◌, ◌^◌, IfOk};
+ghost use Rattle.std.specs.Prelude.{◌≡◌, ◌≢◌, ◌≤◌, IfOk};
+ghost use Rattle.u1_base.specs.declared.limits.TheConstants.{GREATEST_COUNT};
 
 use crate::telling::tells;
 use crate::tests::EXCHANGE;
@@ -13,7 +14,7 @@ use vector_rev::Clock;
 
 fn position(alloc: Global, generation: u64, id: &str) -> Result<Position, Fail>
     requires some { generation ≢ 0 }
-    requires small { generation < 2 ^ 63 }
+    requires small { generation ≤ GREATEST_COUNT }
     ensures { IfOk result (λ at. at.generation ≡ generation) }
 {
     Ok(Position {
@@ -25,7 +26,7 @@ fn position(alloc: Global, generation: u64, id: &str) -> Result<Position, Fail>
 // The document `ID REV CONTENT` at this generation, whose transaction is `T-` with it.
 fn document(alloc: Global, generation: u64, row: &str) -> Result<SyncDoc, Fail>
     requires some { generation ≢ 0 }
-    requires small { generation < 2 ^ 63 }
+    requires small { generation ≤ GREATEST_COUNT }
     ensures { IfOk result (λ doc. doc.at.generation ≡ generation) }
 {
     let (id, row) = row.split_once(' ').ok_or("no revision")?;
@@ -48,7 +49,7 @@ fn member(alloc: Global, row: &str) -> Result<Member, Fail> {
 
 fn place(alloc: Global, generation: u64) -> Result<Position, Fail>
     requires some { generation ≢ 0 }
-    requires small { generation < 2 ^ 63 }
+    requires small { generation ≤ GREATEST_COUNT }
     ensures { IfOk result (λ at. at.generation ≡ generation) }
 {
     let trans = format!(in alloc; "T-{generation}")?;

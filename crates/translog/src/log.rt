@@ -1,6 +1,7 @@
 //! The log: its entries, its room, its places.
-ghost use Rattle.std.specs.Prelude.{◌≡◌, ◌+◌, ◌-◌, ◌^◌, ◌<◌, ◌≤◌, ◌⊎◌, ◌↔◌, [], ◌∷◌, ◌++◌, IfOk};
+ghost use Rattle.std.specs.Prelude.{◌≡◌, ◌+◌, ◌<◌, ◌≤◌, ◌⊎◌, ◌↔◌, [], ◌∷◌, ◌++◌, IfOk};
 ghost use Rattle.std.specs.Prelude.{IsNone, OnErr, OnOk, length, option_copied};
+ghost use Rattle.u1_base.specs.declared.limits.TheConstants.{GREATEST_COUNT};
 ghost use Rattle.translog.specs.Entries.{trans_at};
 ghost use Rattle.translog.specs.Log.{end_of};
 
@@ -17,17 +18,18 @@ pub struct Log {
 }
 
 impl Model for Log {
-    ghost use Rattle.std.specs.Prelude.{◌-◌, ◌^◌, ◌<◌, min, vec_capacity, vec_len, length};
+    ghost use Rattle.std.specs.Prelude.{◌-◌, ◌≤◌, min, vec_capacity, vec_len, length};
+    ghost use Rattle.u1_base.specs.declared.limits.TheConstants.{GREATEST_COUNT};
     ghost use Rattle.translog.specs.Log.{Log};
 
     ghost Value = { Log };
 
     ghost view = { λ l. record {
       entries = l.entries.items;
-      room = min (vec_capacity l.entries) (2 ^ 63 - 1) - vec_len l.entries;
+      room = min (vec_capacity l.entries) GREATEST_COUNT - vec_len l.entries;
     } };
 
-    ghost invariant = { λ l. vec_len l.entries < 2 ^ 63 };
+    ghost invariant = { λ l. vec_len l.entries ≤ GREATEST_COUNT };
 }
 
 impl Log {
@@ -39,12 +41,13 @@ impl Log {
         }
     }
 
-    /// Makes room for one more entry. A log of 2^63-1 entries takes no more: it answers `Memory`.
+    /// Makes room for one more entry. A log of `GREATEST_COUNT` entries takes no more: it answers
+    /// `Memory`.
     pub fn reserve(&mut self) -> Result<(), Memory>
         ensures entries { self.new.entries ≡ self.old.entries }
         ensures room { OnOk result (1 ≤ self.new.room) }
         ensures more { self.old.room ≤ self.new.room }
-        ensures limit { OnOk result (length self.old.entries < 2 ^ 63 - 1) }
+        ensures limit { OnOk result (length self.old.entries < GREATEST_COUNT) }
     {
         if self.entries.len() as u64 >= GREATEST_COUNT {
             return Err(Memory);
@@ -68,7 +71,7 @@ impl Log {
     /// The entries, oldest first.
     pub fn entries(&self) -> &[Entry]
         ensures value { result.now ≡ self.now.entries }
-        ensures count { length self.now.entries < 2 ^ 63 }
+        ensures count { length self.now.entries ≤ GREATEST_COUNT }
     {
         self.entries.as_slice()
     }
@@ -76,7 +79,7 @@ impl Log {
     /// The number of entries.
     pub fn generation(&self) -> u64
         ensures value { result ≡ length self.now.entries }
-        ensures count { result < 2 ^ 63 }
+        ensures count { result ≤ GREATEST_COUNT }
     {
         self.entries.as_slice().len() as u64
     }

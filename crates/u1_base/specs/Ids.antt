@@ -12,7 +12,7 @@ use Rattle.u1_base.specs.declared.ids.Form.TheVariants.{Document, Replica, Trans
 use Rattle.u1_base.specs.declared.ids.IdFault.{IdFault}
 use Rattle.u1_base.specs.declared.ids.IdFault.TheVariants.{Empty, TooLong, BadByte, Memory}
 
--- the greatest length of an id, in bytes: 128 for a document id, 64 for the others
+-- the greatest length of an id, in bytes
 abbrev pub longest : Form → ℕ
 longest Document = MOST_DOCUMENT_ID_BYTES
 longest Replica = MOST_NAME_BYTES

@@ -9,7 +9,7 @@ pub const MOST_CONTENT_DEPTH: u64 = 64;
 /// The most entries of a clock.
 pub const MOST_CLOCK_ENTRIES: usize = 64;
 
-/// The greatest generation of a log, and the greatest counter of a clock.
+/// The greatest generation of a log, counter of a clock, and length of a body of HTTP.
 pub const GREATEST_COUNT: u64 = 9_223_372_036_854_775_807;
 
 /// The most texts of a key, and the most expressions of an index.

@@ -1,6 +1,7 @@
 //! A place in a transaction log.
-ghost use Rattle.std.specs.Prelude.{◌≡◌, ◌<◌, ◌^◌, ◌↔◌, IfOk, IsNone};
+ghost use Rattle.std.specs.Prelude.{◌≡◌, ◌≤◌, ◌↔◌, IfOk, IsNone};
 ghost use Rattle.u1_base.specs.Places.{nowhere};
+ghost use Rattle.u1_base.specs.declared.limits.TheConstants.{GREATEST_COUNT};
 
 use crate::{Memory, TransId};
 use std::marker::Model;
@@ -10,11 +11,11 @@ use std::marker::Model;
 /// Generation 0 is the place before the first entry, and has no transaction id.
 #[derive(Debug, Drop)]
 pub struct Position {
-    /// From 0 to 2^63-1.
+    /// From 0 to `limits::GREATEST_COUNT`.
     pub generation: u64,
     pub trans: Option<TransId>,
     pub ghost named: { (IsNone trans) ↔ (generation ≡ 0) },
-    pub ghost counted: { generation < 2 ^ 63 },
+    pub ghost counted: { generation ≤ GREATEST_COUNT },
 }
 
 impl Model for Position {

@@ -3,10 +3,14 @@
 use cli_words::operands_shown;
 use command_lines::UsageKind;
 use std::alloc::Global;
+use u1_base::limits::{
+    GREATEST_COUNT, GREATEST_IMAGE_LIMIT, LEAST_IMAGE_LIMIT, MOST_CLOCK_ENTRIES,
+    MOST_DOCUMENT_ID_BYTES, MOST_KEY_TEXTS, MOST_NAME_BYTES,
+};
 use u1_base::{Memory, Text};
 
 /// The commands, in the order in which they are listed.
-const COMMANDS: [&str; 17] = [
+const COMMANDS: [&str; 18] = [
     "init",
     "create",
     "get",
@@ -24,6 +28,7 @@ const COMMANDS: [&str; 17] = [
     "query",
     "range",
     "keys",
+    "compact",
 ];
 
 /// The usage of the command that the words name, or of all commands. For a word that is refused,
@@ -31,7 +36,7 @@ const COMMANDS: [&str; 17] = [
 pub fn usage(alloc: Global, words: &[Text], kind: UsageKind) -> Result<String, Memory> {
     let mut text = String::new(alloc);
     if let UsageKind::Value(place) = kind {
-        push_refused(&mut text, words, place)?;
+        push_refused(alloc, &mut text, words, place)?;
     }
     match words.get(1) {
         Some(word) => push_usage(&mut text, word.as_str())?,
@@ -83,7 +88,12 @@ fn reads_content(command: &str) -> bool {
 }
 
 // The word at the place, and what it has to be.
-fn push_refused(text: &mut String, words: &[Text], place: u64) -> Result<(), Memory> {
+fn push_refused(
+    alloc: Global,
+    text: &mut String,
+    words: &[Text],
+    place: u64,
+) -> Result<(), Memory> {
     let Ok(place) = usize::try_from(place) else {
         return Ok(());
     };
@@ -93,7 +103,8 @@ fn push_refused(text: &mut String, words: &[Text], place: u64) -> Result<(), Mem
     text.push_str("u1db: ")?;
     text.push_str(word.as_str())?;
     text.push_str(": ")?;
-    text.push_str(rule_of(operand_at(words, place)))?;
+    let rule = rule_of(alloc, operand_at(words, place))?;
+    text.push_str(rule.as_str())?;
     text.push_str("\n")?;
     Ok(())
 }
@@ -154,18 +165,29 @@ fn named(shown: &'static str, number: usize) -> &'static str {
 }
 
 // What a word has to be that stands for the operand of this name.
-fn rule_of(name: &str) -> &'static str {
-    match name {
-        "NAME" | "INDEX" => "a name has 1 to 64 letters, digits and . _ -",
-        "[UID]" => "a uid has 1 to 64 letters, digits and _ -",
-        "ID" | "[ID]" => "an id has 1 to 128 letters, digits and . _ - %",
-        "REV" | "[REV]" | "REV..." => {
-            "a revision is 1 to 64 times UID:COUNTER, sorted by UID and joined by |"
-        }
-        "N" => "a limit is a number of bytes from 1024 to 1099511627776",
-        "START" | "END" => "an end is open, or a JSON list of 1 to 8 strings",
-        "GENERATION" => "a generation is a number from 0 to 9223372036854775807",
-        "ADDRESS" => "an address is a URL as http://host:8080/db",
-        _ => "it is not a number within the limits",
-    }
+fn rule_of(alloc: Global, name: &str) -> Result<String, Memory> {
+    let rule = match name {
+        "NAME" | "INDEX" => format!(in alloc;
+            "a name has 1 to {MOST_NAME_BYTES} letters, digits and . _ -"
+        ),
+        "[UID]" => format!(in alloc; "a uid has 1 to {MOST_NAME_BYTES} letters, digits and _ -"),
+        "ID" | "[ID]" => format!(in alloc;
+            "an id has 1 to {MOST_DOCUMENT_ID_BYTES} letters, digits and . _ - %"
+        ),
+        "REV" | "[REV]" | "REV..." => format!(in alloc;
+            "a revision is 1 to {MOST_CLOCK_ENTRIES} times UID:COUNTER, sorted by UID \
+                and joined by |"
+        ),
+        "N" => format!(in alloc;
+            "a limit is a number of bytes from {LEAST_IMAGE_LIMIT} to \
+                {GREATEST_IMAGE_LIMIT}"
+        ),
+        "START" | "END" => format!(in alloc;
+            "an end is open, or a JSON list of 1 to {MOST_KEY_TEXTS} strings"
+        ),
+        "GENERATION" => format!(in alloc; "a generation is a number from 0 to {GREATEST_COUNT}"),
+        "ADDRESS" => String::from_str(alloc, "an address is a URL as http://host:8080/db"),
+        _ => String::from_str(alloc, "it is not a number within the limits"),
+    };
+    Ok(rule?)
 }

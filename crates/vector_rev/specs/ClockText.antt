@@ -72,7 +72,7 @@ clock_in text = if list_all is_entry_text (parts_of text) then clock_of (map ent
 -- what a fault prints
 abbrev pub clock_fault_text : ClockFault → List ℕ
 clock_fault_text Empty = codes "the clock has no entry"
-clock_fault_text TooMany = codes "the clock has more than 64 entries"
+clock_fault_text TooMany = codes "the clock has more than " ++ decimal MOST_CLOCK_ENTRIES ++ codes " entries"
 clock_fault_text (BadEntry i) = codes "entry " ++ decimal i ++ codes " of the clock is not a replica uid with a counter"
 clock_fault_text (NotSorted i) = codes "entry " ++ decimal i ++ codes " of the clock is not above the one before it"
 clock_fault_text Memory = codes "out of memory"

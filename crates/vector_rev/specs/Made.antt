@@ -1,6 +1,7 @@
 -- The clocks that are made of others: by counters, and when there is none.
 use Rattle.std.specs.Prelude.{◌≡◌, ◌≢◌, ℕ, ◌+◌, ◌<◌, ◌≤◌, max, ◌⊎◌, length, filter, is_none, List, codes, Result, Ok}
-use Rattle.std.specs.Prelude.{Err}
+use Rattle.std.specs.Prelude.{Err, ◌++◌}
+use Rattle.std.specs.Fmt.{decimal}
 use Rattle.std.specs.FinMap.Entries.{find}
 use Rattle.u1_base.specs.declared.limits.TheConstants.{GREATEST_COUNT, MOST_CLOCK_ENTRIES}
 use Rattle.vector_rev.specs.Counts.{Uid}
@@ -19,7 +20,7 @@ IsJoin x y z = (u : Uid) → count_of z u ≡ max (count_of x u) (count_of y u)
 abbrev pub occurring : Clock → Clock → ℕ
 occurring x y = length x.entries + length (filter (λ e. is_none (find id_cmp e.0 x.entries)) y.entries)
 
--- a join is answered where no more than 64 uids occur
+-- a join is answered where no more uids occur than a clock may have entries
 abbrev pub Joins : Clock → Clock → Result Clock JoinFault → Type 0
 Joins x y (Ok z) = IsJoin x y z
 Joins x y (Err join_fault.TooMany) = MOST_CLOCK_ENTRIES < occurring x y
@@ -53,7 +54,8 @@ pub record IsFirst (own : Uid) (z : Clock) : Type 0 where
 
 -- what the faults print
 abbrev pub join_fault_text : JoinFault → List ℕ
-join_fault_text join_fault.TooMany = codes "more than 64 replicas occur in the two clocks"
+join_fault_text join_fault.TooMany =
+    codes "more than " ++ decimal MOST_CLOCK_ENTRIES ++ codes " replicas occur in the two clocks"
 join_fault_text join_fault.Memory = codes "out of memory"
 
 abbrev pub next_fault_text : NextFault → List ℕ

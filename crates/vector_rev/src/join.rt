@@ -13,7 +13,7 @@ use u1_base::{Memory, ReplicaUid};
 /// Why two clocks have no join.
 #[derive(Clone, Copy, Debug, PartialEq, Eq)]
 pub enum JoinFault {
-    /// More than 64 uids occur in the two.
+    /// More than `u1_base::limits::MOST_CLOCK_ENTRIES` uids occur in the two.
     TooMany,
     Memory,
 }
@@ -34,7 +34,12 @@ impl fmt::Display for JoinFault {
 
     fn fmt<W: fmt::Write>(&self, f: &mut fmt::Formatter<W>) -> fmt::Result {
         match self {
-            JoinFault::TooMany => f.write_str("more than 64 replicas occur in the two clocks"),
+            JoinFault::TooMany => {
+                write!(
+                    f,
+                    "more than {MOST_CLOCK_ENTRIES} replicas occur in the two clocks"
+                )
+            }
             JoinFault::Memory => f.write_str("out of memory"),
         }
     }

@@ -27,7 +27,7 @@ use u1_base::{IdFault, Memory, ReplicaUid, Text};
 pub enum ClockFault {
     /// There is no entry.
     Empty,
-    /// There are more than 64 entries.
+    /// There are more than `u1_base::limits::MOST_CLOCK_ENTRIES` entries.
     TooMany,
     /// The first entry that is no replica uid with a counter from 1 to 2^63-1.
     BadEntry(u64),
@@ -45,7 +45,9 @@ impl fmt::Display for ClockFault {
     fn fmt<W: fmt::Write>(&self, f: &mut fmt::Formatter<W>) -> fmt::Result {
         match self {
             ClockFault::Empty => f.write_str("the clock has no entry"),
-            ClockFault::TooMany => f.write_str("the clock has more than 64 entries"),
+            ClockFault::TooMany => {
+                write!(f, "the clock has more than {MOST_CLOCK_ENTRIES} entries")
+            }
             ClockFault::BadEntry(place) => write!(
                 f,
                 "entry {place} of the clock is not a replica uid with a counter"

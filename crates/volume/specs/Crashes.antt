@@ -10,6 +10,7 @@ use Rattle.disks.specs.Moments.{LeavesTogether}
 use Rattle.journal.specs.Image.{Head}
 use Rattle.journal.specs.Journal.{Extent}
 use Rattle.journal.specs.Spelled.{Spelled, Spells}
+use Rattle.journal.specs.declared.layout.TheConstants.{SECOND_FORMAT}
 use Rattle.volume.specs.Store.{Found, found_of, IsStore}
 use Rattle.volume.specs.Store.Found.{Blank, Stands}
 
@@ -24,9 +25,10 @@ pub record OnlyLooks (old new : Devices) : Type 0 where
 abbrev pub MayFind : JointMoment → Found → Type 0
 MayFind moment found = (files : Trio (List ℕ)) × AreCrashImages moment files × (found ≡ found_of files)
 
--- the empty store of this head, in format 2, on either side
+-- the empty store of this head, in the format that is written, on either side
 abbrev pub IsEmptyStore : Head → Found → Type 0
-IsEmptyStore head found = (found ≡ Stands Left 2 head []) ⊎ (found ≡ Stands Right 2 head [])
+IsEmptyStore head found =
+    (found ≡ Stands Left SECOND_FORMAT head []) ⊎ (found ≡ Stands Right SECOND_FORMAT head [])
 
 -- there is no database, or the empty store of this head
 abbrev pub IsBlankOrEmpty : Head → Found → Type 0
@@ -57,4 +59,4 @@ LeavesOldOrNew side spelled old new =
     → (journal : Extent) (from : DiskName) (format : ℕ) (former : Head) (rows : List (List ℕ)) → from ≢ side
     → IsStore journal from format former rows old.files
     → LeavesTogether old new (λ files. (found_of files ≡ Stands from format former rows)
-    ⊎ (found_of files ≡ Stands side 2 head bodies))
+    ⊎ (found_of files ≡ Stands side SECOND_FORMAT head bodies))

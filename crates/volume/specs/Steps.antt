@@ -5,6 +5,7 @@ use Rattle.disks.specs.declared.trio.Trio.{Trio}
 use Rattle.disks.specs.Joint.{Devices}
 use Rattle.disks.specs.Moments.{LeavesTogether}
 use Rattle.journal.specs.Image.{Head, ReadsAs}
+use Rattle.journal.specs.declared.layout.TheConstants.{SECOND_FORMAT}
 use Rattle.volume.specs.Store.{found_of, Names}
 use Rattle.volume.specs.Store.Found.{Blank}
 use Rattle.volume.specs.Crashes.{IsEmptyStore}
@@ -28,5 +29,5 @@ pub record IsMade (image : List ℕ) (files : Trio File) : Type 0 where
 -- a crash on the way leaves no store, or the empty one that these bytes are
 abbrev pub LeavesBlankOrEmpty : List ℕ → Devices → Devices → Type 0
 LeavesBlankOrEmpty image old new =
-    (head : Head) → ReadsAs 2 head [] image
+    (head : Head) → ReadsAs SECOND_FORMAT head [] image
     → LeavesTogether old new (λ files. (found_of files ≡ Blank) ⊎ IsEmptyStore head (found_of files))

@@ -8,6 +8,7 @@ use Rattle.disks.specs.Trio.{pick}
 use Rattle.journal.specs.Image.{Head}
 use Rattle.journal.specs.Journal.{Extent, Holds}
 use Rattle.journal.specs.Spelled.{Spelled, Spells}
+use Rattle.journal.specs.declared.layout.TheConstants.{SECOND_FORMAT}
 use Rattle.journal.specs.Reader.{Reading, read_image}
 use Rattle.journal.specs.Reader.Reading.{Damaged as Broken, Stands as Reads}
 
@@ -54,7 +55,8 @@ pub record IsStore (journal : Extent) (side : DiskName) (format : ℕ) (head : H
 -- the store of the image that is spelled stands on this side
 abbrev pub StandsSpelled : Spelled → Extent → DiskName → Trio File → Type 0
 StandsSpelled spelled journal side files =
-    (head : Head) (bodies : List (List ℕ)) → Spells head bodies spelled → IsStore journal side 2 head bodies files
+    (head : Head) (bodies : List (List ℕ)) → Spells head bodies spelled
+    → IsStore journal side SECOND_FORMAT head bodies files
 
 -- some store of this journal stands on this side
 abbrev pub IsOpen : Extent → DiskName → Trio File → Type 0

@@ -5,6 +5,7 @@ ghost use Rattle.disk_model.specs.Counts.{called};
 ghost use Rattle.disks.specs.Disks.{disks_known};
 ghost use Rattle.disks.specs.Joint.{seen_of};
 ghost use Rattle.journal.specs.Journal.{IsExtent};
+ghost use Rattle.journal.specs.declared.layout.TheConstants.{SECOND_FORMAT};
 ghost use Rattle.volume.specs.Store.{IsStore, found_of};
 ghost use Rattle.volume.specs.Crashes.{IsBlankOrEmpty, LeavesOldOrEmpty, OnlyLooks};
 ghost use Rattle.volume.specs.Making.{Inits};
@@ -82,8 +83,9 @@ pub fn init_images<D: Disk>(
         × (IsTrue D.tells → root ≡ (disks_known D.known disks.old).files.root.seen)
         × Inits root result }
     ensures ok { IsTrue D.tells → IfOk result (λ journal.
-        IsStore journal DiskName.Left 2 header.now [] (disks_known D.known disks.new).files) }
-    ensures extent { IfOk result (λ journal. IsExtent 2 header.now [] journal) }
+        IsStore journal DiskName.Left SECOND_FORMAT header.now []
+        (disks_known D.known disks.new).files) }
+    ensures extent { IfOk result (λ journal. IsExtent SECOND_FORMAT header.now [] journal) }
     ensures looks { IsTrue D.tells → (disks_known D.known disks.old).files.root.seen ≢ []
         → OnlyLooks (disks_known D.known disks.old) (disks_known D.known disks.new) }
     ensures left { IsTrue D.tells → (disks_known D.known disks.old).files.root.seen ≡ []

@@ -28,6 +28,7 @@ returns g c =
     let both : vec_items lower ++ vec_items upper ≡ vec_items (get_or old at was) =
     c.level.ensures.items ∙ ap (λ (l : List g.row.T.Denot). vec_items was ++ l) none ∙ append-nil (vec_items was)
     ∙ ap vec_items was_is in
+    let stay = c.staying-count.ensures in
     let over : vec_len was ≡ full + 1 = omega (arith, c.requires.over was, ap vec_len was_is) in
     record {
       same = ap joined c.put.ensures.items ∙ ap (λ (n : _). joined (insert (set old at lower) n upper)) (add-one at)
@@ -41,8 +42,14 @@ returns g c =
             c.requires.chunks.wide at was c.requires.chunks.within,
           ))
           (omega (arith, c.level.ensures.upper_capacity, spare.wide))
-          (record { short = omega (arith, c.level.ensures.len); some = λ _. omega (arith, c.level.ensures.len) })
-          (record { short = omega (arith, c.level.ensures); some = λ _. omega (arith, c.level.ensures) }));
+          (record {
+            short = omega (arith, c.level.ensures.len, stay.fits);
+            some = λ _. omega (arith, c.level.ensures.len, stay.some);
+          })
+          (record {
+            short = omega (arith, c.level.ensures, stay.some);
+            some = λ _. omega (arith, c.level.ensures, stay.fits);
+          }));
       turned = record {
         each = all.0;
         fewer = omega (arith, c.put.ensures.len, c.take_last-upper.ensures.len);

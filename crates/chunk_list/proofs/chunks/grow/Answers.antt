@@ -18,13 +18,14 @@ loop-chunks-preserved g c =
     record { wide = omega (arith, c.in_ok-chunk.ensures.exact); empty = c.in_ok-chunk.ensures.len } in
     record {
       same = ap joined e.same.0 ∙ v.same;
-      laid_out = same_laid_out e.same.0 e.same.2 v.laid_out;
+      laid_out = same_laid_out e.same.0 e.same.2 e.same.3 v.laid_out;
       turns = record {
         each = subst (λ (l : List (Vec g.row.T.Denot)). All IsSpare l) (sym p.items)
             (All-push IsSpare c.extend.new.spare.items c.in_ok-chunk.chunk e.turns.each chunk);
         chunks_fit = omega (arith, ok.0, p.len);
         spare_fit = omega (arith, ok.1, p.len, p.capacity);
         starts_fit = omega (arith, ok.2, p.len);
+        blocks_fit = omega (arith, ok.3, p.len);
         first = omega arith;
       };
       long = omega (
@@ -48,20 +49,25 @@ loop-chunks-preserved-then-len-eq0 g c =
     let p = c.push_reserved.ensures in
     let first = c.in_ok-chunk.chunk in
     let none = nil_from_length c.extend.new.chunks.items (omega (arith, c.extend.new.chunks.ok.0)) in
-    let no_start = nil_from_length c.extend.new.starts.items
-    (omega (arith, ap length e.same.2, v.laid_out.starts_are.as_many, ap length e.same.0, ap length none)) in
+    let s = v.laid_out.starts_are in
+    let no_start = nil_from_length c.extend.new.starts.inside.items
+    (omega (arith, ap length e.same.2, s.as_many, ap length e.same.0, ap length none)) in
+    let no_block = nil_from_length c.extend.new.starts.bases.items
+    (omega (arith, ap length e.same.3, s.no_more, ap length e.same.0, ap length none)) in
     let is_chunks = p.items ∙ ap (λ (l : List (Vec g.row.T.Denot)). l ++ first ∷ []) none in
     let is_starts = c.push_reserved-then-len-eq0.ensures.items ∙ ap (λ (l : List _). l ++ 0 ∷ []) no_start in
+    let is_bases = c.push_reserved-then-len-eq0-2.ensures.items ∙ ap (λ (l : List _). l ++ 0 ∷ []) no_block in
     let only = only_spare first
     (record { wide = omega (arith, c.in_ok-chunk.ensures.exact); empty = c.in_ok-chunk.ensures.len }) in
     record {
       same = ap joined is_chunks ∙ only.0 ∙ sym (ap joined none) ∙ ap joined e.same.0 ∙ v.same;
-      laid_out = same_laid_out is_chunks is_starts only.1;
+      laid_out = same_laid_out is_chunks is_starts is_bases only.1;
       turns = record {
         each = e.turns.each;
         chunks_fit = omega (arith, ok.0, p.len, p.capacity);
         spare_fit = omega (arith, ok.1, p.len);
         starts_fit = omega (arith, ok.2, p.len, c.push_reserved-then-len-eq0.ensures.capacity);
+        blocks_fit = omega (arith, ok.3, p.len, c.push_reserved-then-len-eq0-2.ensures.capacity);
         first = λ _. omega (arith, p.len);
       };
       long = omega (

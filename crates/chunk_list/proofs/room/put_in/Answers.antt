@@ -1,6 +1,7 @@
 -- The chunk that the place falls into has the item.
-use Rattle.std.proofs.Common.{arith, refl, ap}
+use Rattle.std.proofs.Common.{◌*◌, arith, refl, ap}
 use Rattle.std.specs.Vec.{vec_items, vec_len}
+use Rattle.chunk_list.specs.Chunks.{block}
 use Rattle.chunk_list.proofs.Edits.{edit, edited, new_at, put_joined, same_len, starts_with}
 use Rattle.chunk_list.proofs.Pieces.{start_at-most}
 use Rattle.chunk_list.proofs.room.put_in.Goals as goal
@@ -13,16 +14,27 @@ put-requires-clause-place g c = let old = c.index_mut-chunk.result.now
     in omega (arith, c.locate-at.ensures.up_to old, ap vec_len c.index_mut-chunk.ensures.value)
 
 pub shift-requires-clause-fits : goal.shift-requires-clause-fits
-shift-requires-clause-fits g c k gt lt =
+shift-requires-clause-fits g c k gt lt near =
     let s = c.requires.laid_out.starts_are in (
       omega arith,
       omega (
         arith,
-        s.begins k (omega (arith, s.as_many)),
+        s.begins k (omega (arith, lt, s.as_many)),
         start_at-most vec_items c.args.chunks.now.items k,
         c.requires.fits,
       ),
     )
+
+pub shift-requires-clause-blocks_fit : goal.shift-requires-clause-blocks_fit
+shift-requires-clause-blocks_fit g c b gt lt = (
+  omega arith,
+  omega (
+    arith,
+    c.requires.laid_out.starts_are.blocks b lt,
+    start_at-most vec_items c.args.chunks.now.items (b * block),
+    c.requires.fits,
+  ),
+)
 
 pub returns : goal.returns
 returns g c =
@@ -34,9 +46,12 @@ returns g c =
       items = put_joined e c.args.item c.put.ensures.items;
       chunks = edited e (omega (arith, c.put.ensures.len, same_len e old, held.short));
       some = λ d. omega (arith, ap vec_len (new_at e d), c.put.ensures.len);
-      starts = starts_with e c.shift.new.starts.items c.shift.ensures.len c.shift.ensures.low
-          (λ k gt lt. omega (arith, c.shift.ensures.high k gt lt, c.put.ensures.len));
+      starts = starts_with e c.shift.new.starts.inside.items c.shift.new.starts.bases.items c.shift.ensures.len
+          c.shift.ensures.blocks c.shift.ensures.low
+          (λ k gt lt. omega (arith, c.shift.ensures.high k gt lt, c.put.ensures.len)) c.shift.ensures.blocks_low
+          (λ b gt lt. omega (arith, c.shift.ensures.blocks_high b gt lt, c.put.ensures.len));
       len = refl;
       capacity = refl;
       starts_capacity = c.shift.ensures.capacity;
+      blocks_capacity = c.shift.ensures.blocks_capacity;
     }

@@ -2,7 +2,7 @@
 use Rattle.std.proofs.Common.{◌*◌, ◌<◌, ◌≤◌, ℕ, length, get_or, arith, sym, subst, inl, inr}
 use Rattle.std.proofs.lemmas.Bool.{cases_eq}
 use Rattle.std.specs.Vec.{vec_items}
-use Rattle.chunk_list.specs.Chunks.{joined}
+use Rattle.chunk_list.specs.Chunks.{full, joined}
 use Rattle.chunk_list.proofs.Pieces.{length-over}
 use Rattle.chunk_list.proofs.room.relieve.Goals as goal
 
@@ -11,10 +11,10 @@ returns-in_default-nearest-clause-chunks g c =
     let chunks = c.args.chunks.now in
     let old = chunks.items in
     let b = c.requires.chunks in
-    let too_many : length old * 512 < length (joined old) =
-    length-over vec_items old 512 c.args.at
+    let too_many : length old * full < length (joined old) =
+    length-over vec_items old full c.args.at
     (λ k d lt. elim (cases_eq k c.args.at) [
-      | inl e ↦ subst (λ (m : ℕ). 512 ≤ length (vec_items (get_or old m d))) (sym e)
+      | inl e ↦ subst (λ (m : ℕ). full ≤ length (vec_items (get_or old m d))) (sym e)
           (omega (arith, c.requires.over d, (get_or old c.args.at d).ok.0))
       | inr ne ↦ omega (
         arith,

@@ -1,31 +1,19 @@
--- One pair more is in the list, and one less is left.
-use Rattle.std.proofs.Common.{arith}
+-- Pairs in another order are the same pairs.
 use Rattle.index_tables.specs.Seen.{seen}
-use Rattle.index_tables.proofs.PutIn.{is_fresh, rest_distinct, rest_fresh, all_members}
+use Rattle.index_tables.proofs.Mixed.{mixed_both, mixed_distinct, mixed_new}
 use Rattle.index_tables.proofs.edits.put_all.Goals as goal
 
-pub put-requires-clause-fresh : goal.put-requires-clause-fresh
-put-requires-clause-fresh c =
-    let i = c.loop-pair.invariant in
-    is_fresh (seen c.loop-pair.list.items) (seen c.loop-pair.list.items) (seen c.args.list.now.items)
-    (seen c.args.pairs.items) c.loop-pair.pairs.items c.pop.new.self.items c.in-Some.pair c.in-Some.ensures.items
-    i.distinct i.fresh
+pub put_each-requires-else-len-lt-MANY-clause-distinct : goal.put_each-requires-else-len-lt-MANY-clause-distinct
+put_each-requires-else-len-lt-MANY-clause-distinct c =
+    mixed_distinct c.args.pairs.items c.falling-sorted.result.items c.falling-sorted.ensures.same c.requires.distinct
 
-pub loop-pair-preserved : goal.loop-pair-preserved
-loop-pair-preserved c =
-    let i = c.loop-pair.invariant in
-    let taken = c.in-Some.ensures.items in
-    record {
-      order = c.put.ensures.order;
-      distinct = rest_distinct (seen c.loop-pair.list.items) (seen c.put.new.list.items) (seen c.args.list.now.items)
-          (seen c.args.pairs.items) c.loop-pair.pairs.items c.pop.new.self.items c.in-Some.pair taken
-          i.distinct i.fresh;
-      fresh = rest_fresh (seen c.loop-pair.list.items) (seen c.put.new.list.items) (seen c.args.list.now.items)
-          (seen c.args.pairs.items) c.loop-pair.pairs.items c.pop.new.self.items c.in-Some.pair taken i.distinct
-          i.fresh c.put.ensures.members;
-      members = all_members (seen c.loop-pair.list.items) (seen c.put.new.list.items) (seen c.args.list.now.items)
-          (seen c.args.pairs.items) c.loop-pair.pairs.items c.pop.new.self.items c.in-Some.pair taken i.distinct
-          i.fresh c.put.ensures.members i.members;
-      count = omega (arith, c.in-Some.ensures.cases);
-      room = omega (arith, c.in-Some.ensures.cases);
-    }
+pub put_each-requires-else-len-lt-MANY-clause-fresh : goal.put_each-requires-else-len-lt-MANY-clause-fresh
+put_each-requires-else-len-lt-MANY-clause-fresh c =
+    mixed_new c.args.pairs.items c.falling-sorted.result.items c.falling-sorted.ensures.same
+    (seen c.args.list.now.items) c.requires.fresh
+
+pub returns-else-len-lt-MANY-clause-members : goal.returns-else-len-lt-MANY-clause-members
+returns-else-len-lt-MANY-clause-members c =
+    mixed_both c.args.pairs.items c.falling-sorted.result.items c.falling-sorted.ensures.same
+    (seen c.args.list.now.items) (seen c.put_each-else-len-lt-MANY.new.list.items)
+    c.put_each-else-len-lt-MANY.ensures.members

@@ -6,8 +6,8 @@ use Rattle.journal.specs.Damage.{Begins}
 use Rattle.journal.proofs.Fields.{begins_long, body_begins, body_is, length-body_field}
 use Rattle.journal.proofs.reading.body_of.Goals as goal
 
-pub returns-then-bytes-lt4 : goal.returns-then-bytes-lt4
-returns-then-bytes-lt4 c body is b =
+pub returns-then-bytes-lt-BODY_LENGTH_BYTES : goal.returns-then-bytes-lt-BODY_LENGTH_BYTES
+returns-then-bytes-lt-BODY_LENGTH_BYTES c body is b =
     absurd (omega (arith, begins_long (body_field body) c.args.bytes.now b, length-body_field body))
 
 pub returns-then-size-eq0 : goal.returns-then-size-eq0

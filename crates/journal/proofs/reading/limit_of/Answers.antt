@@ -12,8 +12,8 @@ limit_is : (n limit : ℕ) (bytes : List ℕ) → n < 2 ^ 64 → IsLimit limit �
 limit_is n limit bytes small known e b = u64-same n limit small (omega (arith, known.1))
     (sym e ∙ limit_front limit bytes b)
 
-pub returns-then-bytes-lt8 : goal.returns-then-bytes-lt8
-returns-then-bytes-lt8 c limit known b =
+pub returns-then-bytes-lt-LIMIT_BYTES : goal.returns-then-bytes-lt-LIMIT_BYTES
+returns-then-bytes-lt-LIMIT_BYTES c limit known b =
     absurd (omega (arith, begins_long (u64_bytes limit) c.args.bytes.now b, length-u64 limit))
 
 pub returns-then-limit-lt-LEAST_IMAGE_LIMIT : goal.returns-then-limit-lt-LEAST_IMAGE_LIMIT

@@ -7,8 +7,8 @@ use Rattle.journal.specs.Damage.{Begins}
 use Rattle.journal.proofs.Fields.{begins_long, length-text_field, text_begins, text_is}
 use Rattle.journal.proofs.reading.text_of.Goals as goal
 
-pub returns-then-bytes-lt2 : goal.returns-then-bytes-lt2
-returns-then-bytes-lt2 c text short utf8 b =
+pub returns-then-bytes-lt-TEXT_LENGTH_BYTES : goal.returns-then-bytes-lt-TEXT_LENGTH_BYTES
+returns-then-bytes-lt-TEXT_LENGTH_BYTES c text short utf8 b =
     let h = begins_long (text_field text) c.args.bytes.now b in absurd (omega (arith, h, length-text_field text))
 
 pub returns-then-rest-size : goal.returns-then-rest-size

@@ -1,38 +1,9 @@
--- The next id is none of the earlier ones, so that its pairs are new.
-use Rattle.std.proofs.Common.{◌∙◌, ◌≤◌, List, length, arith, ap}
-use Rattle.std.specs.Prelude.{slice_get}
-use Rattle.conflicts.specs.Kept.{Kept}
-use Rattle.conflicts.specs.State.{Text}
-use Rattle.replica_state.proofs.Building.{next_fresh, next_table, past_end, whole}
+-- The table holds the pairs of the documents and no others.
+use Rattle.replica_state.proofs.Building.{ok_table}
+use Rattle.replica_state.specs.Keyed.{keyed}
 use Rattle.replica_state.proofs.build.build.Goals as goal
-use Rattle.replica_state.proofs.build.build.Goals.{else-loop-place-test, then-loop-place-test+in_default}
-
-pub add-requires-clause-fresh : goal.add-requires-clause-fresh
-add-requires-clause-fresh c =
-    next_fresh c.args.exprs.now.texts c.args.docs.now.pairs c.args.docs.now.sorted c.loop-place.place c.in-Some.id.now
-    c.in-Some.set.now
-    (c.in-Some.ensures.value
-    ∙ ap (λ (l : List (Text × Kept)). slice_get l c.loop-place.place) c.loop-place.invariant.walk)
-    c.loop-place.table.pairs c.loop-place.invariant.table c.in_ok-keys.keys
-
-pub loop-place-preserved : goal.loop-place-preserved
-loop-place-preserved c = record {
-  walk = c.in-Some.ensures.pairs ∙ c.loop-place.invariant.walk;
-  table = next_table c.args.exprs.now.texts c.args.docs.now.pairs c.args.docs.now.sorted c.loop-place.place
-      c.in-Some.id.now c.in-Some.set.now
-      (c.in-Some.ensures.value
-      ∙ ap (λ (l : List (Text × Kept)). slice_get l c.loop-place.place) c.loop-place.invariant.walk)
-      c.loop-place.table.pairs c.loop-place.invariant.table c.in_ok-keys.keys c.add.new.self.pairs
-      c.in_ok-keys.ensures.value c.in_ok-add.ensures.ok;
-}
 
 pub returns : goal.returns
 returns c =
-    let docs = c.args.docs.now.pairs in
-    let all : length docs ≤ c.loop-place.place = elim c.loop-place-test.branch [
-      | else-loop-place-test w ↦ omega (arith, w.loop-place-test.false, c.length-place-end.ensures)
-      | then-loop-place-test+in_default w ↦ past_end docs c.loop-place.place
-          (w.in_default.ensures.value
-          ∙ ap (λ (l : List (Text × Kept)). slice_get l c.loop-place.place) c.loop-place.invariant.walk)
-    ] in
-    whole c.args.exprs.now.texts docs c.loop-place.place c.loop-place.table.pairs all c.loop-place.invariant.table
+    ok_table c.table_with.result (keyed c.args.exprs.now.texts c.args.docs.now.pairs) c.in_ok-pairs.pairs
+    c.in_ok-pairs.ensures c.table_with.ensures

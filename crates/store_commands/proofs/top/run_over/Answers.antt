@@ -8,9 +8,14 @@ pub returns : goal.returns
 returns g c =
     let carried = c.carry_out-ended.ensures in
     let runs : Runs c.args.command.now c.args.seed
-    (record { store = g.T.Store.known c.args.store; input = g.S.Source.known c.args.input.now })
+    (record {
+      store = g.T.Store.known c.args.store;
+      image = g.T.Store.image c.args.store;
+      input = g.S.Source.known c.args.input.now;
+    })
     (record {
       store = g.T.Store.known c.carry_out-ended.result.1;
+      image = g.T.Store.image c.carry_out-ended.result.1;
       input =
           g.S.Source.known c.carry_out-ended.new.input;
     })

@@ -20,6 +20,7 @@ invariant_of-self g c =
     record {
       laid_out = record { chunks_are = r.chunks; starts_are = c.recount.ensures.starts };
       turns = can_turn v.turns p.len p.capacity r.turned (c.recount.ensures.capacity ∙ p.starts_capacity)
+          (c.recount.ensures.blocks_capacity ∙ p.blocks_capacity)
           (λ _. omega (arith, new.ok.0, some_chunk new.items (omega (arith, long))));
       counted = omega (arith, v.counted, long);
       enough = omega (arith, v.enough, r.long, p.len, room);

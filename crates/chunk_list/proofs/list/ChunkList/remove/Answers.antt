@@ -15,7 +15,8 @@ invariant_of-self g c =
     let long = length-remove (joined c.self.inside.chunks.items) c.args.place place in
     record {
       laid_out = record { chunks_are = s.same.1; starts_are = c.recount.ensures.starts };
-      turns = can_turn v.turns t.len t.capacity s.turned (c.recount.ensures.capacity ∙ t.starts_capacity) (λ _. s.some);
+      turns = can_turn v.turns t.len t.capacity s.turned (c.recount.ensures.capacity ∙ t.starts_capacity)
+          (c.recount.ensures.blocks_capacity ∙ t.blocks_capacity) (λ _. s.some);
       counted = omega (arith, v.counted, ap length s.same.0, ap length t.items, long);
       enough = omega (arith, v.enough, t.len, c.div_ceil-needed.ensures, s.needed);
       fits = omega (arith, v.fits);
@@ -33,7 +34,7 @@ invariant_of-self-else-at-gt0 g c =
             (λ d. record { short = t.short d; some = λ later. absurd (omega (arith, c.if-at-gt0.false)) });
         starts_are = t.starts;
       };
-      turns = can_turn v.turns t.len t.capacity (all_stay v.turns) t.starts_capacity
+      turns = can_turn v.turns t.len t.capacity (all_stay v.turns) t.starts_capacity t.blocks_capacity
           (λ more. omega (arith, v.turns.first more, t.len));
       counted = omega (arith, v.counted, ap length t.items, long);
       enough = omega (arith, v.enough, t.len);

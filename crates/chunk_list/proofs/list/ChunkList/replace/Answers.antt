@@ -27,9 +27,10 @@ invariant_of-self g c =
               some =
                   λ later. omega (arith, long, same_len e old, held.some later);
             });
-        starts_are = starts_with e c.self.inside.starts.items refl (λ k le. refl) (λ k gt lt. refl);
+        starts_are = starts_with e c.self.inside.starts.inside.items c.self.inside.starts.bases.items refl refl
+            (λ k le. refl) (λ k gt lt. refl) (λ b le. refl) (λ b gt lt. refl);
       };
-      turns = can_turn v.turns refl refl (all_stay v.turns) refl v.turns.first;
+      turns = can_turn v.turns refl refl (all_stay v.turns) refl refl v.turns.first;
       counted = omega (
         arith,
         v.counted,

@@ -1,6 +1,5 @@
 -- First the chunk, then the place inside it.
 use Rattle.std.proofs.Common.{◌≡◌, ◌∙◌, ◌+◌, ◌^◌, ◌<◌, ◌≤◌, List, true, false, length, get_or, arith, ap}
-use Rattle.std.proofs.lemmas.List.{get_or_read}
 use Rattle.std.proofs.lemmas.List.Folds.{length-flat_map-take}
 use Rattle.std.specs.Fn.{FnReturnsAt}
 use Rattle.std.specs.Option.{option_copied}
@@ -8,7 +7,7 @@ use Rattle.std.specs.Prelude.{slice_get}
 use Rattle.std.specs.Vec.{vec_items, vec_len}
 use Rattle.chunk_list.specs.Chunks.{joined}
 use Rattle.chunk_list.proofs.Found.{IsSearched, begin_is, found_within, chunk_within, found_before, found_after}
-use Rattle.chunk_list.proofs.Pieces.{length-pieces}
+use Rattle.chunk_list.proofs.Pieces.{length-pieces, start_at-most}
 use Rattle.chunk_list.proofs.Places.{item_of_chunk}
 use Rattle.chunk_list.proofs.list.ChunkList.search.Goals as goal
 use Rattle.chunk_list.proofs.list.ChunkList.search.Goals.{in-Some, in-None}
@@ -20,14 +19,12 @@ overflow_add-found g c =
     let at = c.chunk_of-at.result in
     let within = c.chunk_of-at.ensures.within in
     let chunk = c.index-chunk.result.now in
-    let begins = get_or_read c.self.inside.starts.items at c.index-start.result.now
-    (omega (arith, within, v.laid_out.starts_are.as_many)) c.index-start.ensures 0 in
     let same = ap vec_len c.index-chunk.ensures in
     omega (
       arith,
       v.counted,
       v.fits,
-      begins,
+      c.at-start.ensures,
       v.laid_out.starts_are.begins at within,
       length-flat_map-take vec_items chunks at chunk within,
       same,
@@ -36,16 +33,28 @@ overflow_add-found g c =
       chunk.ok.0,
     )
 
+pub at-start-requires-clause-fits : goal.at-start-requires-clause-fits
+at-start-requires-clause-fits g c =
+    let v = c.self.invariant in
+    let at = c.chunk_of-at.result in
+    omega (
+      arith,
+      v.counted,
+      v.fits,
+      v.laid_out.starts_are.begins at c.chunk_of-at.ensures.within,
+      start_at-most vec_items c.self.inside.chunks.items at,
+    )
+
 pub returns : goal.returns
 returns g c =
     let v = c.self.invariant in
     let chunks = c.self.inside.chunks.items in
     let place = c.place_in-place.result in
-    let s : IsSearched chunks c.self.inside.starts.items c.chunk_of-at.result c.index-start.result.now
-    c.place_in-place.result c.min-known.result c.index-chunk.result.now = record {
+    let s : IsSearched chunks c.self.inside.starts.inside.items c.self.inside.starts.bases.items
+    c.chunk_of-at.result c.at-start.result c.place_in-place.result c.min-known.result c.index-chunk.result.now = record {
       laid_out = v.laid_out;
       within = c.chunk_of-at.ensures.within;
-      start_is = c.index-start.ensures;
+      start_is = c.at-start.ensures;
       is = c.index-chunk.ensures;
       known_is = c.min-known.ensures;
       low = c.place_in-place.ensures.low;

@@ -1,8 +1,0 @@
--- One pair for each key so far.
-use Rattle.std.proofs.Common.{◌≡◌}
-use Rattle.index_tables.specs.Entries.{entries_of}
-use Rattle.index_tables.specs.Seen.{seen}
-use Rattle.index_tables.proofs.pairs.make_pairs.Given as goal
-
-abbrev pub invariant-loop-key : goal.invariant-loop-key
-invariant-loop-key l = seen l.pairs.items ≡ entries_of l.id l.yielded

@@ -1,8 +1,0 @@
--- A read that was interrupted took nothing.
-use Rattle.std.proofs.Common.{◌≡◌, length}
-use Rattle.std.specs.Io.KnownBytes.{Keeps}
-use Rattle.link.proofs.retried.read_on.Given as goal
-
-abbrev pub invariant-loop : goal.invariant-loop
-invariant-loop g l = (length l.into ≡ length l.initial.into)
-    × Keeps (g.R.Read.remaining l.initial.reader) (g.R.Read.remaining l.reader)

@@ -1,0 +1,126 @@
+-- Writing the image of a volume anew with what a compaction leaves: what is answered, and what a crash on the way
+-- leaves.
+use Rattle.std.specs.Prelude.{◌≡◌, ◌≢◌, ◌⊎◌, ℕ, ◌-◌, ◌^◌, List, [], ◌∷◌, ◌++◌, Bool, false, length, map, min, Result}
+use Rattle.std.specs.Prelude.{Ok, Err}
+use Rattle.compaction.specs.Compaction.{compaction, trimmed}
+use Rattle.compaction.specs.Images.{bodies_of, image_of, uids_after}
+use Rattle.conflicts.specs.State.{History, State, Step, Text}
+use Rattle.disk_model.specs.Device.{Device}
+use Rattle.disks.specs.declared.name.DiskName.{DiskName}
+use Rattle.disks.specs.declared.name.DiskName.TheVariants.{Root, Left, Right}
+use Rattle.disks.specs.declared.trio.Trio.{Trio}
+use Rattle.disks.specs.Joint.{Devices, seen_of}
+use Rattle.disks.specs.Moments.{LeavesTogether}
+use Rattle.journal.specs.Image.{Head}
+use Rattle.journal.specs.Stored.{StoredImage}
+use Rattle.journal.specs.declared.layout.TheConstants.{FIRST_FORMAT, SECOND_FORMAT}
+use Rattle.record_codec.specs.declared.decoding.RecordFault.{RecordFault}
+use Rattle.record_codec.specs.declared.decoding.RecordFault.TheVariants as record_fault
+use Rattle.replica_core.specs.Replica.{Known}
+use Rattle.replica_core.specs.Replica.Found.{Stands}
+use Rattle.replica_state.specs.Steps.{step_of}
+use Rattle.replica_state.specs.declared.step.Step.{Step as Held}
+use Rattle.volume.specs.Crashes.{OnlyLooks}
+use Rattle.replica_volume.specs.Placing.{SaysSteps}
+use Rattle.replica_volume.specs.Replaying.{IsBadAt}
+use Rattle.replica_volume.specs.Store.{opens_as, store_of}
+use Rattle.replica_volume.specs.Store.StoreFound.{Holds}
+use Rattle.replica_volume.specs.Volume.{IsOpenVolume, KeepsHistory, devices, volume_known}
+use Rattle.replica_volume.specs.declared.compact_fault.CompactFault.{CompactFault}
+use Rattle.replica_volume.specs.declared.compact_fault.CompactFault.TheVariants as fault
+use Rattle.replica_volume.specs.declared.compact_fault.Sizes.{Sizes}
+use Rattle.replica_volume.specs.declared.replica.Volume.{Volume}
+
+-- the image that does not lie on this side
+abbrev pub other_side : DiskName → DiskName
+other_side Root = Left
+other_side Left = Right
+other_side Right = Left
+
+-- ---- what is answered
+
+-- the lengths of the image before, and of the one after
+abbrev pub sizes_of : {D : Type 0} → Volume D → Volume D → Sizes
+sizes_of old new = record { before = old.journal.length; after = new.journal.length }
+
+-- What there is when a history was compacted whose image lay on this side: the compaction, on the other side; the sizes
+-- of the two images; the limit of the image that was there; and a step needs what it takes behind the compaction.
+pub record IsCompacted (side : DiskName) (head : Head) (h : History) (files : Trio (List ℕ)) (known : Known)
+    (sizes : Sizes) : Type 0 where
+  pub holds : store_of files ≡ Holds (other_side side) SECOND_FORMAT head (compaction h)
+  pub before : sizes.before ≡ length (image_of head h)
+  pub after : sizes.after ≡ length (image_of head (compaction h))
+  pub limit : known.limit ≡ head.limit
+  pub need : (x : Step) → known.need x ≡ min (length (image_of head (compaction h ++ x ∷ []))) (2 ^ 64 - 1)
+
+-- the history that the files held was compacted
+abbrev pub Compacts : {D : Type 0} → Bool → (D → Device) → Volume D → Volume D → Sizes → Type 0
+Compacts tells known old new sizes =
+    (side : DiskName) (head : Head) (h : History)
+    → store_of (seen_of (devices known old).files) ≡ Holds side SECOND_FORMAT head h
+    → IsCompacted side head h (seen_of (devices known new).files) (volume_known tells known new) sizes
+
+-- the volume is open, but where a disk failed
+abbrev pub StaysOpen : {D : Type 0} → Bool → (D → Device) → Volume D → Result Sizes CompactFault → Type 0
+StaysOpen tells known v (Ok sizes) = IsOpenVolume tells known v
+StaysOpen tells known v (Err (fault.Damaged disk place)) = IsOpenVolume tells known v
+StaysOpen tells known v (Err fault.Disk) = v.open ≡ false
+StaysOpen tells known v (Err fault.Memory) = IsOpenVolume tells known v
+
+-- ---- what a crash leaves
+
+-- these files hold the history, on this side, or its compaction, on the other
+abbrev pub HoldOldOrCompacted : DiskName → Head → History → Trio (List ℕ) → Type 0
+HoldOldOrCompacted side head h files =
+    (store_of files ≡ Holds side SECOND_FORMAT head h)
+    ⊎ (store_of files ≡ Holds (other_side side) SECOND_FORMAT head (compaction h))
+
+-- a crash on the way leaves the history that the files held, or its compaction
+abbrev pub LeavesOldOrCompacted : Devices → Devices → Type 0
+LeavesOldOrCompacted old new =
+    (side : DiskName) (head : Head) (h : History) → store_of (seen_of old.files) ≡ Holds side SECOND_FORMAT head h
+    → LeavesTogether old new (HoldOldOrCompacted side head h)
+
+-- a crash on the way leaves what opens as this state
+abbrev pub LeavesState : State → Devices → Devices → Type 0
+LeavesState s old new = LeavesTogether old new (λ files. opens_as files ≡ Stands s)
+
+-- ---- private words: the image was written anew, or was not
+
+-- nothing was written, and the volume keeps its history
+pub record IsLeftAlone {D : Type 0} (known : D → Device) (old new : Volume D) : Type 0 where
+  pub looks : OnlyLooks (devices known old) (devices known new)
+  pub keeps : KeepsHistory new (devices known new).files
+
+-- the history was compacted, and the volume keeps the compaction
+pub record IsWrittenAnew {D : Type 0} (tells : Bool) (known : D → Device) (old new : Volume D)
+    (sizes : Sizes) : Type 0 where
+  pub keeps : KeepsHistory new (devices known new).files
+  pub compacts : Compacts tells known old new sizes
+  pub leaves : LeavesOldOrCompacted (devices known old) (devices known new)
+
+abbrev pub WritesAnew : {D : Type 0} → Bool → (D → Device) → Volume D → Volume D → Result Sizes CompactFault → Type 0
+WritesAnew tells known old new (Ok sizes) = IsWrittenAnew tells known old new sizes
+WritesAnew tells known old new (Err (fault.Damaged disk place)) = ⊥
+WritesAnew tells known old new (Err fault.Disk) = LeavesOldOrCompacted (devices known old) (devices known new)
+WritesAnew tells known old new (Err fault.Memory) = IsLeftAlone known old new
+
+-- ---- private words: the steps that are read from the image
+
+-- in format 2 bodies are those of this history, behind this uid, and leave these uids
+pub record AreThose (own : Text) (h : History) (bodies : List (List ℕ)) (uids : List Text) : Type 0 where
+  pub bodies_are : bodies ≡ bodies_of (own ∷ []) h
+  pub uids_are : uids ≡ uids_after (own ∷ []) h
+
+-- all bodies of the image say a history, and of each of its steps there is what this state alone leaves of it
+pub record AreKept (s : State) (image : StoredImage) (steps : List Held) : Type 0 where
+  pub history : History
+  pub uids : List Text
+  pub says : SaysSteps image history uids
+  pub kept : map step_of steps ≡ trimmed s history
+  pub spelled : image.format ≢ FIRST_FORMAT → AreThose image.header.uid history image.bodies uids
+
+abbrev pub KeepsSteps : State → StoredImage → Result (List Held) RecordFault → Type 0
+KeepsSteps s image (Ok steps) = AreKept s image steps
+KeepsSteps s image (Err (record_fault.Bad place)) = IsBadAt image place
+KeepsSteps s image (Err record_fault.Memory) = Unit {0}
