@@ -10,14 +10,17 @@ const AFTER: u64 = 10;
 
 /// Times the call in a log of this many entries. The result is the number of changes.
 pub fn measure(rt: &HostRuntime, size: u32) -> Result<Report, Fault> {
-    let alloc = rt.alloc();
-    let log = made(alloc, size)?;
+    let log = made(rt.alloc(), size)?;
+    compared(rt, size, &log)
+}
+
+fn compared(rt: &HostRuntime, size: u32, log: &Log) -> Result<Report, Fault> {
     let since = u64::from(size).saturating_sub(AFTER);
     let before = started(rt)?;
     let found = log.changed_since(since)?.len() as u64;
     let ours = elapsed(rt, before)?;
     let before = started(rt)?;
-    let other = in_one_pass(alloc, &log, since)?;
+    let other = in_one_pass(rt.alloc(), log, since)?;
     let peer = elapsed(rt, before)?;
     if found != other {
         return Err(Fault::Run);
@@ -49,9 +52,7 @@ fn in_one_pass(alloc: Global, log: &Log, since: u64) -> Result<u64, Fault> {
     let mut generation = 0u64;
     for entry in log.entries() {
         generation = generation.saturating_add(1);
-        if last.insert(entry.doc.as_str(), generation).is_err() {
-            return Err(Fault::Run);
-        }
+        last.insert(entry.doc.as_str(), generation)?;
     }
     let mut count = 0u64;
     for generation in last.values() {

@@ -10,13 +10,16 @@ const FIELDS: usize = 64;
 
 /// Times the reading of this many heads. The result is the length of all of them.
 pub fn measure(rt: &HostRuntime, size: u32) -> Result<Report, Fault> {
-    let alloc = rt.alloc();
-    let heads = made(alloc, size)?;
+    let heads = made(rt.alloc(), size)?;
+    compared(rt, size, &heads)
+}
+
+fn compared(rt: &HostRuntime, size: u32, heads: &Vec<String>) -> Result<Report, Fault> {
     let before = started(rt)?;
-    let length = read(alloc, &heads)?;
+    let length = read(rt.alloc(), heads)?;
     let ours = elapsed(rt, before)?;
     let before = started(rt)?;
-    let alone = read_alone(&heads)?;
+    let alone = read_alone(heads)?;
     let peer = elapsed(rt, before)?;
     if length != alone {
         return Err(Fault::Run);
@@ -40,11 +43,8 @@ fn made(alloc: Global, size: u32) -> Result<Vec<String>, Fault> {
             Connection: close\r\n\
             Content-Type: application/x-u1db-sync-stream\r\n\
             Content-Length: {number}\r\n\r\n"
-        )
-        .map_err(|_| Fault::Run)?;
-        if heads.push(head).is_err() {
-            return Err(Fault::Run);
-        }
+        )?;
+        heads.push(head)?;
     }
     Ok(heads)
 }

@@ -1,9 +1,11 @@
 //! Opening an image of entries on a disk in memory, beside a plain loop over the same bytes that
 //! copies each body.
-use crate::report::{Fault, Report, elapsed, started};
+use crate::plain_image::first_body;
+use crate::report::{Fault, Report, done, elapsed, started};
 use disk_model::MemDisk;
 use journal::{Bodies, open_image};
 use std::alloc::Global;
+use std::time::Duration;
 use u1_base::{Bytes, Numbers};
 
 // The header of an image of the database `db` at the replica `a`, with the greatest limit.
@@ -11,20 +13,12 @@ const HEADER: &[u8] = b"U1DBVOL\x02\0\x02db\0\x01a\0\0\x01\0\0\0\0\0";
 
 /// Times the opening of an image of this many entries. The result is the length of all bodies.
 pub fn measure(rt: &HostRuntime, size: u32) -> Result<Report, Fault> {
-    let alloc = rt.alloc();
-    let mut disk = written(alloc, size)?;
+    let mut disk = written(rt.alloc(), size)?;
     let before = started(rt)?;
-    let Ok(opened) = open_image(alloc, &mut disk) else {
-        return Err(Fault::Run);
-    };
+    let opened = done(open_image(rt.alloc(), &mut disk))?;
     let ours = elapsed(rt, before)?;
-    let before = started(rt)?;
-    let copied = copied(alloc, disk.bytes(), HEADER.len())?;
-    let peer = elapsed(rt, before)?;
     let result = total(&opened.bodies);
-    if result != total(&copied) {
-        return Err(Fault::Run);
-    }
+    let peer = beside(rt, disk.bytes(), result)?;
     Ok(Report {
         name: "image",
         size,
@@ -32,6 +26,18 @@ pub fn measure(rt: &HostRuntime, size: u32) -> Result<Report, Fault> {
         ours,
         peer,
     })
+}
+
+// Times the plain loop, whose bodies have to have this length in all.
+fn beside(rt: &HostRuntime, bytes: &[u8], length: u64) -> Result<Duration, Fault> {
+    let before = started(rt)?;
+    let copied = copied(rt.alloc(), bytes, HEADER.len())?;
+    let peer = elapsed(rt, before)?;
+    if total(&copied) == length {
+        Ok(peer)
+    } else {
+        Err(Fault::Run)
+    }
 }
 
 // A disk that holds the image of so many entries, each with a body of about the size of a small
@@ -58,14 +64,9 @@ fn copied(alloc: Global, bytes: &[u8], start: usize) -> Result<Bodies, Fault> {
         return Err(Fault::Run);
     };
     for _ in 0..bytes.len() {
-        let [1, a, b, c, d, tail @ ..] = rest else {
+        let Some((body, others)) = first_body(rest) else {
             break;
         };
-        let length = u32::from_be_bytes([*a, *b, *c, *d]) as usize;
-        if length > tail.len() {
-            return Err(Fault::Run);
-        }
-        let (body, others) = tail.split_at(length);
         let mut copy = Bytes::new(alloc);
         copy.extend(body)?;
         bodies.push(copy)?;

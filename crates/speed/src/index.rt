@@ -9,7 +9,8 @@ use std::alloc::Global;
 use std::sync::ledger::Ledger;
 use u1_base::{DocId, IdKind, Key, Steps, Text, Texts};
 
-const NAMES: [&str; 16] = [
+/// The names of the documents, none of which another one begins with.
+pub const NAMES: [&str; 16] = [
     "ann", "bob", "carl", "dora", "evan", "finn", "gus", "hal", "ida", "jon", "kim", "lea", "max",
     "nina", "otto", "pia",
 ];
@@ -29,7 +30,7 @@ pub fn table_of(alloc: Global, size: u32, numbers: u32) -> Result<IndexTable, Fa
 }
 
 fn key_of(alloc: Global, name: &str, number: u32) -> Result<Key, Fault> {
-    let number = format!(in alloc; "{number:06}").map_err(|_| Fault::Run)?;
+    let number = format!(in alloc; "{number:06}")?;
     let mut texts = Texts::new(alloc);
     texts.push(Text::copy(alloc, name)?)?;
     texts.push(Text::from_string(number)?)?;

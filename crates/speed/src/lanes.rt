@@ -12,22 +12,18 @@ pub fn measure(rt: &HostRuntime, size: u32) -> Result<Report, Fault> {
     if size < 2 {
         return Err(Fault::Words);
     }
-    let alloc = rt.alloc();
-    let (Ok(one), Ok(two)) = (made(alloc, size), made(alloc, size)) else {
-        return Err(Fault::Run);
-    };
-    let turns = TOTAL / size;
+    let one = made(rt.alloc(), size)?;
+    let two = made(rt.alloc(), size)?;
+    compared(rt, size, &one, &two)
+}
+
+fn compared(rt: &HostRuntime, size: u32, one: &[u8], two: &[u8]) -> Result<Report, Fault> {
+    let turns = TOTAL.checked_div(size).unwrap_or(0);
     let before = started(rt)?;
-    let mut found = 0u64;
-    for _ in 0..turns {
-        found = found.saturating_add(by_lanes(part(&one, found), &two));
-    }
+    let found = in_turns_by_lanes(turns, one, two);
     let ours = elapsed(rt, before)?;
     let before = started(rt)?;
-    let mut other = 0u64;
-    for _ in 0..turns {
-        other = other.saturating_add(by_bytes(part(&one, other), &two));
-    }
+    let other = in_turns_by_bytes(turns, one, two);
     let peer = elapsed(rt, before)?;
     if found != other {
         return Err(Fault::Run);
@@ -41,17 +37,30 @@ pub fn measure(rt: &HostRuntime, size: u32) -> Result<Report, Fault> {
     })
 }
 
+fn in_turns_by_lanes(turns: u32, one: &[u8], two: &[u8]) -> u64 {
+    let mut found = 0u64;
+    for _ in 0..turns {
+        found = found.saturating_add(by_lanes(part(one, found), two));
+    }
+    found
+}
+
+fn in_turns_by_bytes(turns: u32, one: &[u8], two: &[u8]) -> u64 {
+    let mut found = 0u64;
+    for _ in 0..turns {
+        found = found.saturating_add(by_bytes(part(one, found), two));
+    }
+    found
+}
+
 // So many bytes that end with CR LF.
 fn made(alloc: Global, size: u32) -> Result<Vec<u8>, Fault> {
     let mut bytes = Vec::new(alloc);
     for _ in 2..size {
-        if bytes.push(b'a').is_err() {
-            return Err(Fault::Run);
-        }
+        bytes.push(b'a')?;
     }
-    if bytes.push(b'\r').is_err() || bytes.push(b'\n').is_err() {
-        return Err(Fault::Run);
-    }
+    bytes.push(b'\r')?;
+    bytes.push(b'\n')?;
     Ok(bytes)
 }
 

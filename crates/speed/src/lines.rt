@@ -1,5 +1,6 @@
-//! Reading a stream of documents in pieces, beside `serde_json`'s reading of each line alone.
-use crate::report::{Fault, Report, elapsed, started};
+//! Reading a stream of documents in pieces, beside `serde_json`'s reading of each line alone. On
+//! standard error a line each stands before the stream is read, and behind that.
+use crate::report::{Fault, Report, done, elapsed, started, tell};
 use crate::sent::stream;
 use serde_json::Value;
 use std::alloc::Global;
@@ -10,13 +11,18 @@ const PIECE: usize = 65_536;
 
 /// Times the reading of a stream of this many documents. The result is how many were read.
 pub fn measure(rt: &HostRuntime, size: u32) -> Result<Report, Fault> {
-    let alloc = rt.alloc();
-    let text = stream(alloc, size)?;
+    let text = stream(rt.alloc(), size)?;
+    compared(rt, size, &text)
+}
+
+fn compared(rt: &HostRuntime, size: u32, text: &[u8]) -> Result<Report, Fault> {
+    tell(rt, "lines: the stream")?;
     let before = started(rt)?;
-    let documents = read(alloc, &text)?;
+    let documents = read(rt.alloc(), text)?;
     let ours = elapsed(rt, before)?;
+    tell(rt, "lines: read")?;
     let before = started(rt)?;
-    let objects = read_alone(alloc, &text)?;
+    let objects = read_alone(rt.alloc(), text)?;
     let peer = elapsed(rt, before)?;
     if documents != u64::from(size) || objects != documents.saturating_add(1) {
         return Err(Fault::Run);
@@ -34,7 +40,7 @@ fn read(alloc: Global, text: &[u8]) -> Result<u64, Fault> {
     let mut reader = Reader::new(alloc, HeadKind::Request);
     let mut documents = 0u64;
     for piece in text.chunks(PIECE) {
-        reader.push(piece).map_err(|_| Fault::Run)?;
+        done(reader.push(piece))?;
         documents = documents.saturating_add(documents_given(alloc, &mut reader, piece.len())?);
     }
     match reader.next_line(alloc) {

@@ -5,6 +5,7 @@ use crate::set::KeySet;
 use index_tables::IndexTable;
 use std::alloc::{AllocError, Global};
 use std::collections::BTreeMap;
+use std::time::Duration;
 use u1_base::{DocId, IdKind, Key, Keys, Memory, Text, Texts};
 
 // How many keys the documents have, in turn.
@@ -37,7 +38,10 @@ pub struct PlainPair {
     id: String,
 }
 
-// The same with those pairs.
+/// The pairs of many documents.
+pub type PlainMap = BTreeMap<PlainPair, ()>;
+
+// A change with those pairs.
 #[derive(Drop)]
 struct PlainChange {
     old: Vec<PlainPair>,
@@ -47,18 +51,11 @@ struct PlainChange {
 /// Times the table of about this many pairs. The result is the number of pairs that stand in it at
 /// the end.
 pub fn measure(rt: &HostRuntime, size: u32) -> Result<Report, Fault> {
-    let alloc = rt.alloc();
-    let changes = changes(alloc, size)?;
+    let changes = changes(rt.alloc(), size)?;
     let before = started(rt)?;
-    let stood = in_table(alloc, changes)?;
+    let stood = in_table(rt.alloc(), changes)?;
     let ours = elapsed(rt, before)?;
-    let changes = plain_changes(alloc, size)?;
-    let before = started(rt)?;
-    let other = in_map(alloc, changes)?;
-    let peer = elapsed(rt, before)?;
-    if stood != other {
-        return Err(Fault::Run);
-    }
+    let peer = beside(rt, size, stood)?;
     Ok(Report {
         name: "pairs",
         size,
@@ -66,6 +63,19 @@ pub fn measure(rt: &HostRuntime, size: u32) -> Result<Report, Fault> {
         ours,
         peer,
     })
+}
+
+// Times the peer, in which as many pairs have to stand at the end.
+fn beside(rt: &HostRuntime, size: u32, stood: u64) -> Result<Duration, Fault> {
+    let changes = plain_changes(rt.alloc(), size)?;
+    let before = started(rt)?;
+    let other = in_map(rt.alloc(), changes)?;
+    let peer = elapsed(rt, before)?;
+    if other == stood {
+        Ok(peer)
+    } else {
+        Err(Fault::Run)
+    }
 }
 
 /// How many documents have so many keys in all, or a few more.
@@ -128,18 +138,20 @@ pub fn changed(alloc: Global, round: Round) -> Result<Change, Fault> {
 fn changes(alloc: Global, size: u32) -> Result<Vec<Change>, Fault> {
     let mut changes = Vec::new(alloc);
     for number in 0..documents(size) {
-        push(&mut changes, changed(alloc, Round::first(number))?)?;
+        changes.push(changed(alloc, Round::first(number))?)?;
     }
     for number in 0..documents(size) {
-        let change = changed(alloc, Round::second(number))?;
-        let old = key_set(alloc, Round::first(number))?.into_keys();
-        push(&mut changes, Change { old, ..change })?;
+        changes.push(replaced(alloc, number)?)?;
     }
     Ok(changes)
 }
 
-fn push<T: Drop>(items: &mut Vec<T>, item: T) -> Result<(), Fault> {
-    items.push(item).map_err(|_| Fault::Run)
+fn replaced(alloc: Global, number: u32) -> Result<Change, Fault> {
+    Ok(Change {
+        id: id_of(alloc, number)?,
+        old: key_set(alloc, Round::first(number))?.into_keys(),
+        new: key_set(alloc, Round::second(number))?,
+    })
 }
 
 fn id_of(alloc: Global, number: u32) -> Result<DocId, Fault> {
@@ -150,10 +162,7 @@ fn id_of(alloc: Global, number: u32) -> Result<DocId, Fault> {
 fn key_set(alloc: Global, round: Round) -> Result<KeySet, Fault> {
     let mut set = KeySet::new(alloc);
     for place in 0..round.count {
-        let Ok(text) = round.text(alloc, place) else {
-            return Err(Fault::Run);
-        };
-        set.insert(key_of(alloc, text)?)?;
+        set.insert(key_of(alloc, round.text(alloc, place)?)?)?;
     }
     Ok(set)
 }
@@ -183,24 +192,26 @@ pub fn put(table: &mut IndexTable, change: Change) -> Result<(), Memory> {
 fn plain_changes(alloc: Global, size: u32) -> Result<Vec<PlainChange>, Fault> {
     let mut changes = Vec::new(alloc);
     for number in 0..documents(size) {
-        push(
-            &mut changes,
-            PlainChange {
-                old: Vec::new(alloc),
-                new: plain_pairs(alloc, Round::first(number))?,
-            },
-        )?;
+        changes.push(plainly_put(alloc, number)?)?;
     }
     for number in 0..documents(size) {
-        push(
-            &mut changes,
-            PlainChange {
-                old: plain_pairs(alloc, Round::first(number))?,
-                new: plain_pairs(alloc, Round::second(number))?,
-            },
-        )?;
+        changes.push(plainly_replaced(alloc, number)?)?;
     }
     Ok(changes)
+}
+
+fn plainly_put(alloc: Global, number: u32) -> Result<PlainChange, Fault> {
+    Ok(PlainChange {
+        old: Vec::new(alloc),
+        new: plain_pairs(alloc, Round::first(number))?,
+    })
+}
+
+fn plainly_replaced(alloc: Global, number: u32) -> Result<PlainChange, Fault> {
+    Ok(PlainChange {
+        old: plain_pairs(alloc, Round::first(number))?,
+        new: plain_pairs(alloc, Round::second(number))?,
+    })
 }
 
 /// The pairs of a document.
@@ -208,10 +219,7 @@ pub fn plain_pairs(alloc: Global, round: Round) -> Result<Vec<PlainPair>, Fault>
     let id = id_of(alloc, round.number)?;
     let mut pairs = Vec::new(alloc);
     for place in 0..round.count {
-        let Ok(pair) = plain(alloc, &id, round, place) else {
-            return Err(Fault::Run);
-        };
-        push(&mut pairs, pair)?;
+        pairs.push(plain(alloc, &id, round, place)?)?;
     }
     Ok(pairs)
 }
@@ -226,14 +234,22 @@ fn plain(alloc: Global, id: &DocId, round: Round, place: u32) -> Result<PlainPai
 fn in_map(alloc: Global, changes: Vec<PlainChange>) -> Result<u64, Fault> {
     let mut map = BTreeMap::new(alloc);
     for change in changes {
-        for pair in &change.old {
-            let _ = map.remove(pair);
-        }
-        for pair in change.new {
-            if map.insert(pair, ()).is_err() {
-                return Err(Fault::Run);
-            }
-        }
+        replace(&mut map, change)?;
     }
     Ok(map.len() as u64)
+}
+
+fn replace(map: &mut PlainMap, change: PlainChange) -> Result<(), Fault> {
+    for pair in &change.old {
+        let _ = map.remove(pair);
+    }
+    insert_all(map, change.new)
+}
+
+/// Inserts each pair.
+pub fn insert_all(map: &mut PlainMap, pairs: Vec<PlainPair>) -> Result<(), Fault> {
+    for pair in pairs {
+        map.insert(pair, ())?;
+    }
+    Ok(())
 }

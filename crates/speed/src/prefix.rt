@@ -2,7 +2,7 @@
 ghost use Rattle.std.specs.Prelude.{◌≡◌, ◌<◌};
 
 use crate::index::{have_width, table_of};
-use crate::report::{Fault, Report, elapsed, started};
+use crate::report::{Fault, Report, done, elapsed, started};
 use index_tables::IndexTable;
 use query_range::{Pattern, matching};
 use std::alloc::Global;
@@ -38,36 +38,41 @@ impl Query {
 /// Times a query that finds one of 16 of this many documents. The result is the number of
 /// documents.
 pub fn measure(rt: &HostRuntime, size: u32) -> Result<Report, Fault> {
-    counted::<Brand>(rt, size, Query::OneOfSixteen, Blank::new(1))
+    measured(rt, size, Query::OneOfSixteen)
 }
 
 /// Times a query that finds ten of this many documents. The result is the number of documents.
 pub fn measure_few(rt: &HostRuntime, size: u32) -> Result<Report, Fault> {
-    counted::<Brand>(rt, size, Query::Ten, Blank::new(1))
+    measured(rt, size, Query::Ten)
+}
+
+fn measured(rt: &HostRuntime, size: u32, query: Query) -> Result<Report, Fault> {
+    let table = table_of(rt.alloc(), size, size)?;
+    let pattern = pattern_of(rt.alloc(), query)?;
+    counted::<Brand>(rt, size, query, &table, &pattern, Blank::new(1))
 }
 
 fn counted<L: Ledger>(
     rt: &HostRuntime,
     size: u32,
     query: Query,
+    table: &IndexTable,
+    pattern: &Pattern,
     blank: Blank,
 ) -> Result<Report, Fault>
     requires name { blank.name ≡ L.name }
     requires parts { blank.parts ≡ L.parts }
     requires some { 0 < L.parts }
 {
-    let alloc = rt.alloc();
-    let table = table_of(alloc, size, size)?;
-    let pattern = pattern_of(alloc, query)?;
     let mut steps = Steps::<L>::new(blank);
-    if !have_width(&table, pattern.parts().len(), &mut steps) {
+    if !have_width(table, pattern.parts().len(), &mut steps) {
         return Err(Fault::Run);
     }
     let before = started(rt)?;
-    let found = matching(alloc, &table, &pattern, &mut steps)?;
+    let found = matching(rt.alloc(), table, pattern, &mut steps)?;
     let ours = elapsed(rt, before)?;
     let before = started(rt)?;
-    let other = filtered(alloc, &table, &pattern, &mut steps)?;
+    let other = filtered(rt.alloc(), table, pattern, &mut steps)?;
     let peer = elapsed(rt, before)?;
     if found.as_slice() != other.as_slice() {
         return Err(Fault::Run);
@@ -86,7 +91,7 @@ fn pattern_of(alloc: Global, query: Query) -> Result<Pattern, Fault> {
     for value in query.values() {
         texts.push(Text::copy(alloc, value)?)?;
     }
-    Pattern::read(alloc, texts.as_slice(), 2).map_err(|_| Fault::Run)
+    done(Pattern::read(alloc, texts.as_slice(), 2))
 }
 
 // The documents of the pairs whose key meets the pattern, each once.

@@ -1,10 +1,11 @@
 //! Receipts of revisions that are apart from all members of a document, beside a plain comparison
 //! of the same clocks.
-use crate::report::{Fault, Report, elapsed, started};
+use crate::report::{Fault, Report, done, elapsed, started};
 use conflicts::{Accept, DocSet, Making, Member, Outcome4, receive};
 use content::Content;
 use std::alloc::Global;
 use std::cmp::Ordering;
+use std::time::Duration;
 use u1_base::ReplicaUid;
 use vector_rev::{Clock, Clocks};
 
@@ -33,25 +34,27 @@ fn measured(
     size: u32,
     members: u64,
 ) -> Result<Report, Fault> {
-    let alloc = rt.alloc();
-    let own = uid(alloc, 0)?;
-    let Some(set) = set_of(alloc, members)? else {
-        return Err(Fault::Run);
-    };
-    let incoming = incoming(alloc, size)?;
-    let before = started(rt)?;
-    let conflicts = received(alloc, &set, &incoming, &own)?;
-    let ours = elapsed(rt, before)?;
-    let (ones, others) = (
-        plain_members(alloc, &set)?,
-        plain_incoming(alloc, &incoming)?,
-    );
-    let before = started(rt)?;
-    let apart = compared(&ones, &others);
-    let peer = elapsed(rt, before)?;
-    if conflicts.checked_mul(members) != Some(apart) {
-        return Err(Fault::Run);
+    let own = uid(rt.alloc(), 0)?;
+    let incoming = incoming(rt.alloc(), size)?;
+    match set_of(rt.alloc(), members)? {
+        Some(set) => compared(rt, name, size, &set, &incoming, &own),
+        None => Err(Fault::Run),
     }
+}
+
+fn compared(
+    rt: &HostRuntime,
+    name: &'static str,
+    size: u32,
+    set: &DocSet,
+    incoming: &Vec<Member>,
+    own: &ReplicaUid,
+) -> Result<Report, Fault> {
+    let before = started(rt)?;
+    let conflicts = received(rt.alloc(), set, incoming, own)?;
+    let ours = elapsed(rt, before)?;
+    let apart = conflicts.saturating_mul(set.length());
+    let peer = beside(rt, set, incoming, apart)?;
     Ok(Report {
         name,
         size,
@@ -61,11 +64,30 @@ fn measured(
     })
 }
 
+// Times the peer, which has to find so many pairs of clocks apart.
+fn beside(
+    rt: &HostRuntime,
+    set: &DocSet,
+    incoming: &Vec<Member>,
+    apart: u64,
+) -> Result<Duration, Fault> {
+    let ones = plain_members(rt.alloc(), set)?;
+    let others = plain_incoming(rt.alloc(), incoming)?;
+    let before = started(rt)?;
+    let found = count_apart(&ones, &others);
+    let peer = elapsed(rt, before)?;
+    if found == apart {
+        Ok(peer)
+    } else {
+        Err(Fault::Run)
+    }
+}
+
 // ---- what is handed over, and to what
 
 fn uid(alloc: Global, number: u64) -> Result<ReplicaUid, Fault> {
-    let text = format!(in alloc; "R-{number:032x}").map_err(|_| Fault::Run)?;
-    ReplicaUid::read(alloc, text.as_str()).map_err(|_| Fault::Run)
+    let text = format!(in alloc; "R-{number:032x}")?;
+    done(ReplicaUid::read(alloc, text.as_str()))
 }
 
 // A clock that counts the first, the second and the last replica so, and the others alike.
@@ -78,15 +100,15 @@ fn clock(alloc: Global, first: u64, second: u64, last: u64) -> Result<Clock, Fau
             LAST => ("|", last),
             _ => ("|", 7),
         };
-        let entry = format!(in alloc; "{mark}R-{number:032x}:{counter}").map_err(|_| Fault::Run)?;
-        text.push_str(entry.as_str()).map_err(|_| Fault::Run)?;
+        let entry = format!(in alloc; "{mark}R-{number:032x}:{counter}")?;
+        text.push_str(entry.as_str())?;
     }
-    Clock::read(alloc, text.as_str()).map_err(|_| Fault::Run)
+    done(Clock::read(alloc, text.as_str()))
 }
 
 fn member(alloc: Global, rev: Clock, number: u64) -> Result<Member, Fault> {
-    let text = format!(in alloc; "{{\"n\":{number}}}").map_err(|_| Fault::Run)?;
-    let content = Content::read(alloc, text.as_bytes()).map_err(|_| Fault::Run)?;
+    let text = format!(in alloc; "{{\"n\":{number}}}")?;
+    let content = done(Content::read(alloc, text.as_bytes()))?;
     Ok(Member {
         rev,
         content: Some(content),
@@ -132,9 +154,7 @@ fn incoming(alloc: Global, size: u32) -> Result<Vec<Member>, Fault> {
     for number in 0..size {
         let number = u64::from(number);
         let rev = clock(alloc, 1, 1, number + 8)?;
-        if incoming.push(member(alloc, rev, number + 1000)?).is_err() {
-            return Err(Fault::Run);
-        }
+        incoming.push(member(alloc, rev, number + 1000)?)?;
     }
     Ok(incoming)
 }
@@ -159,7 +179,7 @@ fn received(
 }
 
 // How many pairs of clocks are apart.
-fn compared(ones: &Vec<Plain>, others: &Vec<Plain>) -> u64 {
+fn count_apart(ones: &Vec<Plain>, others: &Vec<Plain>) -> u64 {
     let mut apart = 0u64;
     for other in others {
         for one in ones {
@@ -202,12 +222,7 @@ fn are_apart(left: &[(&str, u64)], right: &[(&str, u64)]) -> bool {
 fn plain<'a>(alloc: Global, rev: &'a Clock) -> Result<Plain<'a>, Fault> {
     let mut entries = Vec::new(alloc);
     for entry in rev.entries() {
-        if entries
-            .push((entry.uid().as_str(), entry.counter()))
-            .is_err()
-        {
-            return Err(Fault::Run);
-        }
+        entries.push((entry.uid().as_str(), entry.counter()))?;
     }
     Ok(entries)
 }
@@ -218,9 +233,7 @@ fn plain_members<'a>(alloc: Global, set: &'a DocSet) -> Result<Vec<Plain<'a>>, F
         let Some(member) = set.member(place) else {
             return Err(Fault::Run);
         };
-        if plains.push(plain(alloc, &member.rev)?).is_err() {
-            return Err(Fault::Run);
-        }
+        plains.push(plain(alloc, &member.rev)?)?;
     }
     Ok(plains)
 }
@@ -228,9 +241,7 @@ fn plain_members<'a>(alloc: Global, set: &'a DocSet) -> Result<Vec<Plain<'a>>, F
 fn plain_incoming<'a>(alloc: Global, incoming: &'a Vec<Member>) -> Result<Vec<Plain<'a>>, Fault> {
     let mut plains = Vec::new(alloc);
     for one in incoming {
-        if plains.push(plain(alloc, &one.rev)?).is_err() {
-            return Err(Fault::Run);
-        }
+        plains.push(plain(alloc, &one.rev)?)?;
     }
     Ok(plains)
 }

@@ -1,10 +1,12 @@
 //! What a workload reports.
+use std::alloc::{AllocError, AllocFailed};
+use std::io;
 use std::process::ExitCode;
 use std::time::{Duration, Instant};
 use u1_base::Memory;
 
 /// Why there is no report.
-#[derive(Debug, Drop)]
+#[derive(Clone, Copy, Debug)]
 pub enum Fault {
     Words,
     Run,
@@ -16,8 +18,34 @@ impl From<Memory> for Fault {
     }
 }
 
+impl From<AllocError> for Fault {
+    fn from(_error: AllocError) -> Fault {
+        Fault::Run
+    }
+}
+
+impl<T: Drop> From<AllocFailed<T>> for Fault {
+    fn from(_failed: AllocFailed<T>) -> Fault {
+        Fault::Run
+    }
+}
+
+impl From<io::Error> for Fault {
+    fn from(_error: io::Error) -> Fault {
+        Fault::Run
+    }
+}
+
+/// What was done, where nothing failed.
+pub fn done<T, E: Drop>(outcome: Result<T, E>) -> Result<T, Fault> {
+    match outcome {
+        Ok(value) => Ok(value),
+        Err(_) => Err(Fault::Run),
+    }
+}
+
 /// One measured workload.
-#[derive(Debug, Drop)]
+#[derive(Clone, Copy, Debug)]
 pub struct Report {
     pub name: &'static str,
     pub size: u32,
@@ -44,10 +72,15 @@ impl Report {
 
 /// The time, from which a workload is measured.
 pub fn started(rt: &HostRuntime) -> Result<Instant, Fault> {
-    Instant::now(rt).map_err(|_| Fault::Run)
+    Ok(Instant::now(rt)?)
 }
 
 /// The time since then.
 pub fn elapsed(rt: &HostRuntime, since: Instant) -> Result<Duration, Fault> {
-    since.elapsed(rt).map_err(|_| Fault::Run)
+    Ok(since.elapsed(rt)?)
+}
+
+/// Says a line on standard error, which marks a moment.
+pub fn tell(rt: &HostRuntime, line: &str) -> Result<(), Fault> {
+    Ok(rt.eprintln(line)?)
 }

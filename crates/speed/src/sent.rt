@@ -1,7 +1,8 @@
 //! Documents on their way, and a stream of them.
 ghost use Rattle.std.specs.Prelude.{◌≤◌, IfOk};
 
-use crate::report::Fault;
+use crate::contents::text;
+use crate::report::{Fault, done};
 use conflicts::Member;
 use content::Content;
 use std::alloc::Global;
@@ -17,26 +18,24 @@ pub fn document(alloc: Global, number: u32) -> Result<SyncDoc, Fault>
     let id = named(alloc, "D", number)?;
     let trans = named(alloc, "T", number)?;
     Ok(SyncDoc {
-        id: DocId::read(alloc, id.as_str()).map_err(|_| Fault::Run)?,
+        id: done(DocId::read(alloc, id.as_str()))?,
         member: member(alloc, number)?,
         at: Position {
             generation: u64::from(number),
-            trans: Some(TransId::read(alloc, trans.as_str()).map_err(|_| Fault::Run)?),
+            trans: Some(done(TransId::read(alloc, trans.as_str()))?),
         },
     })
 }
 
 fn named(alloc: Global, mark: &str, number: u32) -> Result<String, Fault> {
-    format!(in alloc; "{mark}-{number:032x}").map_err(|_| Fault::Run)
+    Ok(format!(in alloc; "{mark}-{number:032x}")?)
 }
 
 fn member(alloc: Global, number: u32) -> Result<Member, Fault> {
-    let text = format!(in alloc;
-        "{{\"name\":\"n{number:06}\",\"tags\":\"home work\",\"age\":{number}}}"
-    ).map_err(|_| Fault::Run)?;
+    let text = text(alloc, number)?;
     Ok(Member {
-        rev: Clock::read(alloc, "laptop:1").map_err(|_| Fault::Run)?,
-        content: Some(Content::read(alloc, text.as_bytes()).map_err(|_| Fault::Run)?),
+        rev: done(Clock::read(alloc, "laptop:1"))?,
+        content: Some(done(Content::read(alloc, text.as_bytes()))?),
     })
 }
 
@@ -52,5 +51,5 @@ pub fn stream(alloc: Global, size: u32) -> Result<Vec<u8>, Fault> {
 }
 
 fn put(text: &mut Vec<u8>, piece: &[u8]) -> Result<(), Fault> {
-    text.extend_from_slice(piece).map_err(|_| Fault::Run)
+    Ok(text.extend_from_slice(piece)?)
 }

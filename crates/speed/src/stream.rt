@@ -1,5 +1,5 @@
 //! Writing documents as the lines of a stream, beside `serde_json`'s writing of the same values.
-use crate::report::{Fault, Report, elapsed, started};
+use crate::report::{Fault, Report, done, elapsed, started};
 use crate::sent::document;
 use serde_json::Value;
 use std::alloc::Global;
@@ -7,14 +7,22 @@ use sync_stream::{SyncDoc, write_doc};
 
 /// Times the writing of this many documents. The result is the length of all that is written.
 pub fn measure(rt: &HostRuntime, size: u32) -> Result<Report, Fault> {
-    let alloc = rt.alloc();
-    let docs = documents(alloc, size)?;
-    let values = values(alloc, &docs)?;
+    let docs = documents(rt.alloc(), size)?;
+    let values = values(rt.alloc(), &docs)?;
+    compared(rt, size, &docs, &values)
+}
+
+fn compared(
+    rt: &HostRuntime,
+    size: u32,
+    docs: &Vec<SyncDoc>,
+    values: &Vec<Value>,
+) -> Result<Report, Fault> {
     let before = started(rt)?;
-    let length = written(alloc, &docs)?;
+    let length = written(rt.alloc(), docs)?;
     let ours = elapsed(rt, before)?;
     let before = started(rt)?;
-    let alone = written_alone(alloc, &values)?;
+    let alone = written_alone(rt.alloc(), values)?;
     let peer = elapsed(rt, before)?;
     // a comma and CR LF stand before each document
     if length != alone.saturating_add(3 * u64::from(size)) {
@@ -32,10 +40,7 @@ pub fn measure(rt: &HostRuntime, size: u32) -> Result<Report, Fault> {
 fn documents(alloc: Global, size: u32) -> Result<Vec<SyncDoc>, Fault> {
     let mut docs = Vec::new(alloc);
     for number in 0..size {
-        let doc = document(alloc, number.saturating_add(1))?;
-        if docs.push(doc).is_err() {
-            return Err(Fault::Run);
-        }
+        docs.push(document(alloc, number.saturating_add(1))?)?;
     }
     Ok(docs)
 }
@@ -44,15 +49,13 @@ fn documents(alloc: Global, size: u32) -> Result<Vec<SyncDoc>, Fault> {
 fn values(alloc: Global, docs: &Vec<SyncDoc>) -> Result<Vec<Value>, Fault> {
     let mut values = Vec::new(alloc);
     for doc in docs {
-        let bytes = piece(alloc, doc)?;
-        let Ok(value) = Value::from_slice(alloc, bytes.get(3..).unwrap_or(&bytes)) else {
-            return Err(Fault::Run);
-        };
-        if values.push(value).is_err() {
-            return Err(Fault::Run);
-        }
+        values.push(value(alloc, &piece(alloc, doc)?)?)?;
     }
     Ok(values)
+}
+
+fn value(alloc: Global, piece: &[u8]) -> Result<Value, Fault> {
+    done(Value::from_slice(alloc, piece.get(3..).unwrap_or(piece)))
 }
 
 fn piece(alloc: Global, doc: &SyncDoc) -> Result<Vec<u8>, Fault> {
@@ -73,10 +76,7 @@ fn written(alloc: Global, docs: &Vec<SyncDoc>) -> Result<u64, Fault> {
 fn written_alone(alloc: Global, values: &Vec<Value>) -> Result<u64, Fault> {
     let mut length = 0u64;
     for value in values {
-        let Ok(text) = value.to_vec(alloc) else {
-            return Err(Fault::Run);
-        };
-        length = length.saturating_add(text.len() as u64);
+        length = length.saturating_add(done(value.to_vec(alloc))?.len() as u64);
     }
     Ok(length)
 }

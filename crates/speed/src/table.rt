@@ -1,28 +1,30 @@
 //! Documents under made ids, put into the table in random order and then each looked up, beside
 //! std's `BTreeMap`.
+use crate::documents::ids;
 use crate::report::{Fault, Report, elapsed, started};
 use doc_table::Table;
 use std::alloc::Global;
 use std::collections::BTreeMap;
-use u1_base::{DocId, IdKind};
+use u1_base::DocId;
 
 /// Times the table of this many documents. The result is the sum of the values that were found.
 pub fn measure(rt: &HostRuntime, size: u32) -> Result<Report, Fault> {
-    let alloc = rt.alloc();
-    let mut ids = Vec::new(alloc);
-    let mut copies = Vec::new(alloc);
-    for number in 0..size {
-        let id: DocId = DocId::made(alloc, 7, IdKind::Doc, u64::from(number))?;
-        let copy = String::from_str(alloc, id.as_str()).map_err(|_| Fault::Run)?;
-        if ids.push(id).is_err() || copies.push(copy).is_err() {
-            return Err(Fault::Run);
-        }
-    }
+    let ids = ids(rt.alloc(), size)?;
+    let copies = copies(rt.alloc(), &ids)?;
+    compared(rt, size, &ids, &copies)
+}
+
+fn compared(
+    rt: &HostRuntime,
+    size: u32,
+    ids: &Vec<DocId>,
+    copies: &Vec<String>,
+) -> Result<Report, Fault> {
     let before = started(rt)?;
-    let found = in_table(alloc, &ids)?;
+    let found = in_table(rt.alloc(), ids)?;
     let ours = elapsed(rt, before)?;
     let before = started(rt)?;
-    let other = in_map(alloc, &copies)?;
+    let other = in_map(rt.alloc(), copies)?;
     let peer = elapsed(rt, before)?;
     if found != other {
         return Err(Fault::Run);
@@ -34,6 +36,14 @@ pub fn measure(rt: &HostRuntime, size: u32) -> Result<Report, Fault> {
         ours,
         peer,
     })
+}
+
+fn copies(alloc: Global, ids: &Vec<DocId>) -> Result<Vec<String>, Fault> {
+    let mut copies = Vec::new(alloc);
+    for id in ids {
+        copies.push(String::from_str(alloc, id.as_str())?)?;
+    }
+    Ok(copies)
 }
 
 fn in_table(alloc: Global, ids: &Vec<DocId>) -> Result<u64, Fault> {
@@ -57,12 +67,7 @@ fn in_map(alloc: Global, ids: &Vec<String>) -> Result<u64, Fault> {
     let mut map = BTreeMap::new(alloc);
     let mut number = 0u64;
     for id in ids {
-        let Ok(key) = id.clone() else {
-            return Err(Fault::Run);
-        };
-        if map.insert(key, number).is_err() {
-            return Err(Fault::Run);
-        }
+        map.insert(id.clone()?, number)?;
         number = number.saturating_add(1);
     }
     let mut sum = 0u64;
