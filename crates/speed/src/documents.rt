@@ -90,12 +90,12 @@ pub fn edits(alloc: Global, size: u32) -> Result<Vec<Step>, Fault> {
 }
 
 // The edit of this number; each document is edited once before the first one is edited again.
-fn edit(alloc: Global, own: &ReplicaUid, number: u32, documents: u32) -> Result<Step, Fault>
-    requires { 0 < documents }
-{
-    let counter = u64::from(number / documents).saturating_add(1);
+fn edit(alloc: Global, own: &ReplicaUid, number: u32, documents: u32) -> Result<Step, Fault> {
+    let turn = number.checked_div(documents).unwrap_or(0);
+    let document = number.checked_rem(documents).unwrap_or(0);
+    let counter = u64::from(turn).saturating_add(1);
     Ok(Step::Accept {
-        doc: id_of(alloc, number % documents)?,
+        doc: id_of(alloc, document)?,
         accept: Accept {
             rev: clock_of(alloc, own, counter)?,
             content: Some(content_of(alloc, number)?),
