@@ -95,8 +95,8 @@ fn sink_of(alloc: Global, failing: Failing) -> Result<MemSink, Memory> {
     Ok(MemSink::new(alloc, numbers))
 }
 
-// The words of a command line behind the directory. They are parted by blanks; a `~` is a blank
-// in a word.
+// The words of a command line after the directory. They are parted by blanks; a `~` is a blank in
+// a word.
 fn words_of(alloc: Global, words: &str) -> Result<Texts, Memory> {
     let mut texts = Texts::new(alloc);
     texts.push(Text::copy(alloc, ".")?)?;

@@ -33,7 +33,7 @@ pub const INDEX: &[u8] = b"\x01\0\0\0\x08\x04\0\x01i\x01\0\x01t";
 pub const OWN: &[u8] =
     b"\x01\0\0\0K\x01\0\x02d1\x01\0\0\0\0\0\0\0\0\0\0\0\x01\0\0\0\0\0\x01\x01\0\0\0\x09{\"v\":\
     \"a\"}\0\"T-a12aa9bff3485ffcbd67876eea76a865\0";
-/// `d1` at `b:1` with `{"v":"b"}`, received behind it.
+/// `d1` at `b:1` with `{"v":"b"}`, received after it.
 pub const OTHER: &[u8] =
     b"\x01\0\0\0~\x01\0\x02d1\x01\0\0\0\x01\0\x01b\0\0\0\0\0\0\0\x01\x03\0\0\0\0\x01\x01\0\0\0\
     \x09{\"v\":\"b\"}\0\"T-98057cb70a845067a81e0635ab0cbc89\x01\0\0\0\x01\0\0\0\0\0\0\0\x01\
@@ -43,7 +43,7 @@ pub const LAST: &[u8] =
     b"\x01\0\0\0D\x01\0\x02d1\x01\0\0\0\0\x7f\xff\xff\xff\xff\xff\xff\xff\x03\0\0\0\0\x01\x01\
     \0\0\0\x02{}\0\"T-a12aa9bff3485ffcbd67876eea76a865\0";
 
-/// The image of these entries, behind the header.
+/// The image of these entries, after the header.
 pub fn image(alloc: Global, entries: &[&[u8]]) -> Result<Bytes, Memory> {
     let mut image = bytes_of(alloc, HEADER)?;
     for entry in entries {

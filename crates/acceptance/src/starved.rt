@@ -1,4 +1,4 @@
-//! One command behind a number of calls for memory.
+//! One command after a number of calls for memory.
 use crate::harness::{BLANK, Failing, Files, Ran, run_on};
 use crate::images::{on_the_left, prepared};
 use crate::table::{COMMANDS, Command, INIT};

@@ -108,7 +108,7 @@ const RESOLVED_IN_PART: &[Row] = &[
     ("get d1 --deleted", b"", "d1 a:3|b:1 - deleted\n", 0),
 ];
 
-// No revision is behind the last counter.
+// No revision comes after the last counter.
 const AT_THE_END: &[Row] = &[
     (
         "put d1 a:9223372036854775807",

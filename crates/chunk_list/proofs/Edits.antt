@@ -88,9 +88,11 @@ module _ {T : Type 0} {chunks : List (Vec T)} {inner bases : List ℕ} {p i insi
 
     pub starts_with : length to ≡ length inner → length to_bases ≡ length bases
         → ((k : ℕ) → k ≤ i → begin_of to to_bases k ≡ begin_of inner bases k)
-        → ((k : ℕ) → i < k → k < length inner → begin_of to to_bases k + vec_len old ≡ begin_of inner bases k + vec_len new)
+        → ((k : ℕ) → i < k → k < length inner
+        → begin_of to to_bases k + vec_len old ≡ begin_of inner bases k + vec_len new)
         → ((b : ℕ) → b ≤ i / block → get_or to_bases b 0 ≡ get_or bases b 0)
-        → ((b : ℕ) → i / block < b → b < length bases → get_or to_bases b 0 + vec_len old ≡ get_or bases b 0 + vec_len new)
+        → ((b : ℕ) → i / block < b → b < length bases
+        → get_or to_bases b 0 + vec_len old ≡ get_or bases b 0 + vec_len new)
         → AreStarts (set chunks i new) to to_bases
     starts_with long blocks low high blocks_low blocks_high =
         let s = l.starts_are in

@@ -1,4 +1,5 @@
 pub mod Blocks
+pub mod Carried
 pub mod Counting
 pub mod Edits
 pub mod Found

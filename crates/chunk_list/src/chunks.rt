@@ -25,28 +25,47 @@ pub(crate) fn put<T: Drop>(items: &mut Vec<T>, place: usize, item: T)
     }
 }
 
-// Moves items between two chunks, one behind the other, until the lower one has `count`.
-fn level<T>(lower: &mut Vec<T>, upper: &mut Vec<T>, count: usize)
-    requires enough { count ≤ vec_len lower.old + vec_len upper.old }
-    requires lower_fits { count ≤ vec_capacity lower.old }
-    requires upper_fits { vec_len lower.old + vec_len upper.old ≤ vec_capacity upper.old + count }
+// Moves the last items of a chunk to the front of the next one, until it has `count`.
+fn move_up<T>(lower: &mut Vec<T>, upper: &mut Vec<T>, count: usize)
+    requires enough { count ≤ vec_len lower.old }
+    requires fits { vec_len lower.old + vec_len upper.old ≤ vec_capacity upper.old + count }
     ensures items { lower.new.items ++ upper.new.items ≡ lower.old.items ++ upper.old.items }
     ensures len { vec_len lower.new ≡ count }
     ensures both { vec_len lower.new + vec_len upper.new ≡ vec_len lower.old + vec_len upper.old }
     ensures lower_capacity { vec_capacity lower.new ≡ vec_capacity lower.old }
     ensures upper_capacity { vec_capacity upper.new ≡ vec_capacity upper.old }
 {
-    // So its first item is the last one, which is reached without moving the others.
-    upper.reverse();
+    let had = upper.len();
+    let more = lower.len() - count;
     while lower.len() > count {
         let item = lower.take_last();
         upper.push_reserved(item);
     }
+    // They stand last there, the last one first.
+    upper[had..].reverse();
+    upper.rotate_right(more);
+}
+
+// Moves the first items of a chunk to the end of the one before it, until that one has `count`.
+fn move_down<T>(lower: &mut Vec<T>, upper: &mut Vec<T>, count: usize)
+    requires more { vec_len lower.old ≤ count }
+    requires enough { count ≤ vec_len lower.old + vec_len upper.old }
+    requires fits { count ≤ vec_capacity lower.old }
+    ensures items { lower.new.items ++ upper.new.items ≡ lower.old.items ++ upper.old.items }
+    ensures len { vec_len lower.new ≡ count }
+    ensures both { vec_len lower.new + vec_len upper.new ≡ vec_len lower.old + vec_len upper.old }
+    ensures lower_capacity { vec_capacity lower.new ≡ vec_capacity lower.old }
+    ensures upper_capacity { vec_capacity upper.new ≡ vec_capacity upper.old }
+{
+    let fewer = count - lower.len();
+    let left = upper.len() - fewer;
+    upper.rotate_left(fewer);
+    // They stand last there now. The last one is to go first.
+    upper[left..].reverse();
     while lower.len() < count {
         let item = upper.take_last();
         lower.push_reserved(item);
     }
-    upper.reverse();
 }
 
 // Moves `count` items from a chunk to one beside it.
@@ -66,11 +85,11 @@ pub(crate) fn give<T: Drop>(chunks: &mut Vec<Vec<T>>, from: usize, to: usize, co
     let taker = &mut chunks[to];
     if from < to {
         let left = giver.len() - count;
-        level(&mut giver, taker, left);
+        move_up(&mut giver, taker, left);
         chunks[from] = giver;
     } else {
         let more = taker.len() + count;
-        level(taker, &mut giver, more);
+        move_down(taker, &mut giver, more);
         chunks[from] = giver;
     }
 }
@@ -101,7 +120,7 @@ pub(crate) fn cut<T: Drop>(chunks: &mut Vec<Vec<T>>, spare: &mut Vec<Vec<T>>, at
     let count = staying(at, chunks.len());
     let mut upper = spare.take_last();
     let lower = &mut chunks[at];
-    level(lower, &mut upper, count);
+    move_up(lower, &mut upper, count);
     put(chunks, at + 1, upper);
 }
 

@@ -1,4 +1,4 @@
-//! A list kept in chunks, so that an insertion or a removal moves the items of one chunk alone.
+//! A list kept in chunks, so that an insertion or a removal moves the items of a few chunks alone.
 //!
 //! A contract sees the items, and how many more may be inserted without memory.
 #![tactic(auto)]

@@ -18,12 +18,13 @@ use std::sync::ledger::{Blank, Ledger};
 use u1_base::{Memory, Steps};
 
 // A chunk holds so many items at most, and has memory for one more.
-pub(crate) const CHUNK: usize = 256;
+pub(crate) const CHUNK: usize = 128;
 
-// A list in so many chunks has a spare one besides, so that a full one can be cut in two.
+// `reserve` leaves a list in so many chunks a spare one besides, so that a full one can be cut in
+// two.
 const MANY: usize = 16;
 
-/// A list of items in chunks of a few hundred.
+/// A list of items in chunks of at most 128.
 #[derive(Drop)]
 pub struct ChunkList<T> {
     chunks: Vec<Vec<T>>,
@@ -193,8 +194,7 @@ impl<T> ChunkList<T> {
         self.len += 1;
         self.room -= 1;
         if self.chunks[at].len() > CHUNK {
-            relieve(&mut self.chunks, &mut self.spare, at);
-            recount(&mut self.starts, &self.chunks);
+            relieve(&mut self.chunks, &mut self.spare, &mut self.starts, at);
         }
     }
 

@@ -3,18 +3,18 @@ ghost use Rattle.std.specs.Prelude.{◌≡◌, ◌≢◌, ◌⊎◌, ◌+◌, �
 ghost use Rattle.std.specs.Prelude.{MatchOption, vec_len, vec_capacity};
 ghost use Rattle.std.specs.List.{All, insert, remove};
 ghost use Rattle.chunk_list.specs.Chunks.{AreChunks, AreChunksBut, AreLaidOut, AreStarts, IsSpare};
-ghost use Rattle.chunk_list.specs.Chunks.{full, joined};
+ghost use Rattle.chunk_list.specs.Chunks.{block, full, joined};
 ghost use Rattle.chunk_list.specs.Edits.{AreTurned, HasFree, NoneFree};
 
 use crate::chunks::{cut, give, put};
 use crate::list::CHUNK;
-use crate::starts::{Starts, locate, shift};
+use crate::starts::{Starts, carry, locate, recount, shift};
 
 // A full chunk takes places from a chunk that is no further away than this and has so many free. So
 // chunks are well filled, and few are cut.
-const NEAR: usize = 4;
+const NEAR: usize = 6;
 
-const SOME: usize = 16;
+const SOME: usize = 6;
 
 // The nearest chunk, on either side and no further away than `reach`, that has `least` places free.
 fn nearest<T>(chunks: &Vec<Vec<T>>, at: usize, reach: usize, least: usize) -> Option<usize>
@@ -48,14 +48,21 @@ fn nearer(from: usize, at: usize) -> usize
 // Gives the chunk at `at`, which has one item too many, half of the places that are free in the
 // chunk at `free`: chunk by chunk as many items move towards it, or fewer where a chunk between has
 // places for them.
-fn share<T: Drop>(chunks: &mut Vec<Vec<T>>, at: usize, free: usize)
+fn share<T: Drop>(chunks: &mut Vec<Vec<T>>, starts: &mut Starts, at: usize, free: usize)
     requires chunks { AreChunksBut chunks.old.items at }
     requires over { (d : _) → vec_len (slice_index_or chunks.old.items at d) ≡ full + 1 }
     requires free { HasFree chunks.old.items at free }
+    requires starts { AreStarts chunks.old.items starts.old.inside.items
+        starts.old.bases.items }
+    requires fits { length (joined chunks.old.items) < 2 ^ 64 }
     ensures same { joined chunks.new.items ≡ joined chunks.old.items }
     ensures chunks { AreChunks chunks.new.items }
+    ensures starts { AreStarts chunks.new.items starts.new.inside.items
+        starts.new.bases.items }
     ensures len { vec_len chunks.new ≡ vec_len chunks.old }
     ensures capacity { vec_capacity chunks.new ≡ vec_capacity chunks.old }
+    ensures starts_capacity { vec_capacity starts.new.inside ≡ vec_capacity starts.old.inside }
+    ensures blocks_capacity { vec_capacity starts.new.bases ≡ vec_capacity starts.old.bases }
 {
     let count = (CHUNK - chunks[free].len()).div_ceil(2);
     let most = CHUNK - count;
@@ -65,6 +72,7 @@ fn share<T: Drop>(chunks: &mut Vec<Vec<T>>, at: usize, free: usize)
         let from = nearer(into, at);
         to = from;
         if most < chunks[from].len() {
+            carry(starts, chunks, from, into, count);
             give(chunks, from, into, count);
         }
     }
@@ -72,28 +80,45 @@ fn share<T: Drop>(chunks: &mut Vec<Vec<T>>, at: usize, free: usize)
 
 // Gives the chunk at `at`, which has one item too many, places from a chunk near by, or else cuts
 // it in two; where no chunk is spare, it gets places from wherever there are some.
-pub(crate) fn relieve<T: Drop>(chunks: &mut Vec<Vec<T>>, spare: &mut Vec<Vec<T>>, at: usize)
+pub(crate) fn relieve<T: Drop>(
+    chunks: &mut Vec<Vec<T>>,
+    spare: &mut Vec<Vec<T>>,
+    starts: &mut Starts,
+    at: usize,
+)
     requires chunks { AreChunksBut chunks.old.items at }
     requires over { (d : _) → vec_len (slice_index_or chunks.old.items at d) ≡ full + 1 }
     requires each { All IsSpare spare.old.items }
     requires fits { vec_len chunks.old + vec_len spare.old ≤ vec_capacity chunks.old }
+    requires starts { AreStarts chunks.old.items starts.old.inside.items
+        starts.old.bases.items }
+    requires starts_fit { vec_len chunks.old + vec_len spare.old
+        ≤ vec_capacity starts.old.inside }
+    requires blocks_fit { vec_len chunks.old + vec_len spare.old
+        ≤ vec_capacity starts.old.bases * block }
+    requires items_fit { length (joined chunks.old.items) < 2 ^ 64 }
     requires enough { length (joined chunks.old.items)
         ≤ (vec_len chunks.old + vec_len spare.old) * full }
     ensures same { joined chunks.new.items ≡ joined chunks.old.items }
     ensures chunks { AreChunks chunks.new.items }
+    ensures starts { AreStarts chunks.new.items starts.new.inside.items
+        starts.new.bases.items }
+    ensures starts_capacity { vec_capacity starts.new.inside ≡ vec_capacity starts.old.inside }
+    ensures blocks_capacity { vec_capacity starts.new.bases ≡ vec_capacity starts.old.bases }
     ensures turned { AreTurned chunks.old spare.old chunks.new spare.new }
     ensures long { vec_len chunks.new + vec_len spare.new ≡ vec_len chunks.old + vec_len spare.old }
 {
     if let Some(free) = nearest(chunks, at, NEAR, SOME) {
-        share(chunks, at, free);
+        share(chunks, starts, at, free);
         return;
     }
     if spare.len() > 0 {
         cut(chunks, spare, at);
+        recount(starts, chunks);
         return;
     }
     if let Some(free) = nearest(chunks, at, usize::MAX, 1) {
-        share(chunks, at, free);
+        share(chunks, starts, at, free);
     }
 }
 

@@ -1,7 +1,8 @@
 //! The places where the chunks begin.
-ghost use Rattle.std.specs.Prelude.{◌≡◌, ◌+◌, ◌*◌, ◌/◌, ◌^◌, ◌<◌, ◌≤◌, ℕ, [], length};
-ghost use Rattle.std.specs.Prelude.{slice_index, vec_len, vec_capacity};
+ghost use Rattle.std.specs.Prelude.{◌≡◌, ◌≢◌, ◌+◌, ◌*◌, ◌/◌, ◌^◌, ◌<◌, ◌≤◌, ℕ, [], length};
+ghost use Rattle.std.specs.Prelude.{slice_index, slice_index_or, vec_len, vec_capacity};
 ghost use Rattle.chunk_list.specs.Chunks.{AreStarts, IsAt, begin_of, block, joined};
+ghost use Rattle.chunk_list.specs.Edits.{IsGiven};
 
 use std::alloc::Global;
 
@@ -86,8 +87,8 @@ fn raise(numbers: &mut Vec<usize>, from: usize, to: usize, before: usize, after:
     }
 }
 
-// The chunks behind the one at `at` begin as much later as `after` is more than `before`, or as much
-// earlier: the later ones of its block, and the later blocks.
+// The chunks behind the one at `at` begin as much later as `after` is more than `before`, or as
+// much earlier: the later ones of its block, and the later blocks.
 pub(crate) fn shift(starts: &mut Starts, at: usize, before: usize, after: usize)
     requires at { at < length starts.old.inside.items }
     requires enough { length starts.old.inside.items ≤ length starts.old.bases.items * block }
@@ -119,6 +120,29 @@ pub(crate) fn shift(starts: &mut Starts, at: usize, before: usize, after: usize)
     raise(&mut starts.inside, at + 1, end, before, after);
     let blocks = starts.bases.len();
     raise(&mut starts.bases, next, blocks, before, after);
+}
+
+// The starts as they are once the chunk at `from` has given so many items to the one at `to`.
+pub(crate) fn carry<T>(
+    starts: &mut Starts,
+    chunks: &Vec<Vec<T>>,
+    from: usize,
+    to: usize,
+    count: usize,
+)
+    requires starts { AreStarts chunks.now.items starts.old.inside.items starts.old.bases.items }
+    requires from { from < length chunks.now.items }
+    requires to { to < length chunks.now.items }
+    requires apart { from ≢ to }
+    requires enough { (d : _) → count ≤ vec_len (slice_index_or chunks.now.items from d) }
+    requires fits { length (joined chunks.now.items) < 2 ^ 64 }
+    ensures starts { (given : _) → IsGiven chunks.now.items from to count given
+        → AreStarts given starts.new.inside.items starts.new.bases.items }
+    ensures capacity { vec_capacity starts.new.inside ≡ vec_capacity starts.old.inside }
+    ensures blocks_capacity { vec_capacity starts.new.bases ≡ vec_capacity starts.old.bases }
+{
+    shift(starts, from, count, 0);
+    shift(starts, to, 0, count);
 }
 
 // Counts the starts anew.

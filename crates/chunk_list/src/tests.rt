@@ -17,7 +17,7 @@ impl Random {
     }
 }
 
-// So many items fill 70 chunks, which is more than a block has.
+// So many items fill 140 chunks, which are more than two blocks.
 const BLOCKS: usize = 17_920;
 
 // A list and a plain one, to which the same is done.

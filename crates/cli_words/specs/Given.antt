@@ -10,7 +10,7 @@ use Rattle.cli_words.specs.declared.synopsis.Allowed.TheVariants as allowed
 use Rattle.cli_words.specs.declared.given.Given.{Given}
 use Rattle.cli_words.specs.declared.given.Given.TheVariants.{Nothing, Deleted, Limit}
 
--- `--limit` with its value: the word behind it, or what stands behind the first `=`, which is 61
+-- `--limit` with its value: the word after it, or what stands after the first `=`, which is 61
 abbrev pub limit_given : Word → List Word → Option Given
 limit_given flag values =
     if bytes_eq flag.1 (codes "--limit") then Some (Limit (slice_get values 0))

@@ -1,4 +1,4 @@
--- How the words behind the command are parted into operands and options.
+-- How the words after the command are parted into operands and options.
 use Rattle.std.specs.Prelude.{ℕ, ◌+◌, ◌==◌, ◌&&◌, Bool, nat_lt, List, [], ◌∷◌, ◌++◌, codes, length, slice_index}
 use Rattle.std.specs.Prelude.{if◌then◌else◌}
 use Rattle.std.specs.Str.{bytes_eq}
@@ -21,7 +21,7 @@ is_dashes text = bytes_eq text (codes "--")
 abbrev pub unless_option : List ℕ → Role → Role
 unless_option text plain = if is_dashes text then word_is.Dashes else (if is_option text then word_is.Flag else plain)
 
--- what a word is, by what the words before it make of it: after the first `--` each word is an operand; a word behind
+-- what a word is, by what the words before it make of it: after the first `--` each word is an operand; a word after
 -- `--limit` that is no option is its value
 abbrev pub role_of : Next → List ℕ → Role
 role_of next_is.Operand text = word_is.Operand

@@ -82,7 +82,7 @@ pub enum Command {
     },
     /// Says what the store knows of itself and of others.
     Info,
-    /// Writes the store anew, as short as it can be.
+    /// Writes the image anew, with what a compaction leaves of its steps.
     Compact,
     /// Synchronises with the database at an address.
     Sync {

@@ -66,7 +66,7 @@ fn one_flag<'a>(allowed: Allowed, flag: &Word<'a>, values: &[Word<'a>]) -> Optio
     }
 }
 
-// `--limit` with the word behind it, or `--limit=VALUE`.
+// `--limit` with the word after it, or `--limit=VALUE`.
 fn limit_given<'a>(flag: &Word<'a>, values: &[Word<'a>]) -> Option<Given<'a>>
     ensures value { result ≡ limit_given flag.now values.now }
     ensures allowed { IfSome result (λ given. allows limit_allowed.Limit given ≡ true) }

@@ -1,4 +1,4 @@
-//! The words behind the command, parted into operands and options.
+//! The words after the command, parted into operands and options.
 ghost use Rattle.std.specs.Prelude.{◌≡◌, IfOk, OnOk, drop};
 ghost use Rattle.cli_words.specs.Parted.{Any, after, after_word, is_option, joined, one, parted};
 ghost use Rattle.cli_words.specs.Parted.{role_of, unless_option};
@@ -30,7 +30,7 @@ pub enum Role {
     Dashes,
 }
 
-/// The words behind the command by what they are, each list in the order in which they stand.
+/// The words after the command by what they are, each list in the order in which they stand.
 #[derive(Drop)]
 pub struct Parted<'a> {
     pub operands: Items<Word<'a>>,
@@ -38,7 +38,7 @@ pub struct Parted<'a> {
     pub values: Items<Word<'a>>,
 }
 
-/// Parts the words behind the directory and the command.
+/// Parts the words after the directory and the command.
 pub fn part<'a>(alloc: Global, words: &'a [Text]) -> Result<Parted<'a>, Memory>
     ensures { IfOk result (λ p. p ≡ parted Any 2 (drop 2 words.entry.now)) }
 {

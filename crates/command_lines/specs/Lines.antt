@@ -28,7 +28,7 @@ abbrev pub mark_text : Bool → List ℕ
 mark_text true = codes "conflicted"
 mark_text false = codes "-"
 
--- texts, each behind a blank
+-- texts, each after a blank
 abbrev pub blank_each : List Text → List ℕ
 blank_each texts = flat_map (λ text. codes " " ++ text) texts
 

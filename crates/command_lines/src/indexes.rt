@@ -48,7 +48,7 @@ pub fn print_key<K: Sink>(alloc: Global, out: &mut K, key: &Key) -> Result<(), P
     put_all(out, &[list.as_slice(), b"\n"])
 }
 
-// The texts of the expressions, each behind a blank.
+// The texts of the expressions, each after a blank.
 fn spelled_exprs(alloc: Global, exprs: &IndexExprs) -> Result<Bytes, Memory>
     ensures { IfOk result (λ text. text ≡ blank_each exprs.now.texts) }
 {

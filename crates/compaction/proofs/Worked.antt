@@ -35,8 +35,8 @@ taking r m = record { rev = r; content = None; making = Received; parents = []; 
 
 -- ---- the marks have to be set anew
 
--- The third acceptance covers the current revision and is not marked, so it fits no state; its revision becomes the
--- current one.
+-- The third acceptance covers the current revision and is not marked, so it does not fit after the two before it; its
+-- revision becomes the current one.
 abbrev unfitting : List Accept
 unfitting = taking a1 true ∷ taking b1 false ∷ taking a2 false ∷ []
 

@@ -10,7 +10,7 @@ abbrev pub bodies_of : List Text → History → List (List ℕ)
 bodies_of us [] = []
 bodies_of us (x ∷ later) = body_of us x ∷ bodies_of (us ++ added_of us x) later
 
--- the uids that have numbers behind them
+-- the uids that have numbers after them
 abbrev pub uids_after : List Text → History → List Text
 uids_after us [] = us
 uids_after us (x ∷ later) = uids_after (us ++ added_of us x) later
@@ -32,7 +32,7 @@ pub record IsOneMore (us : List Text) (x : Step) (bodies more : List (List ℕ))
   pub fits : IsBody (body_of us x)
   pub reads : step_in us (body_of us x) ≡ Ok (record { step = x; added = added_of us x })
 
--- the bodies of these steps, and the uids that have numbers behind them, where only this one has a number before them
+-- the bodies of these steps, and the uids that have numbers after them, where only this one has a number before them
 pub record AreSpelled (own : Text) (h : History) (bodies : List (List ℕ)) (uids : List Text) : Type 0 where
   pub bodies_are : bodies ≡ bodies_of (own ∷ []) h
   pub uids_are : uids ≡ uids_after (own ∷ []) h

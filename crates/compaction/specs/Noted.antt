@@ -44,7 +44,7 @@ abbrev pub with_steps : List Step → Later → Later
 with_steps [] l = l
 with_steps (x ∷ xs) l = with_step x (with_steps xs l)
 
--- the earlier steps are gone through, the last one first; what is left of each is put in front of `out` and noted
+-- the earlier steps are gone through, the last one first; what is left of each is put before `out` and noted
 abbrev pub backward : State → Later → List Step → History → History
 backward s l [] out = out
 backward s l (x ∷ earlier) out = backward s (with_steps (left s l x) l) earlier (left s l x ++ out)

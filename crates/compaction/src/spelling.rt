@@ -9,7 +9,7 @@ use replica_state::Step;
 use std::alloc::Global;
 use u1_base::{Memory, ReplicaUid};
 
-/// The bodies of steps in format 2, and the uids that have numbers behind them.
+/// The bodies of steps in format 2, and the uids that have numbers after them.
 #[derive(Debug, Drop)]
 pub struct Spelled {
     pub bodies: Bodies,

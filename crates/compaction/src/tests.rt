@@ -2,6 +2,7 @@
 //! history.
 use crate::{Spelled, Steps, compact, spell, trim};
 use journal::{Header, NewImage};
+use json::Scratch;
 use record_codec::{Uids, decode, decode_first};
 use replica_state::{State, Step};
 use std::alloc::Global;
@@ -100,7 +101,7 @@ const PUT: &[u8] =
 const CREATED_GONE: &[u8] = b"\x02\0\x02d1\0\x22T-a12aa9bff3485ffcbd67876eea76a865\0";
 
 fn push_step(alloc: Global, uids: &Uids, steps: &mut Steps, body: &[u8]) -> bool {
-    match decode(alloc, body, uids) {
+    match decode(alloc, &mut Scratch::new(alloc), body, uids) {
         Ok(decoded) => steps.push(decoded.step).is_ok(),
         Err(_) => false,
     }
@@ -487,7 +488,7 @@ fn body_of(alloc: Global, step: Plain) -> Result<Bytes, Memory> {
 }
 
 fn push_first(alloc: Global, steps: &mut Steps, body: &Bytes) -> bool {
-    match decode_first(alloc, body.as_slice()) {
+    match decode_first(alloc, &mut Scratch::new(alloc), body.as_slice()) {
         Ok(step) => steps.push(step).is_ok(),
         Err(_) => false,
     }

@@ -150,7 +150,7 @@ fn uncovered_copies(alloc: Global, members: &[Member], rev: &Clock) -> Result<Ve
     Ok(kept)
 }
 
-// The accepted revision stands behind the members that stay. It is the current one where it is
+// The accepted revision stands after the members that stay. It is the current one where it is
 // marked so; else the current one is the member with so many before it.
 fn accepted(kept: Vec<Member>, before: usize, accept: Accept) -> Result<DocSet, Memory>
     requires there { accept.current ≡ false → before < length kept.items }

@@ -22,6 +22,8 @@ mod refusal_tests;
 mod resolutions;
 mod set;
 #[cfg(test)]
+mod stories;
+#[cfg(test)]
 mod tests;
 
 pub use accept::{Accept, Making};

@@ -1,5 +1,6 @@
 mod Converted
 mod Refused
+mod PutFields
 mod PlainTexts
 pub mod SameTrees
 mod Ordered

@@ -1,29 +1,23 @@
 -- The grammar's loops over a plain text, a turn at a time, beside the lists and objects that are made of it.
-use Rattle.std.proofs.Common.{◌≡◌, ℕ, ◌+◌, ◌-◌, ◌<◌, ◌≤◌, Bool, true, false, List, [], ◌∷◌, ◌++◌, length}
-use Rattle.std.proofs.Common.{Option, Some, None, option_map, option_and_then, Ordering, Less, Equal, Greater, nat_cmp}
-use Rattle.std.proofs.Common.{IsUtf8, refl, sym, ap, ap₂, ◌∙◌, arith}
-use Rattle.std.specs.Prelude.{⊤}
-use Rattle.std.specs.Cmp.Lexicographic.{slice_cmp}
-use Rattle.std.specs.Ordering.{is_lt, ordering_reverse}
+use Rattle.std.proofs.Common.{◌≡◌, ℕ, ◌+◌, ◌-◌, ◌<◌, ◌≤◌, Bool, false, List, [], ◌∷◌, ◌++◌, length}
+use Rattle.std.proofs.Common.{Option, Some, None, option_map, option_and_then, IsUtf8, refl, ap, ◌∙◌, arith}
 use Rattle.std.proofs.lemmas.Bool.{or_parts, or_from}
-use Rattle.std.proofs.lemmas.Cmp.{nat_list_cmp_total}
 use Rattle.std.proofs.lemmas.Str.{is_utf8-from_IsUtf8}
 use Rattle.json.specs.Token.{Token}
 use Rattle.json.specs.Lex.{tokens}
 use Rattle.json.specs.Json as json
 use Rattle.json.specs.Json.{Parse, parse_map, after_end_array, read_key, if_last, items, members, value}
-use Rattle.json.proofs.Grammar.{items_end, items_more, members_end, members_more, value_is, value-begin_array}
-use Rattle.json.proofs.Grammar.{value-begin_object}
-use Rattle.serde_json.specs.Data.{Num, Data, null, boolean, number, string, array, object, Items, no_items, item}
-use Rattle.serde_json.specs.Data.{Members, no_members, member, put}
-use Rattle.serde_json.specs.Read.{converted, number_of, of_json, of_items, of_members, read}
+use Rattle.json.proofs.Grammar.{items_end, items_more, members_end, members_more, read_key-shorter}
+use Rattle.json.proofs.Grammar.{value-begin_array, value-begin_object}
+use Rattle.serde_json.specs.Data.{Num, Data, array, object, Items, no_items, item, Members, no_members, put}
+use Rattle.serde_json.specs.Read.{converted, of_json, of_items, of_members}
 use Rattle.content.specs.Canonical.{data_of, items_data, fields_data}
-use Rattle.content.specs.Faults.{any_number, any_in_items, any_in_members, value_of}
-use Rattle.content.specs.Plain.{comes_after, more_levels}
-use Rattle.content.specs.Tree.{nesting, items_nesting, fields_nesting}
-use Rattle.content.specs.TreeOf.{tree_of, pair_of, items_view, fields_view}
-use Rattle.content.specs.declared.value.Field.{Field}
+use Rattle.content.specs.Faults.{any_number, any_in_items, any_in_members, is_large, value_of}
+use Rattle.content.specs.Plain.{more_levels}
+use Rattle.content.specs.Tree.{Tree, Fields, nesting, items_nesting, fields_nesting}
+use Rattle.content.specs.TreeOf.{tree_of, items_view}
 use Rattle.content.specs.declared.value.Json.{Json}
+use Rattle.content.proofs.PutFields.{nesting_put, none_with}
 
 -- ---- what was read, under the conversion to data
 
@@ -82,7 +76,7 @@ module _ (p : Parse json.Json) where
       → converted of_items (items p n ts) ≡ Some (no_items, r)
   items_over n ts r enough e = ap (converted of_items) (items_end p n ts r enough e)
 
-  pub member_read : (old : Members) (n : ℕ) (k : List ℕ) (ts s r : List Token) (d : Data) → 0 < n
+  member_read : (old : Members) (n : ℕ) (k : List ℕ) (ts s r : List Token) (d : Data) → 0 < n
       → read_key ts ≡ Some (Some k, s) → converted of_json (p s) ≡ Some (d, r)
       → converted (λ ms. of_members ms old) (members p n ts)
       ≡ converted (λ ms. of_members ms (put k d old)) (members p (n - 1) r)
@@ -166,62 +160,38 @@ none_with_item p (i ∷ js) j old new =
     let parts = or_parts (any_number p (data_of (tree_of i))) (any_in_items p (items_data (items_view js))) old in
     or_from _ _ parts.0 (none_with_item p js j parts.1 new)
 
--- ---- an object that grows at its end
+-- ---- an object that grows
 
--- each name of the members stands before this one
-abbrev pub AllBefore : List ℕ → Members → Type 0
-AllBefore k no_members = ⊤
-AllBefore k (member name d ms) = (slice_cmp nat_cmp name k ≡ Less) × AllBefore k ms
+-- what the loop over fields has read, from the tokens at its start to the rest
+pub record ReadsFields (levels : ℕ) (start rest : List Token) (fs : Fields) : Type 0 where
+  pub read : (n : ℕ) × (length rest ≤ n)
+      × (converted (λ ms. of_members ms no_members) (members (value (more_levels levels)) (length start) start)
+      ≡ converted (λ ms. of_members ms (fields_data fs)) (members (value (more_levels levels)) n rest))
+  pub no_longer : length rest ≤ length start
+  pub shallow : fields_nesting fs ≤ levels
+  pub small : any_in_members is_large (fields_data fs) ≡ false
 
-is_less : (o : Ordering) → is_lt o ≡ true → o ≡ Less
-is_less Less e = refl
-is_less Equal e = absurd (cc)
-is_less Greater e = absurd (cc)
-
--- a name behind all the others goes last
-pub put_last : (fs : List Field) (f : Field) → AllBefore (pair_of f).0 (fields_data (fields_view fs))
-    → put (pair_of f).0 (data_of (pair_of f).1) (fields_data (fields_view fs))
-    ≡ fields_data (fields_view (fs ++ f ∷ []))
-put_last [] f h = refl
-put_last (g ∷ fs) f h =
-    let behind : slice_cmp nat_cmp (pair_of f).0 (pair_of g).0 ≡ Greater =
-    nat_list_cmp_total.antisymm (pair_of f).0 (pair_of g).0 ∙ ap ordering_reverse h.0 in
-    rw behind (ap (member (pair_of g).0 (data_of (pair_of g).1)) (put_last fs f h.1))
-
-all_before_later : (k l : List ℕ) (ms : Members) → slice_cmp nat_cmp k l ≡ Less → AllBefore k ms → AllBefore l ms
-all_before_later k l no_members less h = tt
-all_before_later k l (member name d ms) less h =
-    (nat_list_cmp_total.trans name k l h.0 less, all_before_later k l ms less h.1)
-
-all_before_with : (k : List ℕ) (fs : List Field) (f : Field) → AllBefore k (fields_data (fields_view fs))
-    → slice_cmp nat_cmp (pair_of f).0 k ≡ Less → AllBefore k (fields_data (fields_view (fs ++ f ∷ [])))
-all_before_with k [] f h less = (less, tt)
-all_before_with k (g ∷ fs) f h less = (h.0, all_before_with k fs f h.1 less)
-
--- what comes behind the new last name comes behind all
-pub still_ascending : (fs : List Field) (f : Field) (name k : List ℕ) → (pair_of f).0 ≡ name
-    → AllBefore name (fields_data (fields_view fs)) → comes_after (Some name) k ≡ true
-    → AllBefore k (fields_data (fields_view (fs ++ f ∷ [])))
-still_ascending fs f name k is h e =
-    let less : slice_cmp nat_cmp name k ≡ Less = is_less (slice_cmp nat_cmp name k) e in
-    all_before_with k fs f (all_before_later name k (fields_data (fields_view fs)) less h)
-    (ap (λ n. slice_cmp nat_cmp n k) is ∙ less)
-
-pub nesting_with_field : (fs : List Field) (f : Field) (n : ℕ) → fields_nesting (fields_view fs) ≤ n
-    → nesting (pair_of f).1 ≤ n → fields_nesting (fields_view (fs ++ f ∷ [])) ≤ n
-nesting_with_field [] f n old new = omega (arith, new)
-nesting_with_field (g ∷ fs) f n old new =
-    let first : nesting (pair_of g).1 ≤ n = omega (arith, old) in
-    let others : fields_nesting (fields_view fs) ≤ n = omega (arith, old) in
-    omega (arith, first, nesting_with_field fs f n others new)
-
-pub none_with_field : (p : Num → Bool) (fs : List Field) (f : Field)
-    → any_in_members p (fields_data (fields_view fs)) ≡ false → any_number p (data_of (pair_of f).1) ≡ false
-    → any_in_members p (fields_data (fields_view (fs ++ f ∷ []))) ≡ false
-none_with_field p [] f old new = or_from (any_number p (data_of (pair_of f).1)) false new refl
-none_with_field p (g ∷ fs) f old new =
-    let parts = or_parts (any_number p (data_of (pair_of g).1)) (any_in_members p (fields_data (fields_view fs))) old in
-    or_from _ _ parts.0 (none_with_field p fs f parts.1 new)
+-- a turn puts one field among those before it
+pub one_more_field : (levels : ℕ) (start ts s r : List Token) (k : List ℕ) (t : Tree) (old new : Fields)
+    → ReadsFields levels start ts old → read_key ts ≡ Some (Some k, s)
+    → converted of_json (value (more_levels levels) s) ≡ Some (data_of t, r) → length r < length s
+    → nesting t ≤ levels → any_number is_large (data_of t) ≡ false
+    → put k (data_of t) (fields_data old) ≡ fields_data new → ReadsFields levels start r new
+one_more_field levels start ts s r k t old new so_far named reads shorter shallow small is =
+    let p = value (more_levels levels) in
+    let n = so_far.read.0 in
+    let less = read_key-shorter ts (Some k) s named in record {
+      read = (
+        n - 1,
+        omega (arith, so_far.read.1, less, shorter),
+        so_far.read.2
+            ∙ member_read p (fields_data old) n k ts s r (data_of t) (omega (arith, so_far.read.1, less)) named reads
+            ∙ ap (λ found. converted (λ ms. of_members ms found) (members p (n - 1) r)) is,
+      );
+      no_longer = omega (arith, so_far.no_longer, less, shorter);
+      shallow = nesting_put k t old new levels is so_far.shallow shallow;
+      small = none_with is_large k (data_of t) (fields_data old) (fields_data new) is so_far.small small;
+    }
 
 -- ---- the whole text
 

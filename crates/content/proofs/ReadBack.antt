@@ -42,7 +42,7 @@ mutual
   depth-items no_items = refl
   depth-items (item t ts) = ap₂ max (depth-data_of t) (depth-items ts)
 
-  depth-fields : (fs : Fields) → members_depth (fields_data fs) ≡ fields_nesting fs
+  pub depth-fields : (fs : Fields) → members_depth (fields_data fs) ≡ fields_nesting fs
   depth-fields no_fields = refl
   depth-fields (field name t fs) = ap₂ max (depth-data_of t) (depth-fields fs)
 

@@ -49,7 +49,7 @@ fields_in (text s) = no_fields
 fields_in (list ts) = no_fields
 fields_in (object fs) = fs
 
--- puts the first tree of the stack in front of the list, or of the object, below it
+-- puts the first tree of the stack before the items of the list, or the fields of the object, below it
 abbrev add_item : List Tree → List Tree
 add_item [] = []
 add_item (t ∷ []) = []

@@ -1,4 +1,5 @@
-//! From a value of `serde_json` to our own. Texts are moved and not copied.
+//! From a value of `serde_json` to our own. Texts of more than 39 bytes are moved, shorter ones
+//! copied.
 ghost use Rattle.std.specs.Prelude.{◌≡◌, IfOk, false, string_bytes, vec_len};
 ghost use Rattle.serde_json.specs.Find.{is_float, of_integer};
 ghost use Rattle.serde_json.specs.View.{view, items_view as items_of_values, members_view};

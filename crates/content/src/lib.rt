@@ -12,6 +12,7 @@ mod copy;
 mod fault;
 mod laws;
 mod plain;
+mod put;
 mod same;
 #[cfg(test)]
 mod tests;

@@ -15,6 +15,7 @@ ghost use Rattle.content.specs.Plain.{more_levels, comes_after as comes_behind};
 ghost use Rattle.content.specs.Tree.{fields_nesting, items_nesting, nesting};
 ghost use Rattle.content.specs.TreeOf.{fields_view, items_view, pair_of, tree_of};
 
+use crate::put::put_field;
 use crate::whole::whole;
 use crate::{Field, Json};
 use json::{Invalid, Reader, Scratch, Token};
@@ -54,8 +55,9 @@ impl From<Invalid> for Stop {
     }
 }
 
-/// The root of the content that the bytes are, if they are plain: they have no fault, and in each
-/// object the names ascend.
+/// The root of the content that the bytes are, if they are plain: they have no fault, no name
+/// stands twice in an object, and each field after the first `put::MANY_FIELDS` of an object has a
+/// greater name than all before it.
 pub(crate) fn plain_root(
     alloc: Global,
     scratch: &mut Scratch<Global>,
@@ -137,7 +139,7 @@ fn plain_value(alloc: Global, reader: &mut Reader<'_>, levels: u64) -> Result<Js
     }
 }
 
-// The items behind an opening bracket.
+// The items after an opening bracket.
 #[cycle(plain)]
 #[inline(never)]
 fn plain_items(alloc: Global, reader: &mut Reader<'_>, levels: u64) -> Result<Vec<Json>, Stop>
@@ -158,7 +160,8 @@ fn plain_items(alloc: Global, reader: &mut Reader<'_>, levels: u64) -> Result<Ve
     Ok(found)
 }
 
-// The fields behind an opening brace.
+// The fields after an opening brace. The last name so far is the greatest, also after a field was
+// put before it.
 #[cycle(plain)]
 #[inline(never)]
 fn plain_fields(alloc: Global, reader: &mut Reader<'_>, levels: u64) -> Result<Vec<Field>, Stop>
@@ -173,13 +176,14 @@ fn plain_fields(alloc: Global, reader: &mut Reader<'_>, levels: u64) -> Result<V
     let mut found = Vec::new(alloc);
     let mut last = None;
     'fields: while let Some(name) = reader.next_key()? {
-        if !comes_after(last, name) {
-            return Err(Stop::NotPlain);
-        }
         let value = plain_value(alloc, reader, levels)?;
         let field = field_of(Text::copy(alloc, name)?, value);
-        found.push(field)?;
-        last = Some(name);
+        if comes_after(last, name) {
+            found.push(field)?;
+            last = Some(name);
+        } else {
+            put_field(&mut found, field)?;
+        }
     }
     found.shrink_to_fit();
     Ok(found)
@@ -200,7 +204,7 @@ fn field_of(name: Text, value: Json) -> Field
     Field { name, value }
 }
 
-// Whether the name stands behind the last one.
+// Whether the name comes after the last one.
 fn comes_after(last: Option<&str>, name: &str) -> bool
     ensures { result ≡ comes_behind (option_map (λ s. s.now) last.entry) name.now }
 {

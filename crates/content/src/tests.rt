@@ -246,6 +246,20 @@ const CANONICAL: &[(&str, &str)] = &[
     ("{\"a\":1.5,\"a\":2}", "{\"a\":2}"),
     ("{\"b\":1,\"a\":\"x\"}", "{\"a\":\"x\",\"b\":1}"),
     (
+        "{\"d\":1,\"b\":2,\"e\":3,\"a\":4,\"c\":5}",
+        "{\"a\":4,\"b\":2,\"c\":5,\"d\":1,\"e\":3}",
+    ),
+    (
+        "{\"b\":{\"d\":1,\"c\":[{\"f\":2,\"e\":3}]},\"a\":4}",
+        "{\"a\":4,\"b\":{\"c\":[{\"e\":3,\"f\":2}],\"d\":1}}",
+    ),
+    ("{\"b\":1,\"a\":2,\"b\":3}", "{\"a\":2,\"b\":3}"),
+    ("{\"b\":1,\"a\":2,\"a\":3}", "{\"a\":3,\"b\":1}"),
+    (
+        "{\"c\":1,\"a\":2,\"b\":3,\"a\":4,\"d\":5}",
+        "{\"a\":4,\"b\":3,\"c\":1,\"d\":5}",
+    ),
+    (
         " { \"b\" : [ true , false , null , [ ] , { } ] } ",
         "{\"b\":[true,false,null,[],{}]}",
     ),
@@ -349,14 +363,22 @@ const PLAIN: &[&str] = &[
     "{\"A\":{\"a\":[[],[{}],[1,[2,[3]]]]},\"a\":\"\"}",
     "{\"a\":\"\\u00e9\\n\\\"\\/\",\"\\u0062\":[\"\\ud83d\\ude00\"]}",
     "{\"name\":\"a text of more than thirty-nine bytes, which lies on the heap\"}",
+    "{\"b\":1,\"a\":2}",
+    "{\"a\":{\"c\":1,\"b\":2}}",
+    "{\"d\":1,\"b\":2,\"e\":3,\"a\":4,\"c\":5}",
+    "{\"b\":{\"d\":1,\"c\":[{\"f\":2,\"e\":3}]},\"a\":4,\"\":5}",
+    "{\"\\u00e9\":1,\"z\":2,\"a name of more than thirty-nine bytes, which lies on the heap\":3}",
 ];
 
 // Texts that are not plain: some are contents, some have a fault.
 const OTHER_TEXTS: &[&str] = &[
     "",
-    "{\"b\":1,\"a\":2}",
     "{\"a\":1,\"a\":2}",
-    "{\"a\":{\"c\":1,\"b\":2}}",
+    "{\"b\":1,\"a\":2,\"b\":3}",
+    "{\"b\":1,\"a\":2,\"a\":3}",
+    "{\"c\":1,\"a\":2,\"b\":3,\"a\":4,\"d\":5}",
+    "{\"a\":{\"c\":1,\"b\":2,\"c\":3}}",
+    "{\"b\":1,\"a\":1.5}",
     "{\"a\":1.5}",
     "{\"a\":-0}",
     "{\"a\":9223372036854775808}",
@@ -434,4 +456,85 @@ fn is_not_plain_at_level(alloc: Global, levels: usize) -> bool {
 fn counts_levels_of_plain_texts(rt: HostRuntime) {
     assert!(rt; is_plain_at_level(rt.alloc(), 64));
     assert!(rt; is_not_plain_at_level(rt.alloc(), 65));
+}
+
+// An object of an empty name and the names from 100 up to the end.
+fn ascending(alloc: Global, end: u64) -> Result<String, AllocError> {
+    let mut text = String::from_str(alloc, "{\"\":0")?;
+    for number in 100..end {
+        write!(text, ",\"{number}\":0")?;
+    }
+    text.push_str("}")?;
+    Ok(text)
+}
+
+// The same fields, where the names up to the turn fall and the others ascend.
+fn falling(alloc: Global, turn: u64, end: u64) -> Result<String, AllocError> {
+    let mut text = String::from_str(alloc, "{\"\":0")?;
+    for number in (100..turn).rev() {
+        write!(text, ",\"{number}\":0")?;
+    }
+    for number in turn..end {
+        write!(text, ",\"{number}\":0")?;
+    }
+    text.push_str("}")?;
+    Ok(text)
+}
+
+// The same fields up to 160 in another order, the odd names first.
+fn woven(alloc: Global) -> Result<String, AllocError> {
+    let mut text = String::from_str(alloc, "{\"\":0")?;
+    for tens in 10..16 {
+        write!(
+            text,
+            ",\"{tens}3\":0,\"{tens}7\":0,\"{tens}1\":0,\"{tens}9\":0,\"{tens}5\":0"
+        )?;
+    }
+    for tens in 10..16 {
+        write!(
+            text,
+            ",\"{tens}0\":0,\"{tens}8\":0,\"{tens}6\":0,\"{tens}4\":0,\"{tens}2\":0"
+        )?;
+    }
+    text.push_str("}")?;
+    Ok(text)
+}
+
+// Whether the text is plain or not, as is wanted, and is the content of the ascending names.
+fn is_sorted(alloc: Global, text: &str, end: u64, plain: bool) -> bool {
+    let bytes = text.as_bytes();
+    match ascending(alloc, end) {
+        Ok(want) => {
+            is_plain(alloc, bytes) == plain
+                && is_not_plain(alloc, bytes) != plain
+                && is_read_as(alloc, bytes, want.as_bytes())
+        }
+        Err(_) => false,
+    }
+}
+
+fn sorts(alloc: Global, turn: u64, end: u64, plain: bool) -> bool {
+    match falling(alloc, turn, end) {
+        Ok(text) => is_sorted(alloc, text.as_str(), end, plain),
+        Err(_) => false,
+    }
+}
+
+fn sorts_woven(alloc: Global) -> bool {
+    match woven(alloc) {
+        Ok(text) => is_sorted(alloc, text.as_str(), 160, true),
+        Err(_) => false,
+    }
+}
+
+// An object has one field more than names after 99.
+#[test]
+fn sorts_the_fields_of_plain_texts(rt: HostRuntime) {
+    let alloc = rt.alloc();
+    assert!(rt; sorts(alloc, 163, 163, true));
+    assert!(rt; sorts(alloc, 164, 164, false));
+    assert!(rt; sorts(alloc, 163, 400, true));
+    assert!(rt; sorts(alloc, 100, 400, true));
+    assert!(rt; sorts(alloc, 101, 400, true));
+    assert!(rt; sorts_woven(alloc));
 }

@@ -50,7 +50,7 @@ pub record Torn (at n : ℕ) (old new : List ℕ) : Type 0 where
   pub no_longer : length new ≤ max (length old) (at + n)
   pub same : (k : ℕ) → k < length old → is_touched ((at, n) ∷ []) k ≡ false → slice_index new k ≡ slice_index old k
 
--- a cut that may have stopped on its way: some length between, the same bytes before the place, any bytes behind it
+-- a cut that may have stopped on its way: some length between, the same bytes before the place, any bytes after it
 pub record Cut (to : ℕ) (old new : List ℕ) : Type 0 where
   pub no_shorter : min to (length old) ≤ length new
   pub no_longer : length new ≤ length old

@@ -12,7 +12,7 @@ SettledLeaveReads =
     (devices : Devices) → AreSettled devices.files
     → (images : Trio (List ℕ)) → AreCrashImages (now_of devices.files) images → images ≡ seen_of devices.files
 
--- a moment that was reached is the same for ever, whatever moments come after it, and now is the one behind them all
+-- a moment that was reached is the same for ever, whatever moments come after it, and now is the one after them all
 pub record MomentsStay : Type 0 where
   pub earlier : (old new : Devices) (fresh : List JointMoment) → new.past ≡ old.past ++ fresh
       → (k : ℕ) → k < length old.past → moment_at new k ≡ moment_at old k

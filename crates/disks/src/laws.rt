@@ -20,7 +20,7 @@ pub fn law_settled()
     ensures { SettledLeaveReads }
 {}
 
-/// A moment that was reached is the same for ever, and now is the one behind them all.
+/// A moment that was reached is the same for ever, and now is the one after them all.
 pub fn law_moments()
     ensures { MomentsStay }
 {}

@@ -373,7 +373,7 @@ fn stands(alloc: Global) -> bool {
     table.length() == 600 && is_in_order(&table)
 }
 
-// `rt try --fail-alloc` makes each call for memory fail in turn.
+// `rt try --test --fail-alloc N` makes the N-th call for memory fail.
 #[test]
 fn stands_where_memory_runs_out(rt: HostRuntime) {
     assert!(rt; stands(rt.alloc()));

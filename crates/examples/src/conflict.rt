@@ -49,8 +49,9 @@ pub fn write_note<R: Replica>(
     put_doc(alloc, notes, seed, id, rev.as_ref(), text)
 }
 
-/// Takes over what another device made of the note; `at` is the place of that in the other
-/// device's log. It is a conflict if neither of the two devices knew of the other's change.
+/// Takes over what another device made of the note; `at` is the place of that in the other device's
+/// log. It is a conflict if neither of the two devices knew of the other's change and their texts
+/// differ; equal ones are merged.
 pub fn take_note<R: Replica>(
     alloc: Global,
     notes: &mut R,

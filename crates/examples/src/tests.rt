@@ -210,7 +210,7 @@ fn indexed(alloc: Global, notes: &mut MemReplica, by: &str) -> Option<()> {
     index_notes(alloc, notes, &name, by).ok()
 }
 
-// Whether the notes with the tag are these, each behind a blank.
+// Whether the notes with the tag are these, each after a blank.
 fn finds(alloc: Global, notes: &MemReplica, tag: &str, want: &str) -> bool {
     match IndexName::read(alloc, "by_tag") {
         Ok(name) => are_ids(

@@ -7,6 +7,6 @@ use Rattle.expr_eval.specs.Keys.{tuples}
 abbrev pub lent : List (Bor (List ℕ)) → List (List ℕ)
 lent texts = map (λ text. text.now) texts
 
--- all lists with one text of each list, each behind the first texts of a key
+-- all lists with one text of each list, each after the first texts of a key
 abbrev pub behind : List (List ℕ) → List (List (List ℕ)) → List (List (List ℕ))
 behind front lists = map (λ tuple. front ++ tuple) (tuples lists)

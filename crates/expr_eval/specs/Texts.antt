@@ -13,7 +13,7 @@ folded text = encode_utf8_all (default_case_fold (chars text))
 abbrev pub padded : ℕ → ℕ → List ℕ
 padded width n = replicate (width - length (decimal n)) 48 ++ decimal n
 
--- a whole number, a negative one behind `-` (45), which is a part of the width. A longer one is not cut.
+-- a whole number, a negative one after `-` (45), which is a part of the width. A longer one is not cut.
 abbrev pub number_text : ℕ → ℤ → List ℕ
 number_text width (pos n) = padded width n
 number_text width (negsuc n) = 45 ∷ padded (width - 1) (suc n)

@@ -6,7 +6,7 @@ use itoa::Buffer;
 use std::alloc::Global;
 use u1_base::{Memory, Text};
 
-// The digits of the number, padded with `0` behind a `-` to the width.
+// The digits of the number, padded with `0` after a `-` to the width.
 pub(crate) fn number_spelled(alloc: Global, number: i64, width: u8) -> Result<Text, Memory>
     ensures { IfOk result (λ t. t ≡ number_text width number) }
 {

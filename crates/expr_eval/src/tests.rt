@@ -6,7 +6,7 @@ use std::alloc::Global;
 use std::test::Fail;
 use u1_base::{Key, Keys, Text};
 
-// The values of an expression for a content, each with `|` behind it.
+// The values of an expression for a content, each with `|` after it.
 fn values_for(alloc: Global, expr: &str, content: &str) -> Result<String, Fail> {
     let content = Content::read(alloc, content.as_bytes())?;
     let expr = Expr::read(alloc, expr)?;
@@ -30,7 +30,7 @@ fn keys_for(alloc: Global, first: &str, second: &str, content: &str) -> Result<K
     Ok(keys(alloc, &exprs, content.root())?)
 }
 
-// Keys, each as its values with `/` behind it.
+// Keys, each as its values with `/` after it.
 fn all_spelled(alloc: Global, keys: &[Key]) -> Result<String, Fail> {
     let mut all = String::new(alloc);
     for key in keys {

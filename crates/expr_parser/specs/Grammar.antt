@@ -35,7 +35,7 @@ pub record SpellsField (parts : List (List ℕ)) (text : List ℕ) : Type 0 wher
   pub are_parts : ArePartsOfField names
   pub is : text ≡ join_with_byte 46 names
 
--- a text of P, with white space allowed before it and behind it
+-- a text of P, with white space allowed before it and after it
 pub record Around (P : List ℕ → Type 0) (text : List ℕ) : Type 0 where
   pub before : List ℕ
   pub core : List ℕ

@@ -33,13 +33,13 @@ pub data State : Type 0 where
   word : Open → List (List ℕ) → List ℕ → State
   -- a field up to a dot
   dot : Open → List (List ℕ) → State
-  -- a field, and white space behind it
+  -- a field, and white space after it
   behind : Open → List (List ℕ) → List ℕ → State
   -- an expression
   done : Open → Form → State
   -- the arguments of a `combine`
   more : Open → List Form → State
-  -- the argument of `number` and the comma; then digits; then white space behind these
+  -- the argument of `number` and the comma; then digits; then white space after these
   width : Open → Form → State
   digits : Open → Form → ℕ → State
   spaced : Open → Form → ℕ → State
@@ -47,12 +47,12 @@ pub data State : Type 0 where
   -- and neither white space nor a comma follows, the reading goes on as from here
   ready : Open → Form → State
 
--- a comma or a bracket behind an argument of `combine`
+-- a comma or a bracket after an argument of `combine`
 abbrev pub listed : Open → List Form → ℕ → Option State
 listed K fs c =
     if c == 44 then Some (begin (combined fs K)) else (if c == 41 then Some (done K (combine (forms_of fs))) else None)
 
--- a comma or a bracket behind an expression
+-- a comma or a bracket after an expression
 abbrev pub closed : Open → Form → ℕ → Option State
 closed none f c = None
 closed (within Lower K) f c = if c == 41 then Some (done K (lower f)) else None
@@ -62,22 +62,22 @@ closed (within Number K) f c = if c == 44 then Some (width K f) else None
 closed (within Combine K) f c = listed K (f ∷ []) c
 closed (combined fs K) f c = listed K (fs ++ f ∷ []) c
 
--- a bracket behind a word
+-- a bracket after a word
 abbrev pub called : Open → List (List ℕ) → List ℕ → Option State
 called K [] part = option_map (λ t. begin (within t K)) (named part)
 called K (first ∷ parts) part = None
 
--- what may stand behind a field
+-- what may stand after a field
 abbrev pub ended : Open → List (List ℕ) → List ℕ → ℕ → Option State
 ended K parts part c =
     if is_white c then Some (behind K parts part)
     else (if c == 40 then called K parts part else closed K (field (parts ++ part ∷ [])) c)
 
--- what may stand behind a width
+-- what may stand after a width
 abbrev pub closing : Open → Form → ℕ → ℕ → Option State
 closing K f n c = if is_white c then Some (spaced K f n) else (if c == 41 then Some (done K (number f n)) else None)
 
--- a digit goes on behind a number, so that it is from 1 to 128
+-- a digit goes on after a number, so that it is from 1 to 128
 unfoldable pub goes_on : ℕ → ℕ → Bool
 goes_on n c = nat_le 48 c && nat_le c 57 && nat_le 1 (n * 10 + (c - 48)) && nat_le (n * 10 + (c - 48)) 128
 

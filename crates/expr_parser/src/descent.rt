@@ -62,7 +62,7 @@ pub(crate) fn whole(alloc: Global, reader: &mut Reader<'_>) -> Result<Expr, Stop
     Ok(expr)
 }
 
-// Reads an expression, with white space before it and behind it.
+// Reads an expression, with white space before it and after it.
 #[cycle(descent)]
 fn expression(alloc: Global, reader: &mut Reader<'_>) -> Result<Expr, Stop>
     ensures goes { Goes begin (λ e K. done K (form_of e)) reader.old reader.new result }
@@ -79,7 +79,7 @@ fn expression(alloc: Global, reader: &mut Reader<'_>) -> Result<Expr, Stop>
     }
 }
 
-// Reads a field with white space before it and behind it.
+// Reads a field with white space before it and after it.
 fn words_of_field<'t>(alloc: Global, reader: &mut Reader<'t>) -> Result<Words<'t>, Stop>
     ensures goes { Goes begin (λ w K. behind K w.parts w.last.now) reader.old reader.new result }
     ensures past { OnOk result (Fails is_white reader.new) }
@@ -107,7 +107,7 @@ fn some_part<'t>(reader: &mut Reader<'t>) -> Result<&'t str, Stop>
     Ok(part)
 }
 
-// Passes the bracket behind the word of a transform.
+// Passes the bracket after the word of a transform.
 fn bracket(reader: &mut Reader<'_>, words: &Words<'_>) -> Option<Transform>
     requires { Fails is_white reader.old }
     ensures goes { MatchOption result
@@ -141,7 +141,7 @@ fn path_of(alloc: Global, parts: Texts, last: &str) -> Result<Path, Memory>
     Ok(Path::of(parts))
 }
 
-// Reads what stands in the brackets of a transform, the closing bracket and white space behind it.
+// Reads what stands in the brackets of a transform, the closing bracket and white space after it.
 #[cycle(descent)]
 fn call(alloc: Global, reader: &mut Reader<'_>, transform: Transform) -> Result<Expr, Stop>
     ensures goes { Goes (λ K. begin (within transform K))

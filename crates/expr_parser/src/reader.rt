@@ -103,7 +103,7 @@ impl<'t> Reader<'t> {
     }
 }
 
-// The number with one more digit behind it, where that is from 1 to 128.
+// The number with one more digit after it, where that is from 1 to 128.
 fn number_with(number: u8, digit: char) -> Option<u8>
     requires { number ≤ 128 }
     ensures { MatchOption result

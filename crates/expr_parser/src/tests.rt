@@ -159,7 +159,7 @@ fn prints_the_fault(rt: HostRuntime) {
     }
 }
 
-// Whether so many copies of the piece and the end behind them are read, and spelled as they stand.
+// Whether so many copies of the piece and the end after them are read, and spelled as they stand.
 fn reads_repeated(alloc: Global, piece: &str, count: usize, end: &str) -> bool {
     match repeated(alloc, piece, count, end) {
         Ok(text) => is_read_as(alloc, text.as_str(), text.as_str()),

@@ -1,5 +1,6 @@
 //! What is done to the sorted list of pairs.
-ghost use Rattle.std.specs.Prelude.{◌≡◌, ◌+◌, ◌<◌, ◌≤◌, false, true, not, length, filter, vec_len, ◌||◌};
+ghost use Rattle.std.specs.Prelude.{◌≡◌, ◌+◌, ◌<◌, ◌≤◌, ◌||◌, false, true, not};
+ghost use Rattle.std.specs.Prelude.{length, filter, vec_len};
 ghost use Rattle.std.specs.List.{HoldsAt};
 ghost use Rattle.std.specs.List.Sorted.{IsPermutation};
 ghost use Rattle.index_tables.specs.Entries.{AreDistinct, AreNew, HoldsBoth, entries_of, has};
@@ -37,7 +38,7 @@ fn is_below_at(list: &ChunkList<Pair>, place: usize, pair: &Pair) -> bool
     }
 }
 
-// Whether the place of a pair is behind all others: it is where the last of them is below.
+// Whether the place of a pair is after all others: it is where the last of them is below.
 fn is_last(list: &ChunkList<Pair>, pair: &Pair) -> bool
     ensures { result ≡ true
         → EndsAt (is_below (entry_of pair.now)) list.now.items (length list.now.items) }
@@ -103,7 +104,7 @@ fn falling(mut pairs: Vec<Pair>) -> Vec<Pair>
 const MANY: usize = 16;
 
 // Puts each pair in its place. Many are put in from the least to the greatest, so that those that
-// stand behind all others are found there without a search, and the others move fewer pairs.
+// stand after all others are found there without a search, and the others move fewer pairs.
 pub(crate) fn put_all(list: &mut ChunkList<Pair>, pairs: Vec<Pair>)
     requires room { vec_len pairs ≤ list.old.room }
     requires order { IsInOrder (seen list.old.items) }

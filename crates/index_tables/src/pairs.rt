@@ -4,7 +4,6 @@ ghost use Rattle.std.specs.List.{AllPairs};
 ghost use Rattle.index_tables.specs.Entries.{AreNew, entries_of};
 ghost use Rattle.index_tables.specs.Seen.{seen};
 
-use crate::abbreviated::abbreviated;
 use crate::pair::Pair;
 use std::alloc::Global;
 use std::marker::Model;
@@ -87,12 +86,7 @@ fn with_keys(mut pairs: Vec<Pair>, id: &DocId, keys: Vec<Key>) -> Result<Vec<Pai
 {
     for key in keys {
         let id = id.copy()?;
-        let abbreviated = abbreviated(key.texts());
-        pairs.push(Pair {
-            abbreviated,
-            key,
-            id,
-        })?;
+        pairs.push(Pair::of(key, id))?;
     }
     Ok(pairs)
 }

@@ -178,7 +178,7 @@ fn is_same(table: &IndexTable, plain: &[u64], alloc: Global) -> Result<bool, Fai
     Ok(walks(table))
 }
 
-// In order: a key comes before one that goes on behind it, and the first texts decide before the
+// In order: a key comes before one that goes on after it, and the first texts decide before the
 // second ones.
 const IN_ORDER: &[&str] = &[
     "",
@@ -246,7 +246,7 @@ fn set_of(alloc: Global, keys: &[&str]) -> Result<KeySet, Fail> {
     Ok(set)
 }
 
-// The texts of a pair's key and its id, with a bar behind each text.
+// The texts of a pair's key and its id, with a bar after each text.
 fn spelled(alloc: Global, table: &IndexTable, place: u64) -> Result<String, Fail> {
     let mut spelling = String::new(alloc);
     if let Some((key, id)) = entry(table, place) {

@@ -29,7 +29,7 @@ IsField Limit field = (limit : ℕ) × IsLimit limit × (field ≡ u64_bytes lim
 IsField Gate field = (gate : ℕ) × (field ≡ gate ∷ [])
 IsField Body field = (body : List ℕ) × IsBody body × (field ≡ body_field body)
 
--- what stands before the field of the kind in an image: all fields before it; a gate and a body come behind the entries
+-- what stands before the field of the kind in an image: all fields before it; a gate and a body come after the entries
 abbrev pub before_part : Part → ℕ → Head → List (List ℕ) → List ℕ
 before_part First format head bodies = []
 before_part Name format head bodies = first_field format

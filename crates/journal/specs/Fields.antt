@@ -35,7 +35,7 @@ ReadsIdField form bytes (parsed.Whole id) = IsId form id × Begins (text_field i
 ReadsIdField form bytes (parsed.Broken place) = NoId form bytes
 ReadsIdField form bytes parsed.Memory = Unit {0}
 
--- the bytes stand behind these, from the place on
+-- the bytes from the place on stand after these
 pub record IsAt (front : List ℕ) (place : ℕ) (bytes : List ℕ) : Type 0 where
   pub there : length front ≡ place
   pub split : bytes ≡ front ++ drop place bytes
@@ -47,7 +47,7 @@ ReadsHeader bytes (parsed.Whole start) =
 ReadsHeader bytes (parsed.Broken place) = DamagedAt place bytes
 ReadsHeader bytes parsed.Memory = Unit {0}
 
--- the bytes are entries, and then a gate is missing or has no body behind it
+-- the bytes are entries, and then a gate is missing or has no body after it
 abbrev pub BreaksAt : ℕ → List ℕ → Type 0
 BreaksAt place bytes =
     (bodies : List (List ℕ)) × AreBodies bodies

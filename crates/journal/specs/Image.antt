@@ -1,4 +1,4 @@
--- The bytes of an image: a header, entries behind open gates, and a closed gate. The constants stand in src/layout.rt.
+-- The bytes of an image: a header, bodies after open gates, and a closed gate. The constants stand in src/layout.rt.
 use Rattle.std.specs.Prelude.{◌≡◌, ◌≢◌, ◌⊎◌, ℕ, ◌^◌, ◌<◌, ◌≤◌, List, [], ◌∷◌, ◌++◌, codes, length}
 use Rattle.u1_base.specs.Fields.{text_field, u32_bytes, u64_bytes}
 use Rattle.u1_base.specs.Ids.{IsId}
@@ -46,7 +46,7 @@ AreBodies (body ∷ bodies) = IsBody body × AreBodies bodies
 unfoldable pub body_field : List ℕ → List ℕ
 body_field body = u32_bytes (length body) ++ body
 
--- an entry: an open gate, and a body behind its length
+-- an entry: an open gate, and a body after its length
 abbrev pub entry : List ℕ → List ℕ
 entry body = OPEN_GATE ∷ body_field body
 

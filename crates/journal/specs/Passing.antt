@@ -25,7 +25,7 @@ pub record HasPassed (image : StoredImage) (bodies : List (List ℕ)) (place : �
   pub rest : List (List ℕ)
   pub split : image.bodies ≡ bodies ++ rest
 
--- what is met behind these bodies: the end, where there are no others, or the next one
+-- what is met after these bodies: the end, where there are no others, or the next one
 abbrev pub Meets : StoredImage → List (List ℕ) → Option Entry → Type 0
 Meets image bodies None = image.bodies ≡ bodies
 Meets image bodies (Some entry) = HasPassed image (bodies ++ entry.body.now ∷ []) entry.next

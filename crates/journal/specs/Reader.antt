@@ -63,7 +63,7 @@ read_entries (suc fuel) format head place (gate ∷ tail) =
     (read_entries fuel format head (place + 1 + length (body_field body)) (drop (length (body_field body)) tail)))
     else Stands format head []
 
--- behind the header
+-- after the header
 abbrev pub after_limit : List ℕ → ℕ → List ℕ → List ℕ → ℕ → Reading
 after_limit file format name uid limit =
     let place = FIRST_FIELD_BYTES + length (text_field name) + length (text_field uid) + LIMIT_BYTES in

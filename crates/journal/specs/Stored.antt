@@ -29,7 +29,7 @@ stored_image format head end file = record {
   journal = record { length = end + 1; limit = head.limit };
 }
 
--- the file reads as its bodies behind this header; the first entry begins at the one place, and the closed gate stands
+-- the file reads as its bodies after this header; the first entry begins at the one place, and the closed gate stands
 -- at the other
 pub record IsWholeImage (format : ℕ) (head : Head) (start end : ℕ) (file : List ℕ) : Type 0 where
   pub reads : ReadsAs format head (bodies_in file) file

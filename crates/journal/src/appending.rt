@@ -153,7 +153,7 @@ impl Journal {
     }
 }
 
-// Writes these bytes behind the gate at the place, and opens the gate when they lie on the disk.
+// Writes these bytes after the gate at the place, and opens the gate when they lie on the disk.
 fn add_behind<D: Disk>(disk: &mut D, gate: u64, behind: &[u8]) -> Result<(), DiskFailed>
     requires place { IsTrue D.tells → gate < length (D.known disk.old).seen }
     requires room { gate + 1 < 2 ^ 64 }

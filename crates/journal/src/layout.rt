@@ -1,6 +1,6 @@
 //! The bytes of an image that have names, and how many bytes its fields take.
 
-/// The letters with which every image begins. The byte of its format stands behind them.
+/// The letters with which every image begins. The byte of its format stands after them.
 pub(crate) const LETTERS: &str = "U1DBVOL";
 
 /// The first of them.

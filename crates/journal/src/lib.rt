@@ -1,8 +1,8 @@
-//! One image on one disk: a header, and bodies behind gates.
+//! One image on one disk: a header, and bodies after gates.
 //!
-//! An image grows by one body at a time. `append` writes the body behind a closed gate and opens
-//! the gate only when the body lies on the disk, so that a crash leaves the bodies with the new one
-//! or without it. Opening reads the bodies up to the first closed gate, or names the place of the
+//! An image grows by one body at a time. `append` writes the body after a closed gate and opens the
+//! gate only when the body lies on the disk, so that a crash leaves the bodies with the new one or
+//! without it. Opening reads the bodies up to the first closed gate, or names the place of the
 //! damage.
 #![tactic(auto)]
 

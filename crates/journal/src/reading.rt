@@ -99,7 +99,7 @@ fn limit_of(bytes: &[u8]) -> Option<u64>
     Some(limit)
 }
 
-/// The body behind its length.
+/// The body after its length.
 pub(crate) fn body_of(bytes: &[u8]) -> Option<&[u8]>
     ensures { MatchOption result (NoBody bytes.now)
         (λ body. IsBody body.now × Begins (body_field body.now) bytes.now) }
@@ -152,7 +152,7 @@ pub(crate) fn header_of(alloc: Global, bytes: &[u8]) -> Parsed<Start>
 }
 
 /// The length of the entries that the bytes begin with, up to the first closed gate, or the place
-/// where a gate is missing or has no body behind it.
+/// where a gate is missing or has no body after it.
 pub(crate) fn end_of_entries(bytes: &[u8]) -> Result<usize, usize>
     ensures { EndsEntries bytes.now result }
 {

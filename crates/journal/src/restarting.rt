@@ -17,11 +17,11 @@ use crate::{Header, ImageFault, Journal, NewImage};
 use disk_model::{Disk, DiskFailed, cut_synced, first_byte, write_synced};
 use std::alloc::Global;
 
-/// Puts an empty image of format 2 in the place of all that the disk holds, in four parts, each
-/// with its sync.
+/// Puts an empty image of format 2 in the place of all that the disk holds, in at most four parts,
+/// each with its sync.
 ///
-/// The first byte is spoilt, the disk is cut to it, the rest of the image is written behind it, and
-/// then the first byte. At `Memory` the disk was not called.
+/// The first byte is spoilt unless no image begins with it, the disk is cut to it, the rest of the
+/// image is written after it, and then the first byte. At `Memory` the disk was not called.
 pub fn restart_image<D: Disk>(
     alloc: Global,
     disk: &mut D,

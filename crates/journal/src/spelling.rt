@@ -2,7 +2,7 @@
 ghost use Rattle.std.specs.Prelude.{◌≡◌, ◌<◌, ◌^◌, [], ◌∷◌, ◌++◌, IfOk, OnOk, length};
 ghost use Rattle.journal.specs.Image.{AreBodies, IsHeader, body_field, entry, header_bytes, image};
 
-use crate::layout::{CLOSED_GATE, LETTERS, OPEN_GATE, SECOND_FORMAT};
+use crate::layout::{BEFORE_BODY_BYTES, CLOSED_GATE, LETTERS, OPEN_GATE, SECOND_FORMAT};
 use crate::{Bodies, Header};
 use std::alloc::Global;
 use u1_base::{Bytes, Memory};
@@ -57,13 +57,14 @@ fn push_body(out: &mut Bytes, body: &[u8]) -> Result<(), Memory>
     out.extend(body)
 }
 
-/// What an append writes behind the gate: the body behind its length, and the next gate, which is
+/// What an append writes after the gate: the body after its length, and the next gate, which is
 /// closed.
 pub(crate) fn behind_the_gate(alloc: Global, body: &[u8]) -> Result<Bytes, Memory>
     requires { length body.now < 2 ^ 32 }
     ensures { IfOk result (λ bytes. bytes ≡ body_field body.now ++ CLOSED_GATE ∷ []) }
 {
-    let mut out = Bytes::new(alloc);
+    // As long as the entry: its own gate stands already, and the next one stands after it.
+    let mut out = Bytes::from_vec(Vec::with_capacity(alloc, BEFORE_BODY_BYTES + body.len())?);
     push_body(&mut out, body)?;
     out.push(CLOSED_GATE)?;
     Ok(out)

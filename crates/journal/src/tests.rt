@@ -54,7 +54,7 @@ fn header(alloc: Global, limit: u64) -> Result<Header, IdFault> {
     Ok(Header { name, uid, limit })
 }
 
-// The image of the worked row: one body behind an open gate.
+// The image of the worked row: one body after an open gate.
 fn worked(alloc: Global, empty: &[u8]) -> Result<Vec<u8>, Memory> {
     let mut image = empty.to_vec(alloc)?;
     image.pop();
@@ -611,7 +611,7 @@ fn a_failed_call_is_told(rt: HostRuntime) {
     }
 }
 
-// Where the bodies begin, one after the other, and where the closed gate stands behind them.
+// Where the bodies begin, one after the other, and where the closed gate stands after them.
 fn met(alloc: Global, stored: &Stored) -> Result<Vec<usize>, Memory> {
     let mut places = Vec::new(alloc);
     let mut place = stored.start();
@@ -660,7 +660,7 @@ fn worked_up_to(alloc: Global, end: &[u8]) -> Result<Vec<u8>, Memory> {
     Ok(image)
 }
 
-// Two bodies, and behind the closed gate bytes that look like a third one.
+// Two bodies, and after the closed gate bytes that look like a third one.
 const TWO_AND_MORE: &[u8] = b"\x01\0\0\0\x03xyz\0\x01\0\0\0\x01z\0";
 
 #[test]
@@ -691,7 +691,7 @@ fn is_damaged_behind_an_entry(alloc: Global) -> bool {
     }
 }
 
-// Damage behind a whole entry is found before an entry is lent.
+// Damage after a whole entry is found before an entry is lent.
 #[test]
 fn lends_no_entry_of_a_damaged_image(rt: HostRuntime) {
     assert!(rt; is_damaged_behind_an_entry(rt.alloc()));

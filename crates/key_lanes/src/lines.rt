@@ -50,7 +50,7 @@ fn break_by_bytes(bytes: &[u8], from: usize) -> Option<usize>
     None
 }
 
-// The first lane from `at` on where CR LF stands. The LF may stand behind the block. Most blocks
+// The first lane from `at` on where CR LF stands. The LF may stand after the block. Most blocks
 // have no CR.
 #[inline(always)]
 fn break_in_block(bytes: &[u8], at: usize) -> Option<usize>

@@ -4,6 +4,7 @@ use Rattle.std.specs.Option.{option_map}
 use Rattle.std.specs.Io.KnownBytes.{Appends, Consumes}
 use Rattle.u1_base.specs.Causes.{Tells}
 use Rattle.link.specs.declared.input.InputFault.{InputFault}
+use Rattle.link.specs.declared.input.InputFault.TheVariants.{Source, Memory}
 
 -- of an input: the bytes that are left, where told, and how many reads failed
 pub record Input : Type 0 where
@@ -42,3 +43,9 @@ pub record Takes (most : ℕ) (given read : List ℕ) (before after : Input) : T
 abbrev pub Reads : ℕ → Input → Input → Result (List ℕ) InputFault → Type 0
 Reads most before after (Ok bytes) = Takes most bytes bytes before after
 Reads most before after (Err fault) = (given : List ℕ) × (read : List ℕ) × Takes most given read before after
+
+-- the count of faults stands, unless the answer is that a read failed
+abbrev pub CountStands : {T : Type 0} → ℕ → ℕ → Result T InputFault → Type 0
+CountStands before now (Err Source) = Unit {0}
+CountStands before now (Err Memory) = now ≡ before
+CountStands before now (Ok read) = now ≡ before

@@ -53,6 +53,8 @@ impl<R: Read + Drop> Source for StdSource<R> {
             (source_known R.remaining self.new).left result into.new }
         ensures cause { HasCause (source_known R.remaining self.old).faults
             (source_known R.remaining self.new).faults result }
+        ensures faultless { OnOk result ((source_known R.remaining self.new).faults
+            ≡ (source_known R.remaining self.old).faults) }
         ensures keeps { ⊤ }
         ensures why { OnErr result (IsSome (source_fault self.new)) }
     {

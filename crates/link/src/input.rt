@@ -1,7 +1,7 @@
 //! Reading an input to its end, or to a limit.
 ghost use Rattle.std.specs.Prelude.{◌≤◌, ◌<◌, IfOk, OnErr};
 ghost use Rattle.u1_base.specs.Causes.{HasCauseOf};
-ghost use Rattle.link.specs.Streams.{Reads};
+ghost use Rattle.link.specs.Streams.{CountStands, Reads};
 ghost use Rattle.link.specs.Pieces.{AddsNext, Loses};
 
 use crate::Source;
@@ -57,6 +57,7 @@ pub fn read_at_most<S: Source>(
     ensures reads { Reads most (S.known source.old) (S.known source.new) result }
     ensures cause { HasCauseOf InputFault.Source
         (S.known source.old).faults (S.known source.new).faults result }
+    ensures faultless { CountStands (S.known source.old).faults (S.known source.new).faults result }
 {
     let mut bytes = Bytes::new(alloc);
     while bytes.len() < most {
@@ -81,6 +82,7 @@ fn read_piece<S: Source>(
     ensures lost { OnErr result (Loses room (S.known source.old).left (S.known source.new).left) }
     ensures cause { HasCauseOf InputFault.Source
         (S.known source.old).faults (S.known source.new).faults result }
+    ensures faultless { CountStands (S.known source.old).faults (S.known source.new).faults result }
 {
     let mut piece = [0; PIECE];
     match source.read(&mut piece[..room]) {

@@ -61,6 +61,7 @@ impl Source for MemSource {
         ensures within { IfOk result (λ n. n ≤ length into.new) }
         ensures bytes { ReadConsumes (Some self.old.bytes) (Some self.new.bytes) result into.new }
         ensures cause { HasCause self.old.faults self.new.faults result }
+        ensures faultless { OnOk result (self.new.faults ≡ self.old.faults) }
         ensures keeps { ⊤ }
         ensures fails { IsErr result ↔ Contains self.old.failing self.old.calls }
         ensures counts { Counts self.old self.new result }
@@ -200,6 +201,7 @@ impl Source for MemConn {
         ensures bytes { ReadConsumes (Some self.old.source.bytes)
             (Some self.new.source.bytes) result into.new }
         ensures cause { HasCause self.old.source.faults self.new.source.faults result }
+        ensures faultless { OnOk result (self.new.source.faults ≡ self.old.source.faults) }
         ensures keeps { self.new.sink ≡ self.old.sink }
         ensures fails { IsErr result ↔ Contains self.old.source.failing self.old.source.calls }
         ensures counts { Counts self.old.source self.new.source result }

@@ -1,5 +1,5 @@
 //! Where bytes come from.
-ghost use Rattle.std.specs.Prelude.{◌≤◌, IfOk, length};
+ghost use Rattle.std.specs.Prelude.{◌≡◌, ◌≤◌, IfOk, OnOk, length};
 ghost use Rattle.std.specs.Io.KnownBytes.{ReadConsumes};
 ghost use Rattle.u1_base.specs.Causes.{HasCause};
 ghost use Rattle.link.specs.Streams.{Input};
@@ -37,5 +37,6 @@ pub trait Source {
         ensures within { IfOk result (λ n. n ≤ length into.new) }
         ensures bytes { ReadConsumes (known self.old).left (known self.new).left result into.new }
         ensures cause { HasCause (known self.old).faults (known self.new).faults result }
+        ensures faultless { OnOk result ((known self.new).faults ≡ (known self.old).faults) }
         ensures keeps { read_keeps self.old self.new };
 }

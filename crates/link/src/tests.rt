@@ -212,7 +212,7 @@ fn writes_and_reads_a_file(rt: HostRuntime) -> Result<(), Fail> {
     Ok(())
 }
 
-// What a buffer holds back fails only when it is flushed.
+// A write to a file that is open to read fails.
 #[test]
 fn fails_to_write_to_what_is_open_to_read(rt: HostRuntime) -> Result<(), Fail> {
     let file = File::create(&rt, "closed")?;
@@ -223,6 +223,7 @@ fn fails_to_write_to_what_is_open_to_read(rt: HostRuntime) -> Result<(), Fail> {
     Ok(())
 }
 
+// What a buffer holds back fails only when it is flushed.
 #[test]
 fn fails_when_it_is_flushed(rt: HostRuntime) -> Result<(), Fail> {
     let file = File::create(&rt, "held_back")?;

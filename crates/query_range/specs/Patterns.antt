@@ -42,7 +42,7 @@ is_open (Exact exact) = false
 is_open (Prefix prefix) = true
 is_open Any = true
 
--- the parts are a pattern: behind a prefix or any, all parts are any
+-- the parts are a pattern: after a prefix or any, all parts are any
 abbrev pub IsPattern : List Part → Type 0
 IsPattern parts = AllPairs (λ part later. is_open part ≡ true → is_any later ≡ true) parts
 

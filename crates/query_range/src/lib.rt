@@ -1,6 +1,6 @@
 //! Queries over the table of an index.
 //!
-//! A query has a value for each expression of the index: a text, a prefix with a star behind it, or
+//! A query has a value for each expression of the index: a text, a prefix with a star after it, or
 //! a star alone. It finds the documents with a key that meets each value, by their least such key
 //! and then by id. A range finds those with a key from a start to an end. Each answer is a filter
 //! of the table's pairs, found by one search and a look at each pair from there until nothing more

@@ -73,8 +73,8 @@ fn starred_part(alloc: Global, begin: &str) -> Result<Part, Memory>
     Ok(Part::Prefix(Text::copy(alloc, begin)?))
 }
 
-/// The parts of a query, one for each expression of the index. Behind a prefix or any, all parts
-/// are any.
+/// The parts of a query, one for each expression of the index. After a prefix or any, all parts are
+/// any.
 #[derive(Debug, Drop)]
 pub struct Pattern {
     parts: Items<Part>,
@@ -132,7 +132,7 @@ impl Pattern {
         meets_all(self.parts.as_slice(), key.texts())
     }
 
-    // The exact texts, and the prefix behind them.
+    // The exact texts, and the prefix after them.
     pub(crate) fn floor(&self, alloc: Global) -> Result<Texts, Memory>
         ensures texts { IfOk result (λ texts. texts ≡ floor_of self.now) }
         ensures pattern { IsPattern self.now }
@@ -156,7 +156,7 @@ fn meets_all(parts: &[Part], texts: &[Text]) -> bool
     true
 }
 
-// The exact texts, and the prefix behind them.
+// The exact texts, and the prefix after them.
 fn floor_texts(alloc: Global, parts: &[Part]) -> Result<Texts, Memory>
     ensures { IfOk result (λ texts. texts ≡ floor_of parts.now) }
 {

@@ -123,7 +123,7 @@ fn pattern(alloc: Global, values: &str) -> Result<Pattern, Fail> {
     Ok(Pattern::read(alloc, values.as_slice(), width)?)
 }
 
-// The ids with a blank behind each.
+// The ids with a blank after each.
 fn spelled(alloc: Global, ids: &[DocId]) -> Result<String, Fail> {
     let mut spelling = String::new(alloc);
     for id in ids {

@@ -33,6 +33,8 @@ pub maybe_moved_some : (m : Move) (w : Written)
 unfolding maybe_moved moved
 maybe_moved_some m w = alike (maybe_moved Second) (Some m) (moved Second) m w refl refl
 
+pub ruleset maybe_moves = (maybe_moved_some, maybe_moved_none)
+
 pub accept_is : (a : Accept) (w : Written)
     → with_field (accept Second) a w ≡ with_field content a.content
     (with_field flag a.current
@@ -106,6 +108,8 @@ pub deleted_is : (n : Text) (w : Written)
 deleted_is n w =
     alike (step Second) (IndexDeleted n) (kind then parts Second) (step_parts (IndexDeleted n)) w refl refl
     ∙ parts_is kind_of.IndexDelete n w
+
+pub ruleset steps = (accepted_is, gone_is, position_is, created_is, deleted_is)
 
 -- the body of a step is what is written of it
 pub body_is : (us : List Text) (x : Step) (v w : Written) → v ≡ unwritten us → w ≡ with_field (step Second) x v

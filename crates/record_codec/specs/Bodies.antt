@@ -137,7 +137,7 @@ Parts kind_of.Position = Move
 Parts kind_of.IndexCreate = Text × List Text
 Parts kind_of.IndexDelete = Text
 
--- the fields behind the kind, in order
+-- the fields after the kind, in order
 abbrev pub parts : Format → (k : Kind) → Field (Parts k)
 parts format kind_of.Accept = id Document then λ _. accept format then λ _. id Transaction then λ _. maybe_moved format
 parts format kind_of.Gone = id Document then λ _. id Transaction then λ _. maybe_moved format
@@ -185,7 +185,7 @@ pub record Recorded : Type 0 where
   pub step : Step
   pub added : List Text
 
--- nothing stands behind the last field
+-- nothing stands after the last field
 abbrev pub at_end : Step × Rest → Result Recorded ℕ
 at_end x = if length x.1.bytes == 0 then Ok (record { step = x.0; added = x.1.table.added }) else Err (length x.1.bytes)
 

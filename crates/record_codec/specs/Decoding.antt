@@ -30,7 +30,7 @@ DecodesAlone read (Ok s) = read ≡ Ok (step_of s)
 DecodesAlone read (Err (Bad place)) = read ≡ Err place
 DecodesAlone read (Err Memory) = Unit {0}
 
--- the place of a fault is in the body of so many bytes, or behind its last one
+-- the place of a fault is in the body of so many bytes, or after its last one
 abbrev pub IsBadWithin : {T : Type 0} → ℕ → Result T RecordFault → Type 0
 IsBadWithin size (Ok read) = Unit {0}
 IsBadWithin size (Err (Bad place)) = place ≤ size

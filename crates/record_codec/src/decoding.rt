@@ -8,6 +8,7 @@ ghost use Rattle.record_codec.specs.Laws.{Says};
 ghost use Rattle.record_codec.specs.Steps.{IsStep};
 
 use crate::reading::read_step;
+use json::Scratch;
 use record_fields::{Format, Reader, ReplicaUids, Stop, Uids};
 use replica_state::Step;
 use std::alloc::Global;
@@ -26,8 +27,7 @@ pub struct Decoded {
 /// Why a body was not read.
 #[derive(Clone, Copy, Debug, PartialEq, Eq)]
 pub enum RecordFault {
-    /// The place of the first field that has no reading, or of the first byte behind the last
-    /// field.
+    /// The place of the first field that has no reading, or of the first byte after the last field.
     Bad(u64),
     Memory,
 }
@@ -59,25 +59,35 @@ impl From<Memory> for RecordFault {
     }
 }
 
-/// Reads the step that a body in format 2 says, where these uids have numbers.
-pub fn decode(alloc: Global, bytes: &[u8], uids: &Uids) -> Result<Decoded, RecordFault>
+/// Reads the step that a body in format 2 says, where these uids have numbers. The scratch is for
+/// its content; one serves for all bodies.
+pub fn decode(
+    alloc: Global,
+    scratch: &mut Scratch<Global>,
+    bytes: &[u8],
+    uids: &Uids,
+) -> Result<Decoded, RecordFault>
     ensures reads { Decodes (step_in uids.now.uids bytes.now) result }
     ensures says { IfOk result (λ d. Says uids.now.uids bytes.now (recorded d)) }
     ensures within { IsBadWithin (length bytes.now) result }
 {
     // Lending the uids is what tells the proof that they are as they have numbers.
     let _uids = uids.as_slice();
-    record(alloc, Format::Second, bytes, uids)
+    record(alloc, scratch, Format::Second, bytes, uids)
 }
 
 /// Reads the step that a body in format 1 says.
-pub fn decode_first(alloc: Global, bytes: &[u8]) -> Result<Step, RecordFault>
+pub fn decode_first(
+    alloc: Global,
+    scratch: &mut Scratch<Global>,
+    bytes: &[u8],
+) -> Result<Step, RecordFault>
     ensures reads { DecodesAlone (first_step_in bytes.now) result }
     ensures says { IfOk result (λ s. IsStep (step_of s) × (bytes.now ≡ first_body_of (step_of s))) }
     ensures within { IsBadWithin (length bytes.now) result }
 {
     let unnumbered = Uids::none(alloc);
-    match record(alloc, Format::First, bytes, &unnumbered) {
+    match record(alloc, scratch, Format::First, bytes, &unnumbered) {
         Ok(decoded) => Ok(decoded.into_step()),
         Err(fault) => Err(fault),
     }
@@ -94,23 +104,35 @@ impl Decoded {
 
 // The step, or the place of the fault.
 #[tactic(auto, unfolding(crate::specs::Bodies::recorded_in))]
-fn record(alloc: Global, format: Format, bytes: &[u8], uids: &Uids) -> Result<Decoded, RecordFault>
+fn record(
+    alloc: Global,
+    scratch: &mut Scratch<Global>,
+    format: Format,
+    bytes: &[u8],
+    uids: &Uids,
+) -> Result<Decoded, RecordFault>
     ensures reads { Decodes (recorded_in format uids.now.uids bytes.now) result }
     ensures within { IsBadWithin (length bytes.now) result }
 {
-    match read_whole(alloc, format, bytes, uids) {
+    match read_whole(alloc, scratch, format, bytes, uids) {
         Ok(decoded) => Ok(decoded),
         Err(Stop::Bad(left)) => Err(RecordFault::Bad(bytes.len().saturating_sub(left) as u64)),
         Err(Stop::Memory) => Err(RecordFault::Memory),
     }
 }
 
-// The step, behind which nothing stands.
-fn read_whole(alloc: Global, format: Format, bytes: &[u8], uids: &Uids) -> Result<Decoded, Stop>
+// The step, after which nothing stands.
+fn read_whole(
+    alloc: Global,
+    scratch: &mut Scratch<Global>,
+    format: Format,
+    bytes: &[u8],
+    uids: &Uids,
+) -> Result<Decoded, Stop>
     ensures { Records (read_whole format uids.now.uids bytes.now) result }
 {
     let mut reader = Reader::new(alloc, bytes, uids);
-    let step = read_step(&mut reader, format)?;
+    let step = read_step(&mut reader, scratch, format)?;
     let left = reader.left();
     if left != 0 {
         return Err(Stop::Bad(left));

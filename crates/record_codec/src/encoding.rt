@@ -63,7 +63,7 @@ fn spell(alloc: Global, step: &Step, uids: &Uids) -> Result<Encoded, Memory>
     ensures added { IfOk result (λ e. e.added ≡ added_of uids.now.uids (step_of step.now)) }
     ensures step { OnOk result (IsStep (step_of step.now)) }
 {
-    let mut writer = Writer::new(alloc, uids);
+    let mut writer = Writer::new(alloc, uids)?;
     write_step(&mut writer, step)?;
     let (bytes, added) = writer.into_parts();
     Ok(Encoded { bytes, added })

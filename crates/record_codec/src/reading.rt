@@ -11,14 +11,20 @@ ghost use Rattle.record_codec.specs.declared.kind.Kind.TheVariants as kind_of;
 use crate::kind::Kind;
 use crate::{makings, tables};
 use conflicts::{Accept, Making};
+use json::Scratch;
 use record_fields::{Format, Reader, Stop};
 use replica_state::{IndexExprs, Move, PosTable, Step};
+use std::alloc::Global;
 
-pub(crate) fn read_step(reader: &mut Reader<'_>, format: Format) -> Result<Step, Stop>
+pub(crate) fn read_step(
+    reader: &mut Reader<'_>,
+    scratch: &mut Scratch<Global>,
+    format: Format,
+) -> Result<Step, Stop>
     ensures { Reads step_of ((step format).read reader.old) result reader.new }
 {
     match read_kind(reader)? {
-        Kind::Accept => accepted(reader, format),
+        Kind::Accept => accepted(reader, scratch, format),
         Kind::Gone => gone(reader, format),
         Kind::Position => position(reader, format),
         Kind::IndexCreate => index_created(reader),
@@ -37,11 +43,15 @@ fn read_kind(reader: &mut Reader<'_>) -> Result<Kind, Stop>
     }
 }
 
-fn accepted(reader: &mut Reader<'_>, format: Format) -> Result<Step, Stop>
+fn accepted(
+    reader: &mut Reader<'_>,
+    scratch: &mut Scratch<Global>,
+    format: Format,
+) -> Result<Step, Stop>
     ensures { Reads step_of (step_at format kind_of.Accept reader.old) result reader.new }
 {
     let doc = reader.id()?;
-    let accept = read_accept(reader, format)?;
+    let accept = read_accept(reader, scratch, format)?;
     let trans = reader.id()?;
     let moved = read_maybe_moved(reader, format)?;
     Ok(Step::Accept {
@@ -88,14 +98,18 @@ fn index_deleted(reader: &mut Reader<'_>) -> Result<Step, Stop>
 // ---- acceptances
 
 #[tactic(auto, unfolding(crate::specs::Bodies::accept))]
-fn read_accept(reader: &mut Reader<'_>, format: Format) -> Result<Accept, Stop>
+fn read_accept(
+    reader: &mut Reader<'_>,
+    scratch: &mut Scratch<Global>,
+    format: Format,
+) -> Result<Accept, Stop>
     ensures { Reads (λ a. a) ((accept format).read reader.old) result reader.new }
 {
     let rev = reader.clock(format)?;
     let making = read_making(reader)?;
     let parents = reader.clocks(format)?;
     let current = reader.flag()?;
-    let content = reader.content()?;
+    let content = reader.content(scratch)?;
     Ok(Accept {
         rev,
         content,

@@ -1,6 +1,7 @@
 //! Worked bodies of both formats byte for byte, each fault at its place, and each cut.
 use crate::{RecordFault, Uids, decode, decode_first, encode};
 use conflicts::{Accept, Making};
+use json::Scratch;
 use replica_state::Step;
 use std::alloc::Global;
 use std::test::Fail;
@@ -65,13 +66,13 @@ fn is_spelled(
 
 // The body is read as a step, whose body it is.
 fn reads_back(alloc: Global, body: &[u8], uids: &Uids) -> Result<bool, Fail> {
-    let decoded = decode(alloc, body, uids)?;
+    let decoded = decode(alloc, &mut Scratch::new(alloc), body, uids)?;
     is_spelled(alloc, &decoded.step, uids, body, decoded.added.len())
 }
 
 // The body in format 1 says the step that this one says in format 2.
 fn is_moved(alloc: Global, first: &[u8], body: &[u8], added: usize) -> Result<bool, Fail> {
-    let step = decode_first(alloc, first)?;
+    let step = decode_first(alloc, &mut Scratch::new(alloc), first)?;
     let uids = own(alloc)?;
     is_spelled(alloc, &step, &uids, body, added)
 }
@@ -100,7 +101,7 @@ fn is_created(accept: &Accept) -> Result<bool, Fail> {
 }
 
 fn says_created(alloc: Global) -> Result<bool, Fail> {
-    match decode_first(alloc, CREATED_FIRST)? {
+    match decode_first(alloc, &mut Scratch::new(alloc), CREATED_FIRST)? {
         Step::Accept { doc, accept, .. } => {
             Ok(are_same(doc.as_str().as_bytes(), b"d1") && is_created(&accept)?)
         }
@@ -117,10 +118,10 @@ fn says_what_was_created(rt: HostRuntime) -> Result<(), Fail> {
 // What is gone, with a move of b, where b has the number 1.
 const NUMBERED: &[u8] = b"\x02\0\x01d\0\x01T\x01\0\0\0\x01\0\0\0\0\0\0\0\x07\0\x01U";
 
-// The uids that have numbers behind the second body of those above.
+// The uids that have numbers after the second body of those above.
 fn numbered(alloc: Global) -> Result<Uids, Fail> {
     let mut uids = own(alloc)?;
-    let decoded = decode(alloc, BODIES[1], &uids)?;
+    let decoded = decode(alloc, &mut Scratch::new(alloc), BODIES[1], &uids)?;
     uids.reserve(decoded.added.len() as u64)?;
     uids.add(decoded.added);
     Ok(uids)
@@ -143,7 +144,7 @@ const FAULTS: [(&[u8], u64); 35] = [
     (b"\x00", 0),
     (b"\x06\0\x01i", 0),
     (b"\x09\0\x02d1", 0),
-    // an index name that is none, that is cut, that has a byte behind it
+    // an index name that is none, that is cut, that has a byte after it
     (b"\x05\0\0", 1),
     (b"\x05\0\x01/", 1),
     (b"\x05\0\x02i", 1),
@@ -210,7 +211,7 @@ const FAULTS: [(&[u8], u64); 35] = [
 ];
 
 fn is_bad_at(alloc: Global, body: &[u8], uids: &Uids, place: u64) -> bool {
-    match decode(alloc, body, uids) {
+    match decode(alloc, &mut Scratch::new(alloc), body, uids) {
         Err(RecordFault::Bad(at)) => at == place,
         Err(RecordFault::Memory) => false,
         Ok(_) => false,

@@ -15,7 +15,7 @@ use record_fields::Writer;
 use replica_state::{IndexExprs, Move, PosTable, Step};
 use u1_base::Memory;
 
-#[tactic(auto, using(crate::proofs::Writings::accepted_is, crate::proofs::Writings::gone_is, crate::proofs::Writings::position_is, crate::proofs::Writings::created_is, crate::proofs::Writings::deleted_is))]
+#[tactic(auto, using(crate::proofs::Writings::steps))]
 pub(crate) fn write_step(writer: &mut Writer<'_>, value: &Step) -> Result<(), Memory>
     ensures wrote { OnOk result
         (writer.new ≡ with_field (step format_of.Second) (step_of value.now) writer.old) }
@@ -99,7 +99,7 @@ fn write_table(writer: &mut Writer<'_>, value: PosTable) -> Result<(), Memory>
     writer.byte(tables::byte(Some(value)))
 }
 
-#[tactic(auto, using(crate::proofs::Writings::maybe_moved_some, crate::proofs::Writings::maybe_moved_none))]
+#[tactic(auto, using(crate::proofs::Writings::maybe_moves))]
 fn write_maybe_moved(writer: &mut Writer<'_>, value: &Option<Move>) -> Result<(), Memory>
     ensures wrote { OnOk result
         (writer.new ≡ with_field (maybe_moved format_of.Second) value.now writer.old) }

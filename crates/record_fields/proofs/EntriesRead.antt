@@ -60,3 +60,5 @@ no_entries es f h = by (is_clock es) refl
 -- and a clock that has these entries is theirs
 pub these_entries : (x : Clock) (es : Entries) → x.entries ≡ es → clock_of es ≡ Some x
 these_entries x es same = clock_of-entries x es (sym same)
+
+pub ruleset clocks = (no_entries, these_entries)

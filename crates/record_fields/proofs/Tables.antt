@@ -284,6 +284,8 @@ pub number_neither : (us vs : List Text) (u : Text) → number_of us u ≡ None 
 unfolding shifted
 number_neither us vs u none e = number_behind us vs u none ∙ ap (shifted (length us)) e
 
+pub ruleset numbers = (number_given, number_added, number_neither)
+
 some_shifted : (k : ℕ) (o : Option ℕ) → is_some (shifted k o) ≡ is_some o
 unfolding shifted
 some_shifted k None = refl

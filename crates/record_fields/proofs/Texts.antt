@@ -117,3 +117,7 @@ pub other_expression : (s : List ℕ) (f : Expression) → expr_in s ≡ Some f 
     → expression_in s ≡ None
 unfolding is_spelled
 other_expression s f e other = ap (λ o. cond (spells_back s o) (Some s) None) e ∙ ap (λ b. cond b (Some s) None) other
+
+pub ruleset no_expressions = (no_expression, no_expression_text)
+
+pub ruleset read_expressions = (canonical_expression, other_expression)

@@ -6,6 +6,7 @@ use Rattle.std.specs.List.{flat_map, list_all}
 use Rattle.std.specs.Int.{w16, w32, w64, to_be_bytes}
 use Rattle.std.proofs.lemmas.Bool.{and_parts}
 use Rattle.std.proofs.lemmas.List.Concat.{flat_map-cons}
+use Rattle.u1_base.specs.Fields.{u16_bytes, u32_bytes}
 use Rattle.u1_base.specs.Places.{Place}
 use Rattle.u1_base.specs.declared.ids.Form.TheVariants.{Replica, Transaction}
 use Rattle.content.specs.Tree.{Tree}
@@ -27,6 +28,22 @@ use Rattle.record_fields.proofs.Tables.{after-append, with_known, with_new}
 
 abbrev pub written : Table → List ℕ → Written
 written t s = record { table = t; bytes = s }
+
+-- ---- texts
+
+pub short_text_is : (text_bytes : List ℕ) (w : Written)
+    → with_field (text w16) text_bytes w
+    ≡ written w.table ((w.bytes ++ u16_bytes (length text_bytes)) ++ text_bytes)
+unfolding with_field u16_bytes
+short_text_is text_bytes w =
+    ap (written w.table) (sym (append_assoc w.bytes (to_be_bytes w16 (length text_bytes)) text_bytes))
+
+pub text_is : (text_bytes : List ℕ) (w : Written)
+    → with_field (text w32) text_bytes w
+    ≡ written w.table ((w.bytes ++ u32_bytes (length text_bytes)) ++ text_bytes)
+unfolding with_field u32_bytes
+text_is text_bytes w =
+    ap (written w.table) (sym (append_assoc w.bytes (to_be_bytes w32 (length text_bytes)) text_bytes))
 
 -- ---- fields put together
 
@@ -129,6 +146,8 @@ content_some t w =
     ∙ then_is flag held true t w
     ∙ alike (held true) t (text w32) (canonical t) (with_field flag true w) refl refl
     ∙ ap (with_field (text w32) (canonical t)) (alike flag true byte 1 w refl refl)
+
+pub ruleset contents = (content_some, content_none)
 
 pub expression_is : (e : Text) (w : Written) → with_field expression e w ≡ with_field (text w16) e w
 expression_is e w = alike expression e (text w16) e w refl refl

@@ -12,7 +12,7 @@ pub record Rest : Type 0 where
 abbrev pub whole : List Text → List ℕ → Rest
 whole us body = record { table = table_with us; bytes = body }
 
--- a value and what is left behind it; or how many bytes are left where a field has no reading
+-- a value and what is left after it; or how many bytes are left where a field has no reading
 abbrev pub Read : Type 0 → Type 0
 Read A = Result (A × Rest) ℕ
 
@@ -34,7 +34,7 @@ pub record Field (A : Type 0) : Type 0 where
 abbrev pub no_field : {A : Type 0} → Rest → Read A
 no_field r = Err (length r.bytes)
 
--- ---- one field behind another
+-- ---- one field after another
 
 -- two fields, of which the second depends on what the first says
 infixr 5 ◌then◌

@@ -1,4 +1,4 @@
--- The fields that name uids: clocks and moves, in both formats.
+-- The fields that name uids: clocks and places of peers, in both formats.
 use Rattle.std.specs.Prelude.{◌≤◌, ℕ, ◌==◌, List, [], ◌∷◌, ◌++◌, length, is_some, if◌then◌else◌, Option, Some, None, Ok}
 use Rattle.std.specs.Prelude.{Err}
 use Rattle.std.specs.List.{slice_get}
@@ -21,7 +21,7 @@ abbrev pub reference_bytes : Table → Uid → Option ℕ → List ℕ
 reference_bytes t u (Some n) = to_be_bytes w32 n
 reference_bytes t u None = to_be_bytes w32 (length (uids t)) ++ (id Replica).spelled t u
 
--- a text behind the next free number: a uid that has none. The whole reference began with so many bytes left
+-- a text after the next free number: a uid that has none. The whole reference began with so many bytes left
 abbrev pub introduced : ℕ → Read Uid → Read Uid
 introduced left (Err _) = Err left
 introduced left (Ok u) =
@@ -37,7 +37,7 @@ abbrev pub reference_at : ℕ → Read ℕ → Read Uid
 reference_at left (Err _) = Err left
 reference_at left (Ok n) = referred left (slice_get (uids n.1.table) n.0) n.0 n.1
 
--- the number of a uid in four bytes; behind the next free number stands the text of the uid that gets it
+-- the number of a uid in four bytes; after the next free number stands the text of the uid that gets it
 abbrev pub reference : Field Uid
 reference = record {
   named = λ u. u ∷ [];

@@ -29,7 +29,7 @@ byte_in t (b ∷ more) = Ok (b, record { table = t; bytes = more })
 abbrev pub byte : Field ℕ
 byte = record { named = λ _. []; spelled = λ _ b. b ∷ []; read = λ r. byte_in r.table r.bytes }
 
--- what stands behind so many bytes
+-- what stands after so many bytes
 abbrev pub beyond : ℕ → Rest → Rest
 beyond n r = record { table = r.table; bytes = drop n r.bytes }
 
@@ -55,7 +55,7 @@ number w = record { named = λ _. []; spelled = λ _ n. to_be_bytes w n; read = 
 abbrev pub sized : Width → Field ((n : ℕ) × List ℕ)
 sized w = number w then bytes
 
--- a text behind its length, as one field
+-- a text after its length, as one field
 abbrev pub text : Width → Field Text
 text w = checked (sized w) (λ s. Some s.1) (λ s. (length s, s))
 
@@ -63,7 +63,7 @@ text w = checked (sized w) (λ s. Some s.1) (λ s. (length s, s))
 abbrev pub text_of : {B : Type 0} → Width → (Text → Option B) → (B → Text) → Field B
 text_of w test from = checked (text w) test from
 
--- an id behind two bytes of length
+-- an id after two bytes of length
 abbrev pub id : Form → Field Text
 id form = text_of w16 (id_in form) (λ u. u)
 
@@ -96,7 +96,7 @@ abbrev pub Held : Bool → Type 0
 Held false = Unit {0}
 Held true = Tree
 
--- the canonical text behind four bytes of length
+-- the canonical text after four bytes of length
 abbrev pub held : (b : Bool) → Field (Held b)
 held false = nothing
 held true = text_of w32 canonical_in canonical
@@ -109,7 +109,7 @@ abbrev pub held_of : Option Tree → (b : Bool) × Held b
 held_of None = (false, tt)
 held_of (Some t) = (true, t)
 
--- a flag, and behind a 1 the content
+-- a flag, and after a 1 the content
 abbrev pub content : Field (Option Tree)
 content = mapped (flag then held) (λ p. content_of p.0 p.1) held_of
 

@@ -16,7 +16,7 @@ abbrev pub Stops : {B : Type 0} → Result B ℕ → Stop → Type 0
 Stops read (Bad left) = read ≡ Err left
 Stops read Memory = Unit {0}
 
--- what a field reads as, seen by view, with what is left behind it; or where it stops
+-- what a field reads as, seen by view, with what is left after it; or where it stops
 abbrev pub Reads : {A B : Type 0} → (A → B) → Read B → Result A Stop → Rest → Type 0
 Reads view read (Ok x) behind = read ≡ Ok (view x, behind)
 Reads view read (Err e) behind = Stops read e

@@ -3,7 +3,7 @@ use Rattle.std.specs.Prelude.{ℕ, List, [], ◌++◌}
 use Rattle.record_fields.specs.Table.{Text, Table, table_with, after}
 use Rattle.record_fields.specs.Fields.{Field}
 
--- the bytes so far, and the uids that have numbers behind them
+-- the bytes so far, and the uids that have numbers after them
 pub record Written : Type 0 where
   pub table : Table
   pub bytes : List ℕ

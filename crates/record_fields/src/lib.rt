@@ -4,7 +4,7 @@
 //! the front of some bytes. A uid stands in format 2 as its number, and as its text where it is
 //! named for the first time; so fields are read and written with the uids that have numbers before
 //! them. A reader answers what the field reads as, or where it has no reading; a writer puts the
-//! spelling of one value behind what it has.
+//! spelling of one value after what it has.
 #![tactic(auto)]
 
 mod format;

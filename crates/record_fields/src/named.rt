@@ -1,5 +1,5 @@
 //! Reading what names uids: clocks, and the places of peers.
-ghost use Rattle.std.specs.Prelude.{◌≡◌, IfOk, None, Ok, is_some, option_copied};
+ghost use Rattle.std.specs.Prelude.{◌≡◌, [], IfOk, None, Ok, is_some, option_copied};
 ghost use Rattle.std.specs.List.{slice_get};
 ghost use Rattle.record_fields.specs.Table.{number_of, uids};
 ghost use Rattle.record_fields.specs.Fields.{each};
@@ -13,6 +13,7 @@ use crate::read::{clock_of, read_clock};
 use crate::reader::Reader;
 use crate::stop::Stop;
 use crate::uids::place_of;
+use std::alloc::Global;
 use u1_base::{Memory, Position, ReplicaUid};
 use vector_rev::{Clock, ClockEntries, ClockEntry, Clocks};
 
@@ -132,7 +133,7 @@ impl<'a> Reader<'a> {
     fn each_entry(&mut self, count: u8) -> Result<ClockEntries, Stop>
         ensures { Reads (λ es. es) ((each entry count).read self.old) result self.new }
     {
-        let mut entries = ClockEntries::new(self.alloc);
+        let mut entries = no_entries(self.alloc, count)?;
         for _ in 0..count {
             let entry = self.entry()?;
             entries.push(entry)?;
@@ -148,7 +149,7 @@ impl<'a> Reader<'a> {
         Ok(ClockEntry::new(uid, counter))
     }
 
-    /// Clocks behind four bytes with their number.
+    /// Clocks after four bytes with their number.
     pub fn clocks(&mut self, format: Format) -> Result<Clocks, Stop>
         ensures { Reads (λ cs. cs) ((clocks format).read self.old) result self.new }
     {
@@ -185,4 +186,12 @@ fn copied(uid: Option<&ReplicaUid>) -> Result<Option<ReplicaUid>, Memory>
         Some(uid) => Ok(Some(uid.copy()?)),
         None => Ok(None),
     }
+}
+
+// No entries, and memory for just so many: a list that grew would keep places that it never needs.
+fn no_entries(alloc: Global, room: u8) -> Result<ClockEntries, Memory>
+    ensures { IfOk result (λ es. es ≡ []) }
+{
+    let entries = Vec::with_capacity(alloc, usize::from(room))?;
+    Ok(ClockEntries::from_vec(entries))
 }

@@ -10,6 +10,7 @@ ghost use Rattle.record_fields.specs.Plain.{canonical_in, if_canonical};
 
 use content::{Content, ContentFault};
 use expr_parser::{Expr, ParseFault};
+use json::Scratch;
 use std::alloc::Global;
 use u1_base::{FormOf, Id, IdFault, Memory};
 use vector_rev::{Clock, ClockEntries, ClockFault};
@@ -31,10 +32,14 @@ pub(crate) fn read_id<F: FormOf>(alloc: Global, bytes: &[u8]) -> Result<Option<I
 }
 
 /// The content whose canonical text the bytes are.
-pub(crate) fn read_content(alloc: Global, bytes: &[u8]) -> Result<Option<Content>, Memory>
+pub(crate) fn read_content(
+    alloc: Global,
+    scratch: &mut Scratch<Global>,
+    bytes: &[u8],
+) -> Result<Option<Content>, Memory>
     ensures { IfOk result (λ found. found ≡ canonical_in bytes.now) }
 {
-    match Content::read(alloc, bytes) {
+    match Content::read_with(alloc, scratch, bytes) {
         Ok(content) => if_canonical(content, bytes),
         Err(ContentFault::Memory) => Err(Memory),
         Err(ContentFault::TooBig(_)) => Ok(None),
@@ -58,7 +63,7 @@ fn if_canonical(content: Content, bytes: &[u8]) -> Result<Option<Content>, Memor
 }
 
 /// The expression whose canonical text the bytes are.
-#[tactic(auto, using(crate::proofs::Texts::no_expression, crate::proofs::Texts::no_expression_text))]
+#[tactic(auto, using(crate::proofs::Texts::no_expressions))]
 pub(crate) fn read_expression(alloc: Global, bytes: &[u8]) -> Result<Option<Expr>, Memory>
     ensures { IfOk result (λ found. IsExpression bytes.now found) }
 {
@@ -74,7 +79,7 @@ pub(crate) fn read_expression(alloc: Global, bytes: &[u8]) -> Result<Option<Expr
 }
 
 // The expression that was read, if the bytes are its canonical text.
-#[tactic(auto, using(crate::proofs::Texts::canonical_expression, crate::proofs::Texts::other_expression))]
+#[tactic(auto, using(crate::proofs::Texts::read_expressions))]
 fn if_spelled(alloc: Global, expr: Expr, bytes: &[u8]) -> Result<Option<Expr>, Memory>
     requires read { expr_in bytes.now ≡ Some (form_of expr) }
     requires expr { IsExpr (form_of expr) }
@@ -88,7 +93,7 @@ fn if_spelled(alloc: Global, expr: Expr, bytes: &[u8]) -> Result<Option<Expr>, M
 }
 
 /// The clock of the entries.
-#[tactic(auto, using(crate::proofs::EntriesRead::no_entries, crate::proofs::EntriesRead::these_entries))]
+#[tactic(auto, using(crate::proofs::EntriesRead::clocks))]
 pub(crate) fn clock_of(entries: ClockEntries) -> Option<Clock>
     ensures { result ≡ clock_of entries }
 {

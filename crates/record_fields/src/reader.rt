@@ -116,7 +116,7 @@ impl<'a> Reader<'a> {
         ]))
     }
 
-    // The text behind two bytes of length.
+    // The text after two bytes of length.
     pub(crate) fn short_text(&mut self) -> Result<&'a [u8], Stop>
         ensures { Reads (λ s. s.now) ((text w16).read self.old) result self.new }
     {
@@ -129,7 +129,7 @@ impl<'a> Reader<'a> {
         }
     }
 
-    // The text behind four bytes of length.
+    // The text after four bytes of length.
     pub(crate) fn text(&mut self) -> Result<&'a [u8], Stop>
         ensures { Reads (λ s. s.now) ((text w32).read self.old) result self.new }
     {
@@ -142,7 +142,7 @@ impl<'a> Reader<'a> {
         }
     }
 
-    /// An id behind two bytes of length.
+    /// An id after two bytes of length.
     pub fn id<F: FormOf>(&mut self) -> Result<Id<F>, Stop>
         ensures { Reads (λ u. u) ((id F.form).read self.old) result self.new }
     {

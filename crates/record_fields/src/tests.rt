@@ -23,7 +23,7 @@ fn own(alloc: Global) -> Result<Uids, Fail> {
 fn is_written(alloc: Global, text: &str, want: &[u8]) -> Result<bool, Fail> {
     let uids = own(alloc)?;
     let clock = Clock::read(alloc, text)?;
-    let mut writer = Writer::new(alloc, &uids);
+    let mut writer = Writer::new(alloc, &uids)?;
     writer.clock(&clock)?;
     let (bytes, added) = writer.into_parts();
     Ok(added.len() == 1 && are_same(bytes.as_slice(), want))
@@ -92,7 +92,7 @@ fn refuses_clocks(rt: HostRuntime) -> Result<(), Fail> {
 fn added(alloc: Global) -> Result<usize, Fail> {
     let mut uids = own(alloc)?;
     let clock = Clock::read(alloc, "a:1|b:2")?;
-    let mut writer = Writer::new(alloc, &uids);
+    let mut writer = Writer::new(alloc, &uids)?;
     writer.clock(&clock)?;
     let (_, added) = writer.into_parts();
     uids.reserve(added.len() as u64)?;

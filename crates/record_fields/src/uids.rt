@@ -113,7 +113,7 @@ impl Uids {
     }
 }
 
-// Puts the uids behind the others, for which there is memory.
+// Puts the uids after the others, for which there is memory.
 fn append(list: &mut Vec<ReplicaUid>, mut added: Vec<ReplicaUid>)
     requires { vec_len list.old + vec_len added ≤ vec_capacity list.old }
     ensures items { list.new.items ≡ list.old.items ++ added.items }

@@ -13,32 +13,34 @@ use crate::reader::Reader;
 use crate::stop::Stop;
 use content::Content;
 use expr_parser::{Expr, Exprs};
+use json::Scratch;
+use std::alloc::Global;
 use u1_base::limits::MOST_KEY_TEXTS;
 
 impl<'a> Reader<'a> {
-    /// A flag, and behind a 1 the canonical text of the content after four bytes of length.
-    pub fn content(&mut self) -> Result<Option<Content>, Stop>
+    /// A flag, and after a 1 four bytes of length and the canonical text of the content.
+    pub fn content(&mut self, scratch: &mut Scratch<Global>) -> Result<Option<Content>, Stop>
         ensures { Reads (λ c. c) (content.read self.old) result self.new }
     {
         if self.flag()? {
-            let content = self.held()?;
+            let content = self.held(scratch)?;
             return Ok(Some(content));
         }
         Ok(None)
     }
 
-    fn held(&mut self) -> Result<Content, Stop>
+    fn held(&mut self, scratch: &mut Scratch<Global>) -> Result<Content, Stop>
         ensures { Reads (λ c. c) ((held true).read self.old) result self.new }
     {
         let start = self.left();
         let bytes = self.text()?;
-        match read_content(self.alloc, bytes)? {
+        match read_content(self.alloc, scratch, bytes)? {
             Some(content) => Ok(content),
             None => Err(Stop::Bad(start)),
         }
     }
 
-    /// One to eight expressions behind one byte with their number, each by its canonical text.
+    /// One to eight expressions after one byte with their number, each by its canonical text.
     pub fn expressions(&mut self) -> Result<Exprs, Stop>
         ensures reads { Reads texts_of (expressions.read self.old) result self.new }
         ensures read { IfOk result (λ es. All IsExpr (map form_of es)) }

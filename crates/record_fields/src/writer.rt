@@ -23,6 +23,9 @@ use std::marker::Model;
 use u1_base::{Bytes, FormOf, Id, Memory, Position, ReplicaUid};
 use vector_rev::{Clock, ClockEntry};
 
+// Room for so many bytes is made ahead, so that a short body is never moved.
+const SHORT_BODY_BYTES: usize = 256;
+
 /// The bytes so far, and the uids that have numbers. After an error nothing is said of what was
 /// written.
 #[derive(Drop)]
@@ -46,15 +49,15 @@ impl<'a> Model for Writer<'a> {
 
 impl<'a> Writer<'a> {
     /// Nothing is written, and these uids have numbers.
-    pub fn new(alloc: Global, uids: &'a Uids) -> Writer<'a>
-        ensures { result ≡ unwritten uids.now.uids }
+    pub fn new(alloc: Global, uids: &'a Uids) -> Result<Writer<'a>, Memory>
+        ensures { IfOk result (λ w. w ≡ unwritten uids.now.uids) }
     {
-        Writer {
+        Ok(Writer {
             alloc,
-            out: Bytes::new(alloc),
+            out: Bytes::from_vec(Vec::with_capacity(alloc, SHORT_BODY_BYTES)?),
             uids,
             added: ReplicaUids::new(alloc),
-        }
+        })
     }
 
     /// The bytes, and the uids that got numbers, in the order of the numbers.
@@ -98,8 +101,8 @@ impl<'a> Writer<'a> {
         self.out.push_u64(value)
     }
 
-    // A text behind two bytes of length.
-    #[tactic(auto, unfolding(crate::specs::Writing::with_field, u1_base::specs::Fields::u16_bytes), using(std::proofs::Common::append_assoc))]
+    // A text after two bytes of length.
+    #[tactic(auto, using(crate::proofs::Writings::short_text_is))]
     fn short_text(&mut self, value: &[u8]) -> Result<(), Memory>
         requires { length value.now < 2 ^ 16 }
         ensures { OnOk result (self.new ≡ with_field (text w16) value.now self.old) }
@@ -108,8 +111,8 @@ impl<'a> Writer<'a> {
         self.out.extend(value)
     }
 
-    // A text behind four bytes of length.
-    #[tactic(auto, unfolding(crate::specs::Writing::with_field, u1_base::specs::Fields::u32_bytes), using(std::proofs::Common::append_assoc))]
+    // A text after four bytes of length.
+    #[tactic(auto, using(crate::proofs::Writings::text_is))]
     fn text(&mut self, value: &[u8]) -> Result<(), Memory>
         requires { length value.now < 2 ^ 32 }
         ensures { OnOk result (self.new ≡ with_field (text w32) value.now self.old) }
@@ -118,7 +121,7 @@ impl<'a> Writer<'a> {
         self.out.extend(value)
     }
 
-    /// An id behind two bytes of length.
+    /// An id after two bytes of length.
     #[tactic(auto, unfolding(crate::specs::Writing::with_field))]
     pub fn id<F: FormOf>(&mut self, value: &Id<F>) -> Result<(), Memory>
         ensures wrote { OnOk result (self.new ≡ with_field (id F.form) value.now self.old) }
@@ -142,7 +145,7 @@ impl<'a> Writer<'a> {
     }
 
     // The number of the uid, if it has one.
-    #[tactic(auto, using(crate::proofs::Tables::number_given, crate::proofs::Tables::number_added, crate::proofs::Tables::number_neither))]
+    #[tactic(auto, using(crate::proofs::Tables::numbers))]
     fn number_of(&self, value: &ReplicaUid) -> Result<Option<u32>, Memory>
         ensures { IfOk result (λ number. number ≡ number_of (uids self.now.table) value.now) }
     {
@@ -167,7 +170,7 @@ impl<'a> Writer<'a> {
         Ok(())
     }
 
-    /// The entries of a clock behind one byte with their number.
+    /// The entries of a clock after one byte with their number.
     #[tactic(auto, using(crate::proofs::Writings::clock_is))]
     pub fn clock(&mut self, value: &Clock) -> Result<(), Memory>
         ensures { OnOk result (self.new ≡ with_field (clock Second) value.now self.old) }
@@ -195,7 +198,7 @@ impl<'a> Writer<'a> {
         self.long_number(value.counter())
     }
 
-    /// Clocks behind four bytes with their number.
+    /// Clocks after four bytes with their number.
     #[tactic(auto, using(crate::proofs::Writings::clocks_is))]
     pub fn clocks(&mut self, values: &[Clock]) -> Result<(), Memory>
         requires { length values.now < 2 ^ 32 }
@@ -228,8 +231,8 @@ impl<'a> Writer<'a> {
         }
     }
 
-    /// A flag, and behind a 1 the canonical text of the content after four bytes of length.
-    #[tactic(auto, using(crate::proofs::Writings::content_some, crate::proofs::Writings::content_none))]
+    /// A flag, and after a 1 four bytes of length and the canonical text of the content.
+    #[tactic(auto, using(crate::proofs::Writings::contents))]
     pub fn content(&mut self, value: &Option<Content>) -> Result<(), Memory>
         ensures wrote { OnOk result (self.new ≡ with_field content value.now self.old) }
         ensures is { OnOk result (IfSome value.now IsContent) }
@@ -245,7 +248,7 @@ impl<'a> Writer<'a> {
         }
     }
 
-    /// One to eight expressions behind one byte with their number, each by its canonical text.
+    /// One to eight expressions after one byte with their number, each by its canonical text.
     #[tactic(auto, using(crate::proofs::Writings::expressions_is))]
     pub fn expressions(&mut self, values: &[Expr]) -> Result<(), Memory>
         requires { AreExprs (texts_of values.now) }

@@ -22,7 +22,7 @@ use Rattle.volume.specs.Store.{Found as FoundImages, found_of}
 use Rattle.volume.specs.Store.Found.{Blank as NoImages, Damaged as BrokenImage, Stands as StandingImage}
 use Rattle.replica_cli.specs.declared.store.StoreOnDisks.{StoreOnDisks}
 
--- An image as opening it leaves it: its bodies, and the uids that have numbers behind them. One of the first format is
+-- An image as opening it leaves it: its bodies, and the uids that have numbers after them. One of the first format is
 -- spelled anew in the second.
 pub record Opened : Type 0 where
   pub bodies : List (List ℕ)

@@ -14,8 +14,8 @@ use u1_base::Text;
 
 /// Does the command of the words over the store on three disks, and prints its lines.
 ///
-/// `words` are all words behind the program's name; the first is the store's directory, which is
-/// not looked into. Ids are made of the seed. The disks are handed back beside the outcome.
+/// `words` are all words after the program's name; the first is the store's directory, which is not
+/// looked into. Ids are made of the seed. The disks are handed back beside the outcome.
 pub fn run<D: Disk, S: Source, K: Sink>(
     alloc: Global,
     words: &[Text],

@@ -60,7 +60,7 @@ fn have_run(
     have_ended(alloc, &ends, want)
 }
 
-// Whether the calls of these lines end so on a new replica, and the story goes on behind them.
+// Whether the calls of these lines end so on a new replica, and the story goes on after them.
 fn run_so(alloc: Global, lines: &str, want: &str, story: &'static str) -> Result<bool, Fail> {
     let mut replica = empty(alloc)?;
     run_on(alloc, &mut replica, lines, want, story)

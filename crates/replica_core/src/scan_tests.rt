@@ -34,7 +34,7 @@ const EXACT: [&str; 5] = ["a", "ab", "b", "ba", "c"];
 
 const SECOND: [&str; 9] = ["a", "ab", "b", "ba", "c", "d", "a*", "b*", "*"];
 
-// Behind these only any text can be asked for.
+// After these only any text can be asked for.
 const OPEN: [&str; 5] = ["a*", "ab*", "b*", "d*", "*"];
 
 // The number of each document's key.

@@ -1,5 +1,5 @@
 //! Stories: each line is a call on a replica in memory or a question on its state, with the answer
-//! behind `=>`. An empty line begins with a new replica, which has no document.
+//! after `=>`. An empty line begins with a new replica, which has no document.
 use crate::stories::answers::{answer_of, created};
 use crate::stories::calls::call_of;
 use crate::stories::questions::asked;
@@ -98,7 +98,7 @@ fn is_called(
 }
 
 // Where memory runs out the state is as it was, and the call can be made again. `rt try --test
-// --fail-alloc` makes each call for memory fail in turn.
+// --fail-alloc N` makes the N-th call for memory fail.
 fn called(alloc: Global, replica: &mut MemReplica, words: &str) -> Result<String, Fail> {
     let before = told(alloc, replica.state())?;
     match made(alloc, replica, words)? {

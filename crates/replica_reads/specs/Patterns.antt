@@ -13,7 +13,7 @@ abbrev pub first_other : List Part → Option ℕ
 first_other [] = None
 first_other (part ∷ parts) = if is_any part then option_map suc (first_other parts) else Some 0
 
--- the place of the first part that breaks the rule: behind the first that is a prefix or any, the first that is not any
+-- the place of the first part that breaks the rule: after the first that is a prefix or any, the first that is not any
 abbrev pub bad_glob : List Part → Option ℕ
 bad_glob [] = None
 bad_glob (part ∷ parts) = option_map suc (if is_open part then first_other parts else bad_glob parts)

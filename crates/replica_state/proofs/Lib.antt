@@ -9,3 +9,4 @@ pub mod Putting
 pub mod Lending
 mod Worked
 pub mod Fitting
+pub mod Replaying

@@ -94,7 +94,7 @@ placed t u (Some m) known told = moved_in t u m m.table known told
 
 -- ---- indexes
 
-put_name : (n m : Text) (exprs : List Text) (names : Names)
+pub put_name : (n m : Text) (exprs : List Text) (names : Names)
     → find id_cmp n (put id_cmp m exprs names) ≡ last_or (find id_cmp n names) (cond (same_id n m) (Some exprs ∷ []) [])
 put_name n m exprs names =
     find-put id_cmp nat_list_cmp_total n m exprs names
@@ -105,7 +105,7 @@ put_name n m exprs names =
 alike : (n m other : Text) → id_cmp n other ≡ Equal → not (same_id m other) ≡ not (same_id m n)
 alike n m other e = ap (λ (i : Text). not (same_id m i)) (sym (id_tied n other e))
 
-drop_name : (n m : Text) (names : Names)
+pub drop_name : (n m : Text) (names : Names)
     → find id_cmp n (without m names) ≡ last_or (find id_cmp n names) (cond (same_id n m) (None ∷ []) [])
 drop_name n m names =
     find-where_key id_cmp (λ other. not (same_id m other)) n (λ other e. alike n m other e) names

@@ -7,3 +7,5 @@ pub mod Lent
 pub mod Sets
 pub mod Named
 pub mod Accepted
+pub mod Indexes
+pub mod Replayed

@@ -1,4 +1,5 @@
--- The list of indexes behind a state. Only private clauses speak of it.
+-- The list of indexes behind a state. `heading` is also in the public clause of `State::indexes`; only private clauses
+-- speak of the rest.
 use Rattle.std.specs.Prelude.{ℕ, suc, ◌≤◌, Bool, false, not, cond, List, [], ◌∷◌, filter, map, length, T, Option, Some}
 use Rattle.std.specs.Prelude.{None}
 use Rattle.std.specs.FinMap.Entries.{by_order, is_sorted}

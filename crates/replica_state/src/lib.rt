@@ -21,6 +21,7 @@ mod places;
 mod prepare;
 mod prepared;
 mod replace;
+mod replay;
 mod state;
 mod step;
 #[cfg(test)]
@@ -30,5 +31,6 @@ pub use conflicts::{Move, PosTable};
 pub use exprs::IndexExprs;
 pub use index::Index;
 pub use prepared::Prepared;
+pub use replay::Replay;
 pub use state::State;
 pub use step::Step;

@@ -1,5 +1,6 @@
 //! What a step replaces of documents and indexes: made ahead, and put in.
 ghost use Rattle.std.specs.Prelude.{◌≡◌, ◌-◌, ◌<◌, ◌≤◌, IfOk, length, map, vec_capacity, vec_len};
+ghost use Rattle.std.specs.Prelude.{option_copied};
 ghost use Rattle.std.specs.List.{All};
 ghost use Rattle.std.specs.FinMap.Entries.{find, put};
 ghost use Rattle.u1_base.specs.Ids.{id_cmp};
@@ -35,29 +36,33 @@ pub(crate) fn new_document(
         (Takes docs.new (map heading indexes.new.items)
         (vec_capacity indexes.new - vec_len indexes.new)) }
 {
-    match set_after(alloc, docs.get(doc), accept)? {
-        Some(set) => new_set(alloc, docs, indexes, doc, set),
+    // Before the look, so that the document is looked up once.
+    docs.reserve()?;
+    let old = docs.get(doc);
+    match set_after(alloc, old, accept)? {
+        Some(set) => new_set(alloc, docs, indexes, doc, old, set),
         None => Ok(Replacement::Nothing),
     }
 }
 
-// The set in the place of the document, and the room for it.
+// The set in the place of the document's old one, and the room for it in the indexes.
 fn new_set(
     alloc: Global,
-    docs: &mut Table<Document, DocSet>,
+    docs: &Table<Document, DocSet>,
     indexes: &mut Vec<Index>,
     doc: &DocId,
+    old: Option<&DocSet>,
     set: DocSet,
 ) -> Result<Replacement, Memory>
-    ensures docs { docs.new.pairs ≡ docs.old.pairs }
+    requires place { 1 ≤ docs.now.room }
+    requires old { option_copied old ≡ find id_cmp doc.now docs.now.pairs }
     ensures same { map bare indexes.new.items ≡ map bare indexes.old.items }
     ensures put { IfOk result (IsSetPut doc.now set) }
     ensures ready { IfOk result
-        (Takes docs.new (map heading indexes.new.items)
+        (Takes docs.now (map heading indexes.new.items)
         (vec_capacity indexes.new - vec_len indexes.new)) }
 {
-    docs.reserve()?;
-    let changes = prepare_indexes(alloc, indexes, doc, docs.get(doc), &set)?;
+    let changes = prepare_indexes(alloc, indexes, doc, old, &set)?;
     let id = doc.copy()?;
     Ok(Replacement::Document { id, set, changes })
 }

@@ -1,11 +1,12 @@
 //! States told as stories: what each step leaves, whether it fits or not; and steps for which
 //! memory runs out.
 //!
-//! A line of a story is a step and whether it fits. A story ends with what the state is then.
+//! A line of a story is a step and whether it fits. A story ends with what the state is then, and
+//! what it is where its steps are replayed.
 ghost use Rattle.std.specs.Prelude.{◌≡◌, ◌<◌, IfOk};
 ghost use Rattle.replica_state.specs.Prepared.{IsReady};
 
-use crate::{Index, IndexExprs, Move, PosTable, Prepared, State, Step};
+use crate::{Index, IndexExprs, Move, PosTable, Prepared, Replay, State, Step};
 use conflicts::{Accept, DocSet, Making, Member};
 use content::Content;
 use expr_parser::{Expr, Exprs};
@@ -145,6 +146,31 @@ k(n+number(m,3)) X y+007/d1 b+008/d2
 m(lower(n)) b/d2 x y/d1
 "#;
 
+// Indexes that are made, deleted and made again among the documents.
+const AGAIN: &str = r#"
+index by_n n => fits
+accept d1 a:1 {"n":"x"} current T1 - => fits
+index other m => fits
+drop by_n => fits
+accept d2 a:1 {"n":"y","m":"u"} current T2 known/b/1/T1 => fits
+index by_n lower(n) => fits
+drop other => fits
+accept d1 a:2 {"n":"Z"} current T3 - => fits
+index last m => fits
+accept d3 a:1 {"n":"w"} current T4 - => fits
+accept d3 a:2 - current T5 - => fits
+"#;
+
+const MADE_AGAIN: &str = r#"db a
+d1 a:2 {"n":"Z"}
+d2 a:1 {"m":"u","n":"y"}
+d3 a:2 -
+log d1 T1 d2 T2 d1 T3 d3 T4 d3 T5
+known b/1/T1
+by_n(lower(n)) y/d2 z/d1
+last(m) u/d2
+"#;
+
 #[test]
 fn edits(rt: HostRuntime) -> Result<(), Fail> {
     assert!(rt; is_story(rt.alloc(), EDITS, EDITED)?);
@@ -187,6 +213,12 @@ fn indexes(rt: HostRuntime) -> Result<(), Fail> {
     Ok(())
 }
 
+#[test]
+fn indexes_made_again(rt: HostRuntime) -> Result<(), Fail> {
+    assert!(rt; is_story(rt.alloc(), AGAIN, MADE_AGAIN)?);
+    Ok(())
+}
+
 // Compared in a function of its own, which keeps the proofs of its callers short.
 fn are_same(text: &str, want: &str) -> bool {
     text == want
@@ -197,10 +229,47 @@ fn is_told(alloc: Global, state: &State, want: &str) -> Result<bool, Fail> {
     Ok(are_same(words.as_str(), want))
 }
 
-// Whether the state is told so after the lines.
+// Whether the state is told so after the lines, also where the steps are replayed.
 fn is_story(alloc: Global, lines: &str, left: &str) -> Result<bool, Fail> {
+    if !is_left(alloc, lines, left)? {
+        return Ok(false);
+    }
+    is_left_by_replay(alloc, lines, left)
+}
+
+fn is_left(alloc: Global, lines: &str, left: &str) -> Result<bool, Fail> {
     let state = after(alloc, lines)?;
     is_told(alloc, &state, left)
+}
+
+fn is_left_by_replay(alloc: Global, lines: &str, left: &str) -> Result<bool, Fail> {
+    let state = replayed(alloc, lines)?;
+    is_told(alloc, &state, left)
+}
+
+// The state that the steps of the lines leave when they are replayed.
+fn replayed(alloc: Global, lines: &str) -> Result<State, Fail> {
+    let mut replay = new_replay(alloc)?;
+    for line in lines.lines() {
+        if let Some((words, _)) = line.split_once(" => ") {
+            replay_step(alloc, &mut replay, words)?;
+        }
+    }
+    finished(replay)
+}
+
+fn new_replay(alloc: Global) -> Result<Replay, Fail> {
+    let name = DbName::read(alloc, "db")?;
+    Ok(Replay::new(alloc, name, ReplicaUid::read(alloc, "a")?))
+}
+
+fn replay_step(alloc: Global, replay: &mut Replay, words: &str) -> Result<(), Fail> {
+    let step = step_of(alloc, words)?;
+    Ok(replay.make(step)?)
+}
+
+fn finished(replay: Replay) -> Result<State, Fail> {
+    Ok(replay.finish()?)
 }
 
 // The state after the lines, each of which has to be as it is told.
@@ -249,7 +318,7 @@ fn prepare_and_apply(
 }
 
 // Where memory runs out, `prepare` left the state as it was, and the step can be prepared again.
-// `rt try --test --fail-alloc` makes each call for memory fail in turn.
+// `rt try --test --fail-alloc N` makes the N-th call for memory fail.
 fn prepared(alloc: Global, state: &mut State, words: &str, before: &str) -> Result<Prepared, Fail>
     ensures { IfOk result (IsReady state.new) }
 {

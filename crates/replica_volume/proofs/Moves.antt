@@ -13,7 +13,6 @@ use Rattle.disks.specs.declared.trio.Trio.{Trio}
 use Rattle.disks.specs.declared.three.Disks.{Disks}
 use Rattle.disks.specs.Disks.{disks_known}
 use Rattle.disks.specs.Joint.{AreCrashImages, Devices, now_of, seen_of}
-use Rattle.disks.specs.Moments.{LeavesTogether}
 use Rattle.disks.proofs.Runs.{begins, goes_on, weaker}
 use Rattle.journal.specs.Image.{Head, IsFormat}
 use Rattle.journal.specs.Journal.{Extent}
@@ -171,13 +170,6 @@ moved_stands image head spelled files (Ok s) same is stands =
     λ h us says. subst (λ (hd : Head). StandsWith hd h s files) same
     (stands h (subst (λ (hd : Head). IsSpelled hd.uid h spelled) (sym same) (is h us says)))
 moved_stands image head spelled files (Err e) same is stands = stands
-
--- and so it does with the uids of the old image
-pub moved_with : {E : Type 0} (image : StoredImage) (us : List Text) (files : Trio File) (r : Result Standing E)
-    → IfOk r (λ s. (h : History) (any : List Text) → SaysSteps image h any → StandsWith image.header h s files)
-    → IfOk r (λ s. (h : History) → SaysSteps image h us → StandsWith image.header h s files)
-moved_with image us files (Ok s) stands = λ h says. stands h us says
-moved_with image us files (Err e) stands = stands
 
 -- the uid of the header is that of the image
 pub spelled_at : (image : StoredImage) (head : Head) (h : History) (s : Spelled) → head ≡ image.header

@@ -10,6 +10,7 @@ use Rattle.disks.specs.declared.three.Disks.{Disks}
 use Rattle.journal.specs.Journal.{Extent}
 use Rattle.journal.specs.Stored.{StoredImage}
 use Rattle.replica_state.specs.Held.{meaning}
+use Rattle.replica_state.specs.Replayed.{replayed}
 use Rattle.volume.specs.Opening.{OpensStore}
 use Rattle.volume.specs.Store.{IsStore, found_of}
 use Rattle.volume.specs.Store.Found.{Stands as StandingImage}
@@ -17,7 +18,7 @@ use Rattle.volume.specs.declared.opening.StoreFault.{StoreFault}
 use Rattle.volume.specs.declared.opening.StoreFault.TheVariants as store
 use Rattle.replica_volume.specs.Faults.{fault_of, fault_placing}
 use Rattle.replica_volume.specs.Opening.{IsFormer, IsOpenedFrom, OpensVolume}
-use Rattle.replica_volume.specs.Replaying.{IsBadAt, IsReplayed, ReplaysOn}
+use Rattle.replica_volume.specs.Replaying.{AreMade, IsBadAt, ReplaysOn}
 use Rattle.replica_volume.specs.Placing.{SaysSteps, StandsWith}
 use Rattle.replica_volume.specs.Steps.{steps_of}
 use Rattle.replica_volume.specs.Store.{holds_steps, store_of, with_steps}
@@ -25,7 +26,7 @@ use Rattle.replica_volume.specs.Store.StoreFound.{Damaged, Holds}
 use Rattle.replica_volume.specs.Volume.{IsOpenVolume, devices}
 use Rattle.replica_volume.specs.declared.fault.VolumeFault.{VolumeFault}
 use Rattle.replica_volume.specs.declared.fault.VolumeFault.TheVariants as volume
-use Rattle.replica_volume.specs.declared.replaying.Replayed.{Replayed}
+use Rattle.replica_volume.specs.declared.replaying.Made.{Made}
 use Rattle.replica_volume.specs.declared.replica.Volume.{Volume}
 use Rattle.replica_volume.specs.declared.placing.PlaceFault.{PlaceFault}
 use Rattle.replica_volume.specs.declared.placing.PlaceFault.TheVariants as place
@@ -56,52 +57,53 @@ bad_body files side disk image place e same bad =
     ∙ ap (λ (n : DiskName). Damaged n place) (sym same)
 
 -- all of them say a history
-holds : (files : Trio (List ℕ)) (side : DiskName) (image : StoredImage) (r : Replayed)
-    → found_of files ≡ StandingImage side image.format image.header image.bodies → (i : IsReplayed image image.bodies r)
+holds : (files : Trio (List ℕ)) (side : DiskName) (image : StoredImage) (m : Made)
+    → found_of files ≡ StandingImage side image.format image.header image.bodies → (i : AreMade image image.bodies m)
     → store_of files ≡ Holds side image.format image.header i.history
-holds files side image r e i = found_with files side image e ∙ ap (holds_steps side image.format image.header) i.says
+holds files side image m e i = found_with files side image e ∙ ap (holds_steps side image.format image.header) i.says
 
-pub opened_from : {D : Type 0} (files : Trio (List ℕ)) (side : DiskName) (image : StoredImage) (r : Replayed)
+pub opened_from : {D : Type 0} (files : Trio (List ℕ)) (side : DiskName) (image : StoredImage) (m : Made)
     (v : Volume D)
     → found_of files ≡ StandingImage side image.format image.header image.bodies
-    → IsReplayed image image.bodies r → v.state ≡ r.state → v.journal.limit ≡ image.header.limit → IsOpenedFrom files v
-opened_from files side image r v e i state limit = record {
+    → AreMade image image.bodies m → meaning v.state ≡ replayed m.steps → v.journal.limit ≡ image.header.limit
+    → IsOpenedFrom files v
+opened_from files side image m v e i state limit = record {
   side = side;
   format = image.format;
   head = image.header;
   history = i.history;
-  found = holds files side image r e i;
-  leaves = ap meaning state ∙ i.leaves;
+  found = holds files side image m e i;
+  leaves = state ∙ i.leaves;
   limit = limit;
 }
 
 -- the image has format 1 only where the store had it at the start
-pub not_first : (files seen : Trio (List ℕ)) (side : DiskName) (image : StoredImage) (r : Replayed)
+pub not_first : (files seen : Trio (List ℕ)) (side : DiskName) (image : StoredImage) (m : Made)
     → found_of files ≡ StandingImage side image.format image.header image.bodies → files ≡ seen
-    → IsReplayed image image.bodies r
+    → AreMade image image.bodies m
     → (IsFormer seen → ⊥) → image.format ≢ 1
-not_first files seen side image r e same i never first =
+not_first files seen side image m e same i never first =
     never (subst IsFormer same (record {
       side = side;
       head = image.header;
       history = i.history;
-      found = holds files side image r e i ∙ ap (λ (n : ℕ). Holds side n image.header i.history) first;
+      found = holds files side image m e i ∙ ap (λ (n : ℕ). Holds side n image.header i.history) first;
     }))
 
--- the bodies say what was replayed
-pub says_replayed : (image : StoredImage) (r : Replayed) → (i : IsReplayed image image.bodies r)
-    → SaysSteps image i.history r.uids.uids
-says_replayed image r i = i.says
+-- the bodies say the steps that were made
+pub says_made : (image : StoredImage) (m : Made) → (i : AreMade image image.bodies m)
+    → SaysSteps image i.history m.uids.uids
+says_made image m i = i.says
 
 -- the volume of the image that stands in format 2 is open
-pub opened_volume : {D : Type 0} (tells : Bool) (known : D → Device) (image : StoredImage) (r : Replayed)
+pub opened_volume : {D : Type 0} (tells : Bool) (known : D → Device) (image : StoredImage) (m : Made)
     (s : Standing) (v : Volume D)
-    → (IsTrue tells → (h : History) → SaysSteps image h r.uids.uids
+    → (IsTrue tells → (h : History) → SaysSteps image h m.uids.uids
     → StandsWith image.header h s (devices known v).files)
-    → s.side ≢ Root → IsReplayed image image.bodies r
-    → v.side ≡ s.side → v.state ≡ r.state → v.uids ≡ s.uids → v.journal ≡ s.journal → IsTrue v.open
+    → s.side ≢ Root → AreMade image image.bodies m
+    → v.side ≡ s.side → meaning v.state ≡ replayed m.steps → v.uids ≡ s.uids → v.journal ≡ s.journal → IsTrue v.open
     → IsOpenVolume tells known v
-opened_volume tells known image r s v stands root i side state uids journal ready = record {
+opened_volume tells known image m s v stands root i side state uids journal ready = record {
   ready = ready;
   image = λ e. root (sym side ∙ e);
   keeps = λ t.
@@ -115,7 +117,7 @@ opened_volume tells known image r s v stands root i side state uids journal read
             (subst (λ (j : Extent). IsStore j s.side 2 image.header is.bodies (devices known v).files)
             (sym journal) is.stands);
         says = is.says ∙ ap (λ u. Ok (record { steps = i.history; uids = u.uids })) (sym uids);
-        leaves = ap meaning state ∙ i.leaves;
+        leaves = state ∙ i.leaves;
       };
 }
 

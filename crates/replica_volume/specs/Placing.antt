@@ -1,5 +1,5 @@
 -- Private words: an image that is spelled anew, and one that stands in format 2.
-use Rattle.std.specs.Prelude.{◌≡◌, ◌≢◌, ◌⊎◌, ℕ, List, [], ◌∷◌, Result, Ok}
+use Rattle.std.specs.Prelude.{◌≡◌, ◌≢◌, ◌⊎◌, ℕ, List, [], ◌∷◌, Ok}
 use Rattle.conflicts.specs.State.{History, Text}
 use Rattle.disk_model.specs.Device.{File}
 use Rattle.disks.specs.declared.name.DiskName.{DiskName}

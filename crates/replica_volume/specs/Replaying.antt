@@ -1,10 +1,10 @@
 -- Private words: what going through the bodies of an image leaves.
 use Rattle.std.specs.Prelude.{◌≡◌, ℕ, ◌+◌, List, length, Result, Ok, Err}
-use Rattle.conflicts.specs.State.{History}
+use Rattle.conflicts.specs.State.{History, State, Text}
 use Rattle.disks.specs.declared.name.DiskName.{DiskName}
 use Rattle.journal.specs.Image.{header_bytes}
 use Rattle.journal.specs.Stored.{StoredImage}
-use Rattle.replica_state.specs.Held.{meaning}
+use Rattle.replica_state.specs.Replayed.{replayed}
 use Rattle.record_codec.specs.Bodies.{Recorded}
 use Rattle.record_codec.specs.Decoding.{recorded}
 use Rattle.record_codec.specs.declared.decoding.Decoded.{Decoded}
@@ -13,7 +13,7 @@ use Rattle.record_codec.specs.declared.decoding.RecordFault.TheVariants as recor
 use Rattle.replica_volume.specs.Steps.{steps_of, state_at}
 use Rattle.replica_volume.specs.declared.fault.VolumeFault.{VolumeFault}
 use Rattle.replica_volume.specs.declared.fault.VolumeFault.TheVariants as fault
-use Rattle.replica_volume.specs.declared.replaying.Replayed.{Replayed}
+use Rattle.replica_volume.specs.declared.replaying.Made.{Made}
 
 -- what a body says, which begins at this place of the file; or the place of its first field that has no reading
 abbrev pub DecodesAt : ℕ → Result Recorded ℕ → Result Decoded RecordFault → Type 0
@@ -21,11 +21,15 @@ DecodesAt start read (Ok d) = read ≡ Ok (recorded d)
 DecodesAt start read (Err (record_fault.Bad place)) = (at : ℕ) × (read ≡ Err at) × (place ≡ start + at)
 DecodesAt start read (Err record_fault.Memory) = Unit {0}
 
--- these bodies of the image say a history, which leaves the state and these uids
-pub record IsReplayed (image : StoredImage) (bodies : List (List ℕ)) (r : Replayed) : Type 0 where
+-- these bodies of the image say a history, which leaves this state and these uids
+pub record Leave (image : StoredImage) (bodies : List (List ℕ)) (state : State) (uids : List Text) : Type 0 where
   pub history : History
-  pub says : steps_of image.format image.header bodies ≡ Ok (record { steps = history; uids = r.uids.uids })
-  pub leaves : meaning r.state ≡ state_at image.header history
+  pub says : steps_of image.format image.header bodies ≡ Ok (record { steps = history; uids = uids })
+  pub leaves : state ≡ state_at image.header history
+
+-- those whose steps were made
+abbrev pub AreMade : StoredImage → List (List ℕ) → Made → Type 0
+AreMade image bodies m = Leave image bodies (replayed m.steps) m.uids.uids
 
 -- one of its bodies has no reading, at this place of the file
 pub record IsBadAt (image : StoredImage) (place : ℕ) : Type 0 where
@@ -34,14 +38,14 @@ pub record IsBadAt (image : StoredImage) (place : ℕ) : Type 0 where
   pub there : place ≡ length (header_bytes image.format image.header) + at
 
 -- all its bodies were made steps; or one has no reading, at the place
-abbrev pub Replays : StoredImage → Result Replayed RecordFault → Type 0
-Replays image (Ok r) = IsReplayed image image.bodies r
+abbrev pub Replays : StoredImage → Result Made RecordFault → Type 0
+Replays image (Ok m) = AreMade image image.bodies m
 Replays image (Err (record_fault.Bad place)) = IsBadAt image place
 Replays image (Err record_fault.Memory) = Unit {0}
 
 -- the same of an image on this side
-abbrev pub ReplaysOn : DiskName → StoredImage → Result Replayed VolumeFault → Type 0
-ReplaysOn side image (Ok r) = IsReplayed image image.bodies r
+abbrev pub ReplaysOn : DiskName → StoredImage → Result Made VolumeFault → Type 0
+ReplaysOn side image (Ok m) = AreMade image image.bodies m
 ReplaysOn side image (Err (fault.Damaged disk place)) = (disk ≡ side) × IsBadAt image place
 ReplaysOn side image (Err fault.Memory) = Unit {0}
 ReplaysOn side image (Err fault.Blank) = ⊥

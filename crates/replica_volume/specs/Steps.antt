@@ -2,6 +2,7 @@
 use Rattle.std.specs.Prelude.{ℕ, ◌+◌, ◌==◌, if◌then◌else◌, List, [], ◌∷◌, ◌++◌, length, Result, Ok, Err}
 use Rattle.conflicts.specs.State.{History, Step, State, Text, state_of}
 use Rattle.journal.specs.Image.{Head, entry}
+use Rattle.journal.specs.declared.layout.TheConstants.{FIRST_FORMAT}
 use Rattle.record_codec.specs.Bodies.{Recorded, step_in, first_step_in}
 
 -- steps in their order, and the uids that have numbers behind them
@@ -16,7 +17,7 @@ unnumbered (Err place) = Err place
 
 -- what one body says in the format of its image, where these uids have numbers; or its first place that has no reading
 abbrev pub body_in : ℕ → List Text → List ℕ → Result Recorded ℕ
-body_in format us body = if format == 1 then unnumbered (first_step_in body) else step_in us body
+body_in format us body = if format == FIRST_FORMAT then unnumbered (first_step_in body) else step_in us body
 
 -- a step before those of the later entries
 abbrev pub with_step : List ℕ → Step → Result Chronicle ℕ → Result Chronicle ℕ

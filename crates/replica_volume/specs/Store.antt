@@ -6,7 +6,7 @@ use Rattle.disks.specs.declared.name.DiskName.{DiskName}
 use Rattle.disks.specs.declared.trio.Trio.{Trio}
 use Rattle.disks.specs.Joint.{JointMoment, AreCrashImages}
 use Rattle.journal.specs.Image.{Head, header_bytes}
-use Rattle.journal.specs.declared.layout.TheConstants.{FIRST_FORMAT}
+use Rattle.journal.specs.declared.layout.TheConstants.{FIRST_FORMAT, SECOND_FORMAT}
 use Rattle.volume.specs.Store.{Found as FoundImages, found_of}
 use Rattle.volume.specs.Store.Found.{Blank as NoImages, Damaged as BrokenImage, Stands as StandingImage}
 use Rattle.replica_core.specs.Replica.{Found}
@@ -34,11 +34,11 @@ with_steps (StandingImage side format head bodies) = holds_steps side format hea
 pub record IsRespelling (side : DiskName) (head : Head) (bodies : List (List ℕ)) (new : FoundImages) : Type 0 where
   pub history : History
   pub uids : List Text
-  pub said : steps_of 1 head bodies ≡ Ok (record { steps = history; uids = uids })
+  pub said : steps_of FIRST_FORMAT head bodies ≡ Ok (record { steps = history; uids = uids })
   pub to : DiskName
   pub other : to ≢ side
-  pub found : new ≡ StandingImage to 2 head (bodies_of (head.uid ∷ []) history)
-  pub says : steps_of 2 head (bodies_of (head.uid ∷ []) history)
+  pub found : new ≡ StandingImage to SECOND_FORMAT head (bodies_of (head.uid ∷ []) history)
+  pub says : steps_of SECOND_FORMAT head (bodies_of (head.uid ∷ []) history)
       ≡ Ok (record { steps = history; uids = uids_after (head.uid ∷ []) history })
 
 -- the store had format 1, and was moved

@@ -55,7 +55,7 @@ pub record KeepsHistory {D : Type 0} (v : Volume D) (files : Trio File) : Type 0
   pub bodies : List (List ℕ)
   pub history : History
   pub stands : IsStore v.journal v.side SECOND_FORMAT head bodies files
-  pub says : steps_of 2 head bodies ≡ Ok (record { steps = history; uids = v.uids.uids })
+  pub says : steps_of SECOND_FORMAT head bodies ≡ Ok (record { steps = history; uids = v.uids.uids })
   pub leaves : meaning v.state ≡ state_at head history
 
 pub record IsOpenVolume {D : Type 0} (tells : Bool) (known : D → Device) (v : Volume D) : Type 0 where

@@ -11,6 +11,7 @@ use content::Content;
 use disk_model::MemDisk;
 use disks::{DiskName, Disks};
 use journal::Header;
+use json::Scratch;
 use record_codec::{Uids, decode};
 use replica_core::{PutFault, Replica, get_doc, put_doc};
 use replica_state::{State, Step};
@@ -278,7 +279,7 @@ fn own(alloc: Global) -> Result<Uids, Memory> {
 // The step of this body, where no other uid has a number.
 fn step_of(alloc: Global, body: &[u8]) -> Result<Step, Memory> {
     let uids = own(alloc)?;
-    match decode(alloc, body, &uids) {
+    match decode(alloc, &mut Scratch::new(alloc), body, &uids) {
         Ok(decoded) => Ok(decoded.step),
         Err(_) => Err(Memory),
     }

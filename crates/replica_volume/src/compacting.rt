@@ -23,6 +23,7 @@ use compaction::{Spelled, Steps, compact, spell, trim};
 use disk_model::Disk;
 use disks::DiskName;
 use journal::{Header, Stored};
+use json::Scratch;
 use record_codec::{Decoded, RecordFault, Uids};
 use replica_state::State;
 use std::alloc::Global;
@@ -150,9 +151,10 @@ fn kept_steps(alloc: Global, state: &State, image: &Stored) -> Result<Steps, Rec
     ensures { KeepsSteps (meaning state.now) image.now result }
 {
     let mut kept = nothing_kept(alloc, image)?;
+    let mut scratch = Scratch::new(alloc);
     let mut place = image.start();
     while let Some(entry) = image.entry_at(place) {
-        let decoded = step_at(alloc, image.format(), &entry, &kept.uids)?;
+        let decoded = step_at(alloc, &mut scratch, image.format(), &entry, &kept.uids)?;
         keep(&mut kept, state, decoded)?;
         place = entry.next;
     }

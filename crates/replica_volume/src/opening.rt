@@ -10,9 +10,9 @@ ghost use Rattle.replica_volume.specs.Opening.{LeavesOldOrMoved, OpensVolume};
 ghost use Rattle.replica_volume.specs.Replaying.{ReplaysOn};
 ghost use Rattle.replica_volume.specs.Volume.{IsOpenVolume, disks_in, fault_in};
 
-use crate::moving::bring_forward;
+use crate::moving::{Finished, bring_forward};
 use crate::placing::Standing;
-use crate::replaying::{Replayed, replay};
+use crate::replaying::{Made, replay};
 use crate::{Volume, VolumeFault};
 use disk_model::Disk;
 use disks::{DiskName, Disks};
@@ -52,14 +52,15 @@ impl<D: Disk> Volume<D> {
             Ok(opened) => opened,
             Err(fault) => return Err((disks, VolumeFault::from(fault))),
         };
-        let Replayed { state, uids } = match replay_on(alloc, side, &image) {
-            Ok(replayed) => replayed,
+        let made = match replay_on(alloc, side, &image) {
+            Ok(made) => made,
             Err(fault) => return Err((disks, fault)),
         };
-        let standing = match bring_forward(alloc, &mut disks, side, &image, uids) {
-            Ok(standing) => standing,
+        let finished = match bring_forward(alloc, &mut disks, side, image, made) {
+            Ok(finished) => finished,
             Err(fault) => return Err((disks, VolumeFault::from(fault))),
         };
+        let Finished { standing, state } = finished;
         let Standing {
             side,
             journal,
@@ -77,12 +78,12 @@ impl<D: Disk> Volume<D> {
     }
 }
 
-// The state of the steps that this image says, which lies on this side.
-fn replay_on(alloc: Global, side: DiskName, image: &Stored) -> Result<Replayed, VolumeFault>
+// Makes the steps that this image says, which lies on this side.
+fn replay_on(alloc: Global, side: DiskName, image: &Stored) -> Result<Made, VolumeFault>
     ensures { ReplaysOn side image.now result }
 {
     match replay(alloc, image) {
-        Ok(replayed) => Ok(replayed),
+        Ok(made) => Ok(made),
         Err(RecordFault::Bad(place)) => Err(VolumeFault::Damaged { disk: side, place }),
         Err(RecordFault::Memory) => Err(VolumeFault::Memory),
     }

@@ -1,7 +1,7 @@
-//! The state of the steps that the bodies of an image say.
+//! Making the steps that the bodies of an image say.
 ghost use Rattle.std.specs.Prelude.{◌≡◌, ◌≢◌, ◌+◌, ◌<◌, ◌^◌, ◌++◌, ◌∷◌, [], IfOk, OnOk, length};
 ghost use Rattle.conflicts.specs.State.{after};
-ghost use Rattle.replica_state.specs.Held.{meaning};
+ghost use Rattle.replica_state.specs.Replayed.{replayed};
 ghost use Rattle.replica_state.specs.Steps.{step_of};
 ghost use Rattle.journal.specs.declared.layout.TheConstants.{FIRST_FORMAT};
 ghost use Rattle.record_codec.specs.Decoding.{Decodes, IsBadWithin, recorded};
@@ -11,49 +11,53 @@ ghost use Rattle.replica_volume.specs.Replaying.{DecodesAt, Replays};
 ghost use Rattle.replica_volume.specs.Steps.{body_in, state_at};
 
 use journal::{Entry, FIRST_FORMAT, Stored};
+use json::Scratch;
 use record_codec::{Decoded, RecordFault, ReplicaUids, Uids, decode, decode_first};
-use replica_state::State;
+use replica_state::Replay;
 use std::alloc::Global;
 use u1_base::Memory;
 
-/// A state, and the uids that have numbers in its image.
+/// The steps that were made so far, and the uids that have numbers behind them.
 #[derive(Drop)]
-pub(crate) struct Replayed {
-    pub(crate) state: State,
+pub(crate) struct Made {
+    pub(crate) steps: Replay,
     pub(crate) uids: Uids,
 }
 
 /// Makes the steps that the image's bodies say, one after the other. No body and no step is kept
-/// when it has been made.
+/// when it has been made. The indexes are still to be built.
 ///
 /// The place of `Bad` is that of a byte of the file.
-pub(crate) fn replay(alloc: Global, image: &Stored) -> Result<Replayed, RecordFault>
+pub(crate) fn replay(alloc: Global, image: &Stored) -> Result<Made, RecordFault>
     ensures { Replays image.now result }
 {
-    let mut replayed = nothing_yet(alloc, image)?;
+    let mut made = nothing_yet(alloc, image)?;
+    // One for all contents: to make one is to clear 16 kilobytes.
+    let mut scratch = Scratch::new(alloc);
     let mut place = image.start();
     while let Some(entry) = image.entry_at(place) {
-        let decoded = step_at(alloc, image.format(), &entry, &replayed.uids)?;
-        make(&mut replayed, decoded)?;
+        let decoded = step_at(alloc, &mut scratch, image.format(), &entry, &made.uids)?;
+        make(&mut made, decoded)?;
         place = entry.next;
     }
-    Ok(replayed)
+    Ok(made)
 }
 
-// The state of no steps, at the replica of this image.
-fn nothing_yet(alloc: Global, image: &Stored) -> Result<Replayed, Memory>
-    ensures state { IfOk result (λ r. meaning r.state ≡ state_at image.now.header []) }
-    ensures uids { IfOk result (λ r. r.uids.uids ≡ image.now.header.uid ∷ []) }
+// No step, at the replica of this image.
+fn nothing_yet(alloc: Global, image: &Stored) -> Result<Made, Memory>
+    ensures state { IfOk result (λ m. replayed m.steps ≡ state_at image.now.header []) }
+    ensures uids { IfOk result (λ m. m.uids.uids ≡ image.now.header.uid ∷ []) }
 {
     let header = image.header();
     let uids = Uids::new(alloc, &header.uid)?;
-    let state = State::new(alloc, header.name.copy()?, header.uid.copy()?);
-    Ok(Replayed { state, uids })
+    let steps = Replay::new(alloc, header.name.copy()?, header.uid.copy()?);
+    Ok(Made { steps, uids })
 }
 
 /// What the entry's body says in this format, where these uids have numbers.
 pub(crate) fn step_at(
     alloc: Global,
+    scratch: &mut Scratch<Global>,
     format: u8,
     entry: &Entry<'_>,
     uids: &Uids,
@@ -65,14 +69,20 @@ pub(crate) fn step_at(
         → IfOk result (λ d. Says uids.now.uids entry.now.body.now (recorded d)) }
     ensures numbered { IfOk result (λ d. AreNumbered (uids.now.uids ++ d.added)) }
 {
-    match step_in(alloc, format, entry.body, uids) {
+    match step_in(alloc, scratch, format, entry.body, uids) {
         Ok(decoded) => Ok(decoded),
         Err(RecordFault::Bad(at)) => Err(RecordFault::Bad(entry.place as u64 + at)),
         Err(RecordFault::Memory) => Err(RecordFault::Memory),
     }
 }
 
-fn step_in(alloc: Global, format: u8, body: &[u8], uids: &Uids) -> Result<Decoded, RecordFault>
+fn step_in(
+    alloc: Global,
+    scratch: &mut Scratch<Global>,
+    format: u8,
+    body: &[u8],
+    uids: &Uids,
+) -> Result<Decoded, RecordFault>
     ensures says { Decodes (body_in format uids.now.uids body.now) result }
     ensures spelled { format ≢ FIRST_FORMAT
         → IfOk result (λ d. Says uids.now.uids body.now (recorded d)) }
@@ -80,11 +90,11 @@ fn step_in(alloc: Global, format: u8, body: &[u8], uids: &Uids) -> Result<Decode
     ensures numbered { IfOk result (λ d. AreNumbered (uids.now.uids ++ d.added)) }
 {
     if format != FIRST_FORMAT {
-        return decode(alloc, body, uids);
+        return decode(alloc, scratch, body, uids);
     }
     // Lending the uids is what tells the proof that they are as they have numbers.
     let _uids = uids.as_slice();
-    match decode_first(alloc, body) {
+    match decode_first(alloc, scratch, body) {
         Ok(step) => Ok(Decoded {
             step,
             added: ReplicaUids::new(alloc),
@@ -94,17 +104,15 @@ fn step_in(alloc: Global, format: u8, body: &[u8], uids: &Uids) -> Result<Decode
 }
 
 // Makes the step, and gives numbers to the uids that its body adds.
-fn make(replayed: &mut Replayed, decoded: Decoded) -> Result<(), Memory>
-    requires { AreNumbered (replayed.old.uids.uids ++ decoded.added) }
+fn make(made: &mut Made, decoded: Decoded) -> Result<(), Memory>
+    requires { AreNumbered (made.old.uids.uids ++ decoded.added) }
     ensures state { OnOk result
-        (meaning replayed.new.state ≡ after (meaning replayed.old.state) (step_of decoded.step)) }
-    ensures uids { OnOk result
-        (replayed.new.uids.uids ≡ replayed.old.uids.uids ++ decoded.added) }
+        (replayed made.new.steps ≡ after (replayed made.old.steps) (step_of decoded.step)) }
+    ensures uids { OnOk result (made.new.uids.uids ≡ made.old.uids.uids ++ decoded.added) }
 {
     let Decoded { step, added } = decoded;
-    replayed.uids.reserve(added.len() as u64)?;
-    let prepared = replayed.state.prepare(step)?;
-    replayed.uids.add(added);
-    replayed.state.apply(prepared);
+    made.uids.reserve(added.len() as u64)?;
+    made.steps.make(step)?;
+    made.uids.add(added);
     Ok(())
 }

@@ -18,7 +18,7 @@ use u1_base::{Memory, Texts};
 /// A run that is asked for.
 #[derive(Drop)]
 pub struct Request<S: Source + Drop> {
-    /// All words behind the program's name.
+    /// All words after the program's name.
     pub words: Texts,
     /// What ids are made of. Each run has another one.
     pub seed: u128,

@@ -7,7 +7,7 @@ use link::{MemSink, MemSource};
 use std::alloc::Global;
 use u1_base::{Bytes, Memory, Numbers, Text, Texts};
 
-/// Of each run the seed, the words behind the store's folder, and what it may read.
+/// Of each run the seed, the words after the store's folder, and what it may read.
 const RUNS: &[(u128, &str, &[u8])] = &[
     (1, "get d1", b""),
     (2, "init db a", b""),

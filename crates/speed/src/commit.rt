@@ -70,7 +70,7 @@ fn new_disk(alloc: Global, image: &[u8], last: usize) -> Result<MemDisk, Fault> 
     Ok(disk_of(alloc, bytes.as_slice())?)
 }
 
-// What is written behind the gate of each entry: the length, the body, and a closed gate.
+// What is written after the gate of each entry: the length, the body, and a closed gate.
 fn pieces_of(alloc: Global, entries: &[u8]) -> Result<Vec<Bytes>, Fault> {
     let mut pieces = Vec::new(alloc);
     let mut rest = entries;

@@ -41,7 +41,7 @@ pub fn first_revisions(alloc: Global, size: u32) -> Result<Vec<Step>, Fault> {
     Ok(steps)
 }
 
-/// The same behind the step that creates the index.
+/// The same after the step that creates the index.
 pub fn indexed_revisions(alloc: Global, size: u32) -> Result<Vec<Step>, Fault> {
     let mut steps = Vec::new(alloc);
     steps.push(index_step(alloc)?)?;

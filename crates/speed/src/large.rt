@@ -1,6 +1,6 @@
 //! A document of as many keys as one may have, put into the table of an index of many pairs, beside
 //! std's `BTreeMap` of the same pairs. On standard error a line each stands before the table is
-//! made, behind that, and behind the document.
+//! made, after that, and after the document.
 use crate::pairs::{Change, PlainMap, Round, changed, documents, insert_all, plain_pairs, put};
 use crate::report::{Fault, Report, elapsed, started, tell};
 use index_tables::IndexTable;

@@ -1,5 +1,5 @@
 //! Reading a stream of documents in pieces, beside `serde_json`'s reading of each line alone. On
-//! standard error a line each stands before the stream is read, and behind that.
+//! standard error a line each stands before the stream is read, and after that.
 use crate::report::{Fault, Report, done, elapsed, started, tell};
 use crate::sent::stream;
 use serde_json::Value;
@@ -84,7 +84,7 @@ fn read_alone(alloc: Global, text: &[u8]) -> Result<u64, Fault> {
     Ok(objects)
 }
 
-// The first line and what is behind it.
+// The first line and what is after it.
 fn plain_line(bytes: &[u8]) -> Option<(&[u8], &[u8])> {
     for place in 1..bytes.len() {
         if bytes[place] == b'\n' && bytes[place - 1] == b'\r' {

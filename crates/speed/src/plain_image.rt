@@ -1,12 +1,12 @@
-//! The image of a store, read plainly: its bodies stand one after the other behind a header, each
-//! behind an open gate and its length.
+//! The image of a store, read plainly: after a header its bodies stand one after the other, each
+//! after an open gate and its length.
 
-// How long the parts of the header are in front of its two names and behind them.
+// How long the parts of the header are before its two names and after them.
 const FORMAT_BYTES: usize = 8;
 
 const LIMIT_BYTES: usize = 8;
 
-/// What stands behind the header.
+/// What stands after the header.
 pub fn behind_header(image: &[u8]) -> Option<&[u8]> {
     let (_, rest) = parted(image, FORMAT_BYTES)?;
     let (_, rest) = name_of(rest)?;
@@ -15,7 +15,7 @@ pub fn behind_header(image: &[u8]) -> Option<&[u8]> {
     Some(rest)
 }
 
-/// The first body and what stands behind it, if the gate is open.
+/// The first body and what stands after it, if the gate is open.
 pub fn first_body(entries: &[u8]) -> Option<(&[u8], &[u8])> {
     let [1, a, b, c, d, rest @ ..] = entries else {
         return None;
@@ -32,7 +32,7 @@ pub fn id_in(body: &[u8]) -> Option<&str> {
     str::from_utf8(id).ok()
 }
 
-// A name behind its length in two bytes, and what stands behind it.
+// A name after its length in two bytes, and what stands after it.
 fn name_of(bytes: &[u8]) -> Option<(&[u8], &[u8])> {
     let [high, low, rest @ ..] = bytes else {
         return None;

@@ -6,11 +6,10 @@ use Rattle.replica_core.specs.Memory.{known_in_memory}
 use Rattle.replica_core.specs.Replica.{state_in, Stands as LeftStands}
 use Rattle.vector_rev.specs.Counts.{Uid}
 use Rattle.store_commands.specs.Compacting.{Compacts}
-use Rattle.store_commands.specs.Memory.{always, known_open, left_open, store_known}
+use Rattle.store_commands.specs.Memory.{always, known_open, left_open, no_bytes, store_known}
 use Rattle.store_commands.specs.Store.{MadeAnew}
 use Rattle.store_commands.specs.declared.memory.MemOpened.{MemOpened}
 use Rattle.store_commands.specs.declared.memory.MemStore.{MemStore}
-use Rattle.store_commands.specs.declared.store.Sizes.{Sizes}
 
 pub none_there : {A : Type 0} (o : Option A) → is_some o ≡ false → o ≡ None
 none_there None is = refl
@@ -37,10 +36,11 @@ made_in_memory s new r name uid limit none made state is_limit =
       settled = λ o crashed. rw made at crashed ∙ same;
     }
 
--- it has no image, and a compaction leaves its state
-pub kept_in_memory : (r : MemOpened) (sizes : Sizes)
-    → Compacts known_open (λ (m : MemOpened). always) left_open (λ (m : MemOpened). None) r r (Ok sizes)
-kept_in_memory r sizes = record {
+-- what stands for its image has no bytes, and a compaction leaves its state
+pub kept_in_memory : (r : MemOpened)
+    → Compacts known_open (λ (m : MemOpened). always) left_open (λ (m : MemOpened). Some no_bytes) r r
+    (Ok (record { before = 0; after = 0 }))
+kept_in_memory r = record {
   state = refl;
   limit = refl;
   later = omega arith;
@@ -49,5 +49,5 @@ kept_in_memory r sizes = record {
     same = λ k o before crashed. crashed;
     added = λ k o from to crashed. crashed;
   };
-  ends = (tt, tt);
+  ends = (tt, record { before_long = refl; after_long = refl; steps = refl });
 }

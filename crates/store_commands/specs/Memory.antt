@@ -1,8 +1,9 @@
 -- What is known of a store in memory.
-use Rattle.std.specs.Prelude.{◌≡◌, ℕ, true, Option, Some, None, refl}
+use Rattle.std.specs.Prelude.{◌≡◌, ℕ, true, [], Option, Some, None, refl}
 use Rattle.conflicts.specs.State.{State}
 use Rattle.replica_core.specs.Memory.{known_in_memory}
 use Rattle.replica_core.specs.Replica.{Found as Left, Known, state_in, Stands as LeftStands}
+use Rattle.store_commands.specs.Compacting.{Image}
 use Rattle.store_commands.specs.Found.{Blank, Found, Stands, Store, in_short, standing_in}
 use Rattle.store_commands.specs.Store.{MayStay}
 use Rattle.store_commands.specs.declared.memory.MemOpened.{MemOpened}
@@ -22,6 +23,10 @@ known_open r =
 
 abbrev pub always : Type 0
 always = Unit {0}
+
+-- it keeps no image: what stands for one has no bytes and says no step
+abbrev pub no_bytes : Image
+no_bytes = record { length = 0; steps = [] }
 
 -- a crash leaves its state
 abbrev pub left_open : MemOpened → ℕ → Left State → Type 0

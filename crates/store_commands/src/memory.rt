@@ -6,8 +6,8 @@ use std::alloc::Global;
 use u1_base::{DbName, ReplicaUid};
 
 /// A store in memory: there is none, or it stands with its limit. No disk fails, no entry is too
-/// long, and a crash leaves what stands. It keeps a state and no image, so a compaction leaves it
-/// as it is, and both lengths are 0.
+/// long, and a crash leaves what stands. It keeps a state and no image: what stands for an image
+/// has no bytes and says no step. So a compaction leaves it as it is, and both lengths are 0.
 #[derive(Drop)]
 pub struct MemStore {
     opened: Option<MemOpened>,
@@ -61,16 +61,16 @@ impl Replica for MemOpened {
 }
 
 impl Store for MemStore {
-    ghost use Rattle.std.specs.Prelude.{None};
-    ghost use Rattle.store_commands.specs.Memory.{may_stay, store_known};
+    ghost use Rattle.std.specs.Prelude.{Some};
+    ghost use Rattle.store_commands.specs.Memory.{may_stay, no_bytes, store_known};
 
     type Opened = MemOpened;
 
     ghost known = { store_known };
 
-    ghost image = { λ s. None };
+    ghost image = { λ s. Some no_bytes };
 
-    ghost image_in = { λ r. None };
+    ghost image_in = { λ r. Some no_bytes };
 
     fn open(self, alloc: Global) -> Result<MemOpened, (OpenFault, MemStore)> {
         match self.opened {

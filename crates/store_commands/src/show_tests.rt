@@ -360,7 +360,7 @@ fn takes_with(
     }
 }
 
-// Whether the store takes the revision, and the store behind it.
+// Whether the store takes the revision, and the store after it.
 fn took(alloc: Global, store: MemStore, handed: &Handed) -> (bool, MemStore) {
     match store.open(alloc) {
         Ok(mut opened) => {

@@ -49,7 +49,7 @@ pub enum CompactFault {
     /// The image was read anew, and this file does not read, from this byte on. Nothing was
     /// written.
     Damaged { disk: DiskName, place: u64 },
-    /// A disk failed. The old image stands or the new one, and the store is not open any more.
+    /// A disk failed.
     Disk,
     /// Nothing was written.
     Memory,

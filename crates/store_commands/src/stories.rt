@@ -9,7 +9,7 @@ use link::{MemSink, MemSource, read_at_most};
 use std::alloc::Global;
 use u1_base::{Bytes, Memory, Numbers, Text, Texts};
 
-/// The words of a command behind the directory, its input, what it prints, and what is left of the
+/// The words of a command after the directory, its input, what it prints, and what is left of the
 /// input.
 pub type Row = (&'static str, &'static str, &'static str, &'static str);
 
@@ -28,7 +28,7 @@ pub fn tells(alloc: Global, rows: &[Row]) -> bool {
     walk(alloc, MemStore::blank(), rows).0
 }
 
-/// Whether each command does what its row says, and the store behind them.
+/// Whether each command does what its row says, and the store after them.
 pub fn walk(alloc: Global, store: MemStore, rows: &[Row]) -> (bool, MemStore) {
     let mut store = store;
     let mut good = true;
@@ -73,7 +73,7 @@ fn leaves(alloc: Global, input: &mut MemSource, left: &str) -> bool {
     }
 }
 
-/// Whether the command ends so, and the store behind it.
+/// Whether the command ends so, and the store after it.
 pub fn breaks_off(
     alloc: Global,
     store: MemStore,
@@ -138,7 +138,7 @@ fn source_of(alloc: Global, text: &str, reads: Option<u64>) -> Result<MemSource,
     Ok(MemSource::new(bytes, failing(alloc, reads)?))
 }
 
-// How the command of the line ends, and the store behind it. Words of no command end as if memory
+// How the command of the line ends, and the store after it. Words of no command end as if memory
 // ran out, which no test wants.
 fn run_line(
     alloc: Global,

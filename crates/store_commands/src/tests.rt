@@ -145,7 +145,7 @@ const WITHOUT_OUTPUT: Broken = Broken {
     text: "d1 a:2\n",
 };
 
-// Whether the put ends so, and the rows tell of the store behind it.
+// Whether the put ends so, and the rows tell of the store after it.
 fn leaves(alloc: Global, broken: &Broken, end: &Outcome, behind: &[Row]) -> bool {
     let (made, store) = walk(alloc, MemStore::blank(), MADE);
     let (ended, store) = breaks_off(alloc, store, broken, end);

@@ -6,7 +6,7 @@ use Rattle.std.specs.List.{before_first, after_first}
 abbrev pub part_of : List ℕ → List ℕ
 part_of text = before_first (λ b. b == 47) text
 
--- what stands behind it, or nothing
+-- what stands after it, or nothing
 abbrev pub rest_of : List ℕ → List ℕ
 rest_of text = after_first (λ b. b == 47) text
 

@@ -1,7 +1,7 @@
 //! What holds of all messages, each as the contract of a function that does nothing.
 ghost use Rattle.sync_http.specs.Laws.{BodiesReadBack, HeadsReadBack};
 
-/// A head that was written is read as what it was written for, whatever comes behind it.
+/// A head that was written is read as what it was written for, whatever comes after it.
 pub fn law_heads()
     ensures { HeadsReadBack }
 {}

@@ -108,7 +108,7 @@ PeerServes serves stops before after (Ok done) =
 PeerServes serves stops before after (Err fault) =
     BothTold before.peer after.peer (λ p q. (q ≡ p) ⊎ stops before.seed p (request before) q)
 
--- the next n bytes of the reply stand at the front of the room; behind them the room is as it was
+-- the next n bytes of the reply stand at the front of the room; after them the room is as it was
 pub record GivesNext (before after : LinkKnown) (old new : List ℕ) (n : ℕ) : Type 0 where
   pub some : 1 ≤ n
   pub within : n ≤ length new

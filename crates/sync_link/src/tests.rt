@@ -117,7 +117,7 @@ fn replies_come_in_pieces(rt: HostRuntime) -> Result<(), Fail> {
     Ok(())
 }
 
-// The reply is cut behind so many bytes: whether the link hands them back and fails.
+// The reply is cut after so many bytes: whether the link hands them back and fails.
 fn fails_behind(alloc: Global, to: &Address, cut: usize, piece: u64) -> Result<bool, Fail>
     requires { 1 ≤ piece }
 {

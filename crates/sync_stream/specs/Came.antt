@@ -24,7 +24,7 @@ IsQuiet place rest =
     ((is_closed place ≡ true) × (rest ≡ []))
     ⊎ ((is_closed place ≡ false) × IsUnbroken rest × (is_long_rest rest ≡ false))
 
--- a body ends so behind its good lines, with this rest of line n; `all` says whether all of it came
+-- a body ends so after its good lines, with this rest of line n; `all` says whether all of it came
 pub data EndsSo (kind : HeadKind) (n : ℕ) (place : Next) (rest : List ℕ) (all : Bool) (ending : Ending) : Type 0 where
   -- line n is faulty, however the body goes on
   at_fault : (fault : LineFault) → IsFaultyAt kind n place rest fault → ending ≡ Faulty fault

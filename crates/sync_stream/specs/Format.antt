@@ -21,7 +21,7 @@ doc_line line = doc_in (object_part line).0
 abbrev pub has_comma : List ℕ → Bool
 has_comma line = (object_part line).1
 
--- a comma behind each object line but the last: so many lines as documents, and the head
+-- a comma after each object line but the last: so many lines as documents, and the head
 abbrev pub commas : {A : Type 0} → List A → List Bool
 commas [] = false ∷ []
 commas (doc ∷ docs) = true ∷ commas docs

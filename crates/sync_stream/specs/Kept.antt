@@ -23,7 +23,7 @@ pub record Kept : Type 0 where
   pub place : Next
   -- the fault that was given
   pub fault : Option LineFault
-  -- the bytes that were pushed behind the last line that was passed
+  -- the bytes that were pushed after the last line that was passed
   pub rest : List ℕ
 
 -- a reader at the start

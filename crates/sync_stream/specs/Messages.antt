@@ -86,7 +86,7 @@ pub data Request : Type 0 where
   Refused : WireFault → Request
   Asks : List ℕ → List ℕ → Ask → Request
 
--- the bytes behind the head say the ask
+-- the bytes after the head say the ask
 abbrev pub SaysAsk : Verb → List ℕ → ℕ → Ask → Type 0
 SaysAsk Get bytes n ask = ask ≡ AskInfo
 SaysAsk Put bytes n ask = ask ≡ Tell (small_of told_in n bytes)
@@ -110,7 +110,7 @@ pub data HeardReply (A : Type 0) : Type 0 where
   Status : ℕ → HeardReply A
   Hears : A → HeardReply A
 
--- the bytes that came back say this, by what the bytes behind the head say of a body of so many bytes
+-- the bytes that came back say this, by what the bytes after the head say of a body of so many bytes
 abbrev pub ReadsReply : {A : Type 0} → (List ℕ → ℕ → A → Type 0) → List ℕ → HeardReply A → Type 0
 ReadsReply says bytes NoReply = HearsReply bytes (Ok NotYet)
 ReadsReply says bytes (BadReply fault) = HearsReply bytes (Err fault) × IsReplyFault fault

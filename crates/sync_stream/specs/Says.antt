@@ -22,7 +22,7 @@ abbrev pub trim_start : List ℕ → List ℕ
 trim_start [] = []
 trim_start (b ∷ bytes) = if is_blank b then trim_start bytes else b ∷ bytes
 
--- a byte before what is left of the bytes behind it
+-- a byte before what is left of the bytes after it
 abbrev pub before_trimmed : ℕ → List ℕ → List ℕ
 before_trimmed b [] = if is_blank b then [] else b ∷ []
 before_trimmed b (c ∷ bytes) = b ∷ c ∷ bytes
@@ -39,8 +39,8 @@ ends_in_comma bytes = nat_lt 0 (length bytes) && slice_index bytes (length bytes
 abbrev pub part_comma : List ℕ → List ℕ × Bool
 part_comma bytes = if ends_in_comma bytes then (take (length bytes - 1) bytes, true) else (bytes, false)
 
--- the object of a line, and whether a comma stands behind it. Blanks before the comma, and those at the start, are
--- white space of JSON, which reading the object ignores
+-- the object of a line, and whether a comma stands after it. Blanks before the comma, and those at the start, are white
+-- space of JSON, which reading the object ignores
 abbrev pub object_part : List ℕ → List ℕ × Bool
 object_part line = part_comma (trim_end line)
 

@@ -70,7 +70,7 @@ abbrev pub fault_of : HeadKind → ℕ → Next → List ℕ → Option LineFaul
 fault_of kind n place line = if nat_lt max_line (length line) then Some (TooLong n) else fault_if n
     (says kind place line)
 
--- an unended rest is too long, whatever comes behind it: a CR at its end may be that of its CR LF
+-- an unended rest is too long, whatever comes after it: a CR at its end may be that of its CR LF
 abbrev pub ends_in_cr : List ℕ → Bool
 ends_in_cr bytes = slice_index bytes (length bytes - 1) == 13
 
@@ -85,7 +85,7 @@ pub data IsFaultyAt (kind : HeadKind) (n : ℕ) (place : Next) (bytes : List ℕ
   -- a line that is too long and not yet ended
   long_rest : is_closed place ≡ false → IsUnbroken bytes → is_long_rest bytes ≡ true → fault ≡ TooLong n
       → IsFaultyAt kind n place bytes fault
-  -- any byte behind the line `]`
+  -- any byte after the line `]`
   after_end : is_closed place ≡ true → bytes ≢ [] → fault ≡ At n → IsFaultyAt kind n place bytes fault
 
 -- the first faulty line of a text, however it goes on
@@ -99,7 +99,7 @@ pub record HasFault (kind : HeadKind) (text : List ℕ) (fault : LineFault) : Ty
 
 -- ---- whole bodies
 
--- what the rest does as the last line, where nothing comes behind it: a good one that does not close the stream makes
+-- what the rest does as the last line, where nothing comes after it: a good one that does not close the stream makes
 -- the next line missing
 abbrev pub closes : ℕ → Option Passed → Option LineFault
 closes n None = Some (At n)

@@ -1,4 +1,4 @@
--- Serving at small states, one example a rule.
+-- Serving at small states: ten examples.
 use Rattle.std.specs.Prelude.{◌≡◌, ℕ, true, List, [], ◌∷◌, codes, ◌++◌, Option, Some, None}
 use Rattle.content.specs.Tree.{Tree, text, field, no_fields, object}
 use Rattle.u1_base.specs.NewId.{new_id_text}
@@ -140,7 +140,7 @@ pub record ServesAsWorked : Type 0 where
       (exchange of_a 1) ≡ refused LogCheck
   pub other : (seed : ℕ) → serve (after_all empty (Moved (record { table = Told; uid = a; at = place a 1 }) ∷ [])) seed
       (Asks db a (Tell (Says (place b 1)))) ≡ refused LogCheck
-  -- the document before a faulty line is accepted, and a faulty line behind a refusal does not count
+  -- the document before a faulty line is accepted, and a faulty line after a refusal does not count
   pub before : (seed : ℕ) → serve empty seed (exchange_of nowhere of_a 1 (Faulty (TooLong 4)))
       ≡ record {
         reply = Refuses TooLarge;

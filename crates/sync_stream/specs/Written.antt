@@ -1,4 +1,4 @@
--- The one spelling of a stream: compact objects, their names in the order of bytes, and CR LF behind each line. It is
+-- The one spelling of a stream: compact objects, their names in the order of bytes, and CR LF after each line. It is
 -- written in pieces: what begins it, with the head; each document, with the comma and the CR LF before it; the end.
 use Rattle.std.specs.Prelude.{ℕ, pos, false, List, [], ◌∷◌, ◌++◌, codes, Option, Some, None}
 use Rattle.std.specs.List.{flat_map}

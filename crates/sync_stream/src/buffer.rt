@@ -1,4 +1,4 @@
-//! The bytes of the unfinished line, and what was pushed behind it.
+//! The bytes of the unfinished line, and what was pushed after it.
 ghost use Rattle.std.specs.Prelude.{◌≡◌, [], ◌++◌, ◌≤◌, length, drop, OnOk, OnErr, MatchOption};
 ghost use Rattle.key_lanes.specs.Breaks.{IsBreak, NoBreak};
 

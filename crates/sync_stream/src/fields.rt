@@ -161,7 +161,7 @@ fn object_fields<'a>(reader: &mut Reader<'a>) -> Option<Fields<'a>>
     }
 }
 
-// The same behind the opening brace.
+// The same after the opening brace.
 fn member_fields<'a>(reader: &mut Reader<'a>) -> Option<Fields<'a>>
     ensures { IfSome result (λ fields. (ms : Members)
         × (converted (λ ms. of_members ms no_members)

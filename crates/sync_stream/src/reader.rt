@@ -238,7 +238,7 @@ impl Reader {
         }
     }
 
-    /// How many bytes were pushed behind the last line that was given.
+    /// How many bytes were pushed after the last line that was passed.
     pub fn held(&self) -> u64
         ensures { result ≡ length self.now.rest }
     {

@@ -117,7 +117,7 @@ fn one_whole_sync(rt: HostRuntime) -> Result<(), Fail> {
     Ok(())
 }
 
-// A comma stands behind each object line but the last.
+// A comma stands after each object line but the last.
 const COMMAS: &str = r#"
 [~$h,~$1,~$2~]~ => head 2 T-2; d1 a:1 deleted 1 T-1; d2 a:1|b:2 {} 2 T-2; end; whole
 [~$h,~$1~$2~]~ => head 2 T-2; d1 a:1 deleted 1 T-1; At(4)
@@ -167,7 +167,7 @@ fn missing_lines(rt: HostRuntime) -> Result<(), Fail> {
     Ok(())
 }
 
-// The line `]` may stand without its line end, and nothing behind it. Blanks and tabs may stand
+// The line `]` may stand without its line end, and nothing after it. Blanks and tabs may stand
 // round a line, and white space of JSON within one.
 const ENDS: &str = r#"
 [~$h~] => head 2 T-2; whole
@@ -348,7 +348,7 @@ fn line(alloc: Global, filling: u8, length: usize) -> Result<Vec<u8>, AllocError
     Ok(line)
 }
 
-// A reader of such a line, and of these bytes behind it.
+// A reader of such a line, and of these bytes after it.
 fn filled(alloc: Global, filling: u8, length: usize, behind: &[u8]) -> Result<Reader, Fail> {
     let line = line(alloc, filling, length)?;
     let mut reader = Reader::new(alloc, HeadKind::Reply);
@@ -368,7 +368,7 @@ fn reads_the_longest_line(rt: HostRuntime) -> Result<(), Fail> {
     Ok(())
 }
 
-// Whether a line of one byte more is too long, with these bytes behind it.
+// Whether a line of one byte more is too long, with these bytes after it.
 fn is_too_long(alloc: Global, behind: &[u8]) -> Result<bool, Fail> {
     let mut reader = filled(alloc, b' ', LONGEST + 1, behind)?;
     Ok(gives_the_fault(alloc, &mut reader, StreamFault::TooLong(1)))

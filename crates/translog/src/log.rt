@@ -52,7 +52,11 @@ impl Log {
         if self.entries.len() as u64 >= GREATEST_COUNT {
             return Err(Memory);
         }
-        self.entries.reserve(1)?;
+        if self.entries.len() == self.entries.capacity() {
+            // By a sixteenth of its entries: in one of twice the places half would be free.
+            let more = self.entries.len() / 16 + 4;
+            self.entries.reserve_exact(more)?;
+        }
         Ok(())
     }
 

@@ -82,7 +82,7 @@ fn tells_changes(rt: HostRuntime) -> Result<(), Fail> {
     Ok(())
 }
 
-// Whether the last entry of the log has this transaction, where there is one.
+// Whether this is the position after all entries.
 fn ends_at(log: &Log, at: &Position) -> bool {
     match log.position() {
         Ok(position) => position == *at,
@@ -132,7 +132,7 @@ fn answer(alloc: Global, log: &Log, at: &Position) -> Result<String, Fail> {
     })
 }
 
-// Whether a position `GENERATION ID` has the answer behind it.
+// Whether a position `GENERATION ID` has the answer after it.
 fn is_answered(alloc: Global, log: &Log, line: &str) -> Result<bool, Fail> {
     let (generation, rest) = line.split_once(' ').ok_or("no blank")?;
     let (id, want) = rest.split_once(' ').ok_or("no blank")?;

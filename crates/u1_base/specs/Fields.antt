@@ -1,4 +1,4 @@
--- How numbers and texts are spelled in images and bodies: numbers big-endian, a text behind its length.
+-- How numbers and texts are spelled in images and bodies: numbers big-endian, a text after its length.
 use Rattle.std.specs.Prelude.{ℕ, List, ◌++◌, length}
 use Rattle.std.specs.Int.{w16, w32, w64, to_be_bytes}
 

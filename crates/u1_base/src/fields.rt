@@ -1,4 +1,4 @@
-//! Numbers and texts as images and bodies spell them: numbers big-endian, a text behind its length.
+//! Numbers and texts as images and bodies spell them: numbers big-endian, a text after its length.
 ghost use Rattle.std.specs.Prelude.{◌≡◌, ◌+◌, ◌<◌, ◌≤◌, ◌++◌, OnOk, OnErr, length, take, drop};
 ghost use Rattle.u1_base.specs.Fields.{text_field, u16_bytes, u32_bytes, u64_bytes};
 

@@ -66,7 +66,7 @@ fn prepare(rt: &HostRuntime) -> Result<(Texts, Files, Printed), Memory> {
     }
 }
 
-// The words behind the program's name. Words that are not all UTF-8 are none, and so wrong; so are
+// The words after the program's name. Words that are not all UTF-8 are none, and so wrong; so are
 // those whose first, the folder of the store, is empty.
 fn words_of(rt: &HostRuntime) -> Result<Texts, Memory> {
     let mut words = Texts::new(rt.alloc());

@@ -29,6 +29,6 @@ ReadsEntries parts (Err Empty) = ⊥
 ReadsEntries parts (Err TooMany) = ⊥
 ReadsEntries parts (Err (NotSorted i)) = ⊥
 
--- the entry at place i of a text, behind its bar where it is not the first
+-- the entry at place i of a text, after its bar where it is not the first
 abbrev pub separated : ℕ → Uid × ℕ → List ℕ
 separated i e = if i == 0 then entry_text e else 124 ∷ entry_text e

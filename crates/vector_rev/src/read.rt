@@ -133,7 +133,7 @@ impl Clock {
     }
 }
 
-// Adds the entry at place i at the end, behind a bar where it is not the first. At an error a front
+// Adds the entry at place i at the end, after a bar where it is not the first. At an error a front
 // of that was added.
 fn push_separated(text: &mut String, i: usize, entry: &ClockEntry) -> Result<(), Memory>
     ensures { OnOk result (string_bytes text.new ≡ string_bytes text.old ++ separated i entry.now) }

@@ -6,7 +6,7 @@ use disks::DiskName;
 /// Where the image ends or is damaged.
 #[derive(Clone, Copy, Debug, PartialEq, Eq)]
 pub(crate) enum Ends {
-    /// At a closed gate, behind so many bodies of so many bytes together.
+    /// At a closed gate, after so many bodies of so many bytes together.
     Closed(usize, usize),
     /// At the place of the first field that cannot be read.
     Damaged(usize),
@@ -29,7 +29,7 @@ fn is_word(text: &[u8], most: usize, others: &[u8]) -> bool {
     plain && !text.is_empty() && text.len() <= most
 }
 
-// Where the field behind the id ends, or none.
+// Where the field of the id ends, or none.
 fn id_end(image: &[u8], at: usize, others: &[u8]) -> Option<usize> {
     let size = number(image, at, 2)?;
     let from = at.saturating_add(2);

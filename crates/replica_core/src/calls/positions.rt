@@ -13,7 +13,7 @@ use replica_state::{State, Step};
 use translog::goes_on;
 use u1_base::{Memory, Position};
 
-/// Refuses a move that goes back behind the place that is kept.
+/// Refuses a move to before the place that is kept, or to another id at its generation.
 pub(crate) fn check_move(state: &State, moved: &Move) -> Result<(), TakeFault>
     ensures { Checks (meaning state.now) moved.now result }
 {

@@ -28,7 +28,7 @@ use u1_base::{DocId, Memory, Position};
 /// Why a revision or a position of a peer was not taken.
 #[derive(Debug, PartialEq, Eq, Drop)]
 pub enum TakeFault {
-    /// The position goes back behind the one that is kept, or has another transaction id at its
+    /// The position goes back before the one that is kept, or has another transaction id at its
     /// generation.
     LogCheck {
         /// The position that is kept.

@@ -202,7 +202,7 @@ fn all_keys<L: Ledger>(alloc: Global, index: &Index, blank: Blank) -> Result<Str
     spelled_keys(alloc, &keys)
 }
 
-// The keys with a comma behind each, and a bar before each text.
+// The keys with a comma after each, and a bar before each text.
 fn spelled_keys(alloc: Global, keys: &Keys) -> Result<String, Fail> {
     let mut words = String::new(alloc);
     for key in keys.as_slice() {

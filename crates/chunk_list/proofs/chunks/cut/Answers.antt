@@ -23,10 +23,10 @@ returns g c =
     All-pop IsSpare c.args.spare.now.items rest (Some fresh) c.take_last-upper.ensures.items c.requires.each in
     let spare : IsSpare fresh = all.1 in
     let none : vec_items fresh ≡ [] = nil_from_length (vec_items fresh) (omega (arith, spare.empty, fresh.ok.0)) in
-    let lower = c.level.new.lower in
-    let upper = c.level.new.upper in
+    let lower = c.move_up.new.lower in
+    let upper = c.move_up.new.upper in
     let both : vec_items lower ++ vec_items upper ≡ vec_items (get_or old at was) =
-    c.level.ensures.items ∙ ap (λ (l : List g.row.T.Denot). vec_items was ++ l) none ∙ append-nil (vec_items was)
+    c.move_up.ensures.items ∙ ap (λ (l : List g.row.T.Denot). vec_items was ++ l) none ∙ append-nil (vec_items was)
     ∙ ap vec_items was_is in
     let stay = c.staying-count.ensures in
     let over : vec_len was ≡ full + 1 = omega (arith, c.requires.over was, ap vec_len was_is) in
@@ -37,18 +37,18 @@ returns g c =
           (cut_chunks old at c.requires.chunks lower upper
           (omega (
             arith,
-            c.level.ensures.lower_capacity,
+            c.move_up.ensures.lower_capacity,
             ap vec_capacity was_is,
             c.requires.chunks.wide at was c.requires.chunks.within,
           ))
-          (omega (arith, c.level.ensures.upper_capacity, spare.wide))
+          (omega (arith, c.move_up.ensures.upper_capacity, spare.wide))
           (record {
-            short = omega (arith, c.level.ensures.len, stay.fits);
-            some = λ _. omega (arith, c.level.ensures.len, stay.some);
+            short = omega (arith, c.move_up.ensures.len, stay.fits);
+            some = λ _. omega (arith, c.move_up.ensures.len, stay.some);
           })
           (record {
-            short = omega (arith, c.level.ensures, stay.some);
-            some = λ _. omega (arith, c.level.ensures, stay.fits);
+            short = omega (arith, c.move_up.ensures, stay.some);
+            some = λ _. omega (arith, c.move_up.ensures, stay.fits);
           }));
       turned = record {
         each = all.0;

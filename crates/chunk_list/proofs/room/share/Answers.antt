@@ -35,6 +35,9 @@ loop-to-preserved-then-most-len g c =
           (λ d. (v.free c.loop-to-test.true d).1)
           (λ d. omega (arith, len d, c.if-most-len.true, c.len-in-loop-to.ensures)) c.loop-to-test.true;
       same = given.same ∙ v.same;
+      starts = c.carry.ensures.starts new given;
+      starts_capacity = c.carry.ensures.capacity ∙ v.starts_capacity;
+      blocks_capacity = c.carry.ensures.blocks_capacity ∙ v.blocks_capacity;
       len = omega (arith, given.long, c.give.new.chunks.ok.0, c.loop-to.chunks.ok.0, v.len);
       capacity = c.give.ensures.capacity ∙ v.capacity;
       within = omega (arith, lt, given.long);

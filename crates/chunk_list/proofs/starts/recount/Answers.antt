@@ -66,7 +66,8 @@ loop-k-preserved g c =
             subst (λ (bs : List ℕ). AreCounted chunks.items old.inside.items bs k base) (sym is)
                 (subst (λ (b : ℕ). AreCounted chunks.items old.inside.items (old.bases.items ++ place ∷ []) k b)
                 (sym w.base-is)
-                (block_counted chunks.items old.inside.items old.bases.items k c.loop-k.base place v.counted v.place full)),
+                (block_counted chunks.items old.inside.items old.bases.items k c.loop-k.base place v.counted v.place
+                full)),
             last_block k (length now.bases.items) (omega (arith, long, full)) (omega (arith, long, full)),
           )
       | else-k-eq0 w ↦
@@ -74,7 +75,8 @@ loop-k-preserved g c =
           let less : k < length old.bases.items * block =
           in_block k (length old.bases.items) (λ e. omega (arith, w.if-k-eq0.false)) v.enough in (
             subst (λ (bs : List ℕ). AreCounted chunks.items old.inside.items bs k base) (sym is)
-                (subst (λ (b : ℕ). AreCounted chunks.items old.inside.items old.bases.items k b) (sym w.base-is) v.counted),
+                (subst (λ (b : ℕ). AreCounted chunks.items old.inside.items old.bases.items k b) (sym w.base-is)
+                v.counted),
             last_block k (length old.bases.items) less (omega (arith, v.no_more)) ∙ sym (ap length is),
           )
     ] in
@@ -104,8 +106,8 @@ returns g c =
     let v = c.loop-k.invariant in
     let chunks = c.args.chunks.now in
     record {
-      starts = all_counted chunks.items c.loop-k.starts.inside.items c.loop-k.starts.bases.items c.loop-k.k c.loop-k.base
-          v.counted (omega (arith, chunks.ok.0)) v.enough v.no_more;
+      starts = all_counted chunks.items c.loop-k.starts.inside.items c.loop-k.starts.bases.items c.loop-k.k
+          c.loop-k.base v.counted (omega (arith, chunks.ok.0)) v.enough v.no_more;
       capacity = v.capacity;
       blocks_capacity = v.blocks_capacity;
     }

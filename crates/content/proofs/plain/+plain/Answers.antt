@@ -1,25 +1,25 @@
 -- Each turn takes one item or one field, and the closing token ends them.
-use Rattle.std.proofs.Common.{◌≡◌, ◌-◌, ◌<◌, ◌≤◌, [], ◌∷◌, ◌++◌, length, Some, None, option_map, true}
-use Rattle.std.proofs.Common.{refl, sym, ap, ◌∙◌, arith, subst, rules}
+use Rattle.std.proofs.Common.{◌≡◌, ◌-◌, ◌<◌, ◌≤◌, ◌∷◌, length, Some, None, option_map, true, false}
+use Rattle.std.proofs.Common.{refl, sym, ap, ap₂, ◌∙◌, arith, subst, rules}
 use Rattle.json.specs.Token.{Token}
 use Rattle.json.specs.Json as json
 use Rattle.json.specs.Json.{parse_map, after_end_array, read_key, items, members, value}
 use Rattle.json.specs.Reads.{token_of}
-use Rattle.json.proofs.Grammar.{read_key-shorter, value_is}
+use Rattle.json.proofs.Grammar.{value_is}
 use Rattle.serde_json.specs.Data as serde
 use Rattle.serde_json.specs.Data.{no_members, put}
 use Rattle.serde_json.specs.Find.{of_integer}
 use Rattle.serde_json.specs.Read.{of_items, of_json, of_members, converted}
 use Rattle.content.specs.Canonical.{data_of, fields_data, items_data}
-use Rattle.content.specs.Faults.{any_in_items, any_in_members, any_number, is_large}
+use Rattle.content.specs.Faults.{any_in_items, any_in_members, is_large}
 use Rattle.content.specs.Plain.{comes_after, more_levels}
-use Rattle.content.specs.Tree.{fields_nesting, items_nesting, nesting}
+use Rattle.content.specs.Tree.{fields_nesting, items_nesting}
 use Rattle.content.specs.TreeOf.{fields_view, items_view, pair_of, tree_of}
 use Rattle.content.specs.declared.value.Json.{Null, Bool, Text, List as AsList, Object, the_lemmas}
-use Rattle.content.proofs.PlainTexts.{AllBefore, flat_read, list_read, object_read, items_before}
-use Rattle.content.proofs.PlainTexts.{items_before-no_items, item_read, items_over}
-use Rattle.content.proofs.PlainTexts.{member_read, members_over, nesting_with_field, nesting_with_item, none_before}
-use Rattle.content.proofs.PlainTexts.{none_with_field, none_with_item, one_more_item, put_last, still_ascending}
+use Rattle.content.proofs.PlainTexts.{flat_read, list_read, object_read, items_before, items_before-no_items}
+use Rattle.content.proofs.PlainTexts.{item_read, items_over, members_over, nesting_with_item, none_before}
+use Rattle.content.proofs.PlainTexts.{none_with_item, one_more_field, one_more_item}
+use Rattle.content.proofs.PutFields.{AllBefore, ascending_among, ascending_behind, put_last}
 use Rattle.content.proofs.plain.+plain.Goals as goal
 
 -- ---- items
@@ -71,59 +71,62 @@ pub plain_fields-fields-init : goal.plain_fields-fields-init
 plain_fields-fields-init t c =
     let all = members (value (more_levels c.args.levels)) (length c.args.reader.now) c.args.reader.now in
     let none = c.new-found.ensures.items in record {
-      read = (
-        length c.args.reader.now,
-        omega arith,
-        ap (λ fs. converted (λ ms. of_members ms (fields_data (fields_view fs))) all) (sym none),
-      );
-      no_longer = omega arith;
-      shallow = omega (arith, ap (λ fs. fields_nesting (fields_view fs)) none);
-      small = ap (λ fs. any_in_members is_large (fields_data (fields_view fs))) none;
+      so_far = record {
+        read = (
+          length c.args.reader.now,
+          omega arith,
+          ap (λ fs. converted (λ ms. of_members ms (fields_data (fields_view fs))) all) (sym none),
+        );
+        no_longer = omega arith;
+        shallow = omega (arith, ap (λ fs. fields_nesting (fields_view fs)) none);
+        small = ap (λ fs. any_in_members is_large (fields_data (fields_view fs))) none;
+      };
       ascending = λ k e. subst (λ fs. AllBefore k (fields_data (fields_view fs))) (sym none) tt;
+    }
+
+pub plain_fields-fields-preserved-then-comes_after : goal.plain_fields-fields-preserved-then-comes_after
+plain_fields-fields-preserved-then-comes_after t c =
+    let l = c.fields in
+    let old = fields_view l.found.items in
+    let new = fields_view c.push.new.self.items in
+    let k = c.in-Some.name.now in
+    let named : read_key l.reader ≡ Some (Some k, c.next_key.new.self) = grind arith in
+    let done = c.in_ok-value.ensures in
+    let value = tree_of c.in_ok-value.value in
+    let f = c.field_of-field.result in
+    let name : (pair_of f).0 ≡ k = search rules in
+    let same : (pair_of f).1 ≡ value = c.field_of-field.ensures.value in
+    let behind : comes_after (option_map (λ s. s.now) l.last) k ≡ true = grind arith in
+    let before : AllBefore k (fields_data old) = l.invariant.ascending k behind in
+    let pushed = c.in_ok-push.ensures.items in
+    let placed : put k (data_of value) (fields_data old) ≡ fields_data new =
+    ap₂ (λ m u. put m (data_of u) (fields_data old)) (sym name) (sym same)
+    ∙ put_last l.found.items f (subst (λ m. AllBefore m (fields_data old)) (sym name) before)
+    ∙ ap (λ fs. fields_data (fields_view fs)) (sym pushed) in record {
+      so_far = one_more_field c.args.levels c.args.reader.now l.reader c.next_key.new.self c.plain_value.new.reader k
+          value old new l.invariant.so_far named done.value done.shorter done.shallow done.small placed;
+      ascending = ascending_behind k (data_of value) (fields_data old) (fields_data new) placed before;
     }
 
 pub plain_fields-fields-preserved : goal.plain_fields-fields-preserved
 plain_fields-fields-preserved t c =
-    let p = value (more_levels c.args.levels) in
     let l = c.fields in
-    let n = l.invariant.read.0 in
-    let old = fields_data (fields_view l.found.items) in
+    let old = fields_view l.found.items in
+    let new = fields_view c.put_field.new.fields.items in
     let k = c.in-Some.name.now in
-    let s = c.next_key.new.self in
-    let named : read_key l.reader ≡ Some (Some k, s) = grind arith in
+    let named : read_key l.reader ≡ Some (Some k, c.next_key.new.self) = grind arith in
     let done = c.in_ok-value.ensures in
-    let j = c.in_ok-value.value in
-    let r = c.plain_value.new.reader in
-    let less = read_key-shorter l.reader (Some k) s named in
-    let lesser = done.shorter in
+    let value = tree_of c.in_ok-value.value in
     let f = c.field_of-field.result in
     let name : (pair_of f).0 ≡ k = search rules in
-    let tree : (pair_of f).1 ≡ tree_of j = c.field_of-field.ensures.value in
-    let behind : comes_after (option_map (λ s. s.now) l.last) k ≡ true = grind arith in
-    let before : AllBefore k old = l.invariant.ascending k behind in
-    let pushed = c.in_ok-push.ensures.items in
-    let placed : put k (data_of (tree_of j)) old ≡ fields_data (fields_view c.push.new.self.items) =
-    ap (λ m. put m (data_of (tree_of j)) old) (sym name)
-    ∙ ap (λ u. put (pair_of f).0 (data_of u) old) (sym tree)
-    ∙ put_last l.found.items f (subst (λ m. AllBefore m old) (sym name) before)
-    ∙ ap (λ fs. fields_data (fields_view fs)) (sym pushed) in record {
-      read = (
-        n - 1,
-        omega (arith, l.invariant.read.1),
-        l.invariant.read.2
-            ∙ member_read p old n k l.reader s r (data_of (tree_of j)) (omega (arith, l.invariant.read.1)) named
-            done.value
-            ∙ ap (λ found. converted (λ ms. of_members ms found) (members p (n - 1) r)) placed,
-      );
-      no_longer = omega (arith, l.invariant.no_longer);
-      shallow = subst (λ fs. fields_nesting (fields_view fs) ≤ c.args.levels) (sym pushed)
-          (nesting_with_field l.found.items f c.args.levels l.invariant.shallow
-          (subst (λ u. nesting u ≤ c.args.levels) (sym tree) done.shallow));
-      small = ap (λ fs. any_in_members is_large (fields_data (fields_view fs))) pushed
-          ∙ none_with_field is_large l.found.items f l.invariant.small
-          (ap (λ u. any_number is_large (data_of u)) tree ∙ done.small);
-      ascending = λ next e. subst (λ fs. AllBefore next (fields_data (fields_view fs))) (sym pushed)
-          (still_ascending l.found.items f k next name before e);
+    let same : (pair_of f).1 ≡ value = c.field_of-field.ensures.value in
+    let falls : comes_after (option_map (λ s. s.now) l.last) k ≡ false = grind arith in
+    let placed : put k (data_of value) (fields_data old) ≡ fields_data new =
+    ap₂ (λ m u. put m (data_of u) (fields_data old)) (sym name) (sym same) ∙ sym c.in_ok-put_field.ensures in record {
+      so_far = one_more_field c.args.levels c.args.reader.now l.reader c.next_key.new.self c.plain_value.new.reader k
+          value old new l.invariant.so_far named done.value done.shorter done.shallow done.small placed;
+      ascending = ascending_among (option_map (λ s. s.now) l.last) k (data_of value) (fields_data old)
+          (fields_data new) placed falls l.invariant.ascending;
     }
 
 -- ---- a value
@@ -214,6 +217,6 @@ plain_fields-returns-clause-value t c =
     let p = value (more_levels c.args.levels) in
     let l = c.fields in
     let r = c.next_key.new.self in
-    l.invariant.read.2 ∙ members_over p (fields_data (fields_view l.found.items)) l.invariant.read.0 l.reader r
-    l.invariant.read.1 (grind arith)
+    let read = l.invariant.so_far.read in
+    read.2 ∙ members_over p (fields_data (fields_view l.found.items)) read.0 l.reader r read.1 (grind arith)
     ∙ ap (λ fs. Some (fields_data (fields_view fs), r)) (sym c.shrink_to_fit.ensures.items)

@@ -1,14 +1,14 @@
 -- What is left to read behind the items or fields so far is what was there, and those that were made keep the limits.
 use Rattle.std.proofs.Common.{◌≡◌, ℕ, ◌+◌, ◌*◌, ◌≤◌, List, length, option_map, true, false}
-use Rattle.json.specs.Json.{items, members, value, parse_map}
-use Rattle.serde_json.specs.Data.{no_members}
-use Rattle.serde_json.specs.Read.{of_items, of_members, converted}
+use Rattle.json.specs.Json.{items, value, parse_map}
+use Rattle.serde_json.specs.Read.{of_items, converted}
 use Rattle.content.specs.Canonical.{fields_data, items_data}
-use Rattle.content.specs.Faults.{any_in_items, any_in_members, is_large}
+use Rattle.content.specs.Faults.{any_in_items, is_large}
 use Rattle.content.specs.Plain.{comes_after, more_levels}
-use Rattle.content.specs.Tree.{fields_nesting, items_nesting}
+use Rattle.content.specs.Tree.{items_nesting}
 use Rattle.content.specs.TreeOf.{fields_view, items_view}
-use Rattle.content.proofs.PlainTexts.{AllBefore, items_before}
+use Rattle.content.proofs.PlainTexts.{ReadsFields, items_before}
+use Rattle.content.proofs.PutFields.{AllBefore}
 use Rattle.content.proofs.plain.+plain.Given as goal
 
 abbrev pub decreases-plain_value : goal.decreases-plain_value
@@ -35,14 +35,7 @@ decreases-plain_items-items l = length l.reader
 
 abbrev pub invariant-plain_fields-fields : goal.invariant-plain_fields-fields
 invariant-plain_fields-fields l = record {
-  read : (n : ℕ) × (length l.reader ≤ n)
-      × (converted (λ ms. of_members ms no_members)
-      (members (value (more_levels l.levels)) (length l.initial.reader) l.initial.reader)
-      ≡ converted (λ ms. of_members ms (fields_data (fields_view l.found.items)))
-      (members (value (more_levels l.levels)) n l.reader));
-  no_longer : length l.reader ≤ length l.initial.reader;
-  shallow : fields_nesting (fields_view l.found.items) ≤ l.levels;
-  small : any_in_members is_large (fields_data (fields_view l.found.items)) ≡ false;
+  so_far : ReadsFields l.levels l.initial.reader l.reader (fields_view l.found.items);
   ascending : (k : List ℕ) → comes_after (option_map (λ s. s.now) l.last) k ≡ true
       → AllBefore k (fields_data (fields_view l.found.items));
 }

@@ -1,5 +1,5 @@
 -- The brace opens an object of the fields behind it, which is a root without a fault.
-use Rattle.std.proofs.Common.{◌≡◌, ◌≤◌, false, ◌∷◌, Some, refl, sym, ap, ◌∙◌, arith, rules}
+use Rattle.std.proofs.Common.{◌≡◌, ◌∷◌, Some, refl, sym, ap, ◌∙◌, arith, rules}
 use Rattle.json.specs.Token.{Token}
 use Rattle.json.specs.Json.{value}
 use Rattle.json.specs.Reads.{token_of}

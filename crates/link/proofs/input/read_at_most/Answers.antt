@@ -22,7 +22,7 @@ returns-in_err-read_piece-clause-reads g c =
       before.within,
     ) in
     let later : (known c.args.source.now).faults ≤ (known c.read_piece.new.source).faults =
-    omega (arith, before.later, c.in_err-read_piece.ensures.cause.later) in
+    omega (arith, before.faults, c.in_err-read_piece.ensures.cause.later) in
     let fault = err_from_is_err_and c.from_residual.result c.from_residual.ensures.1 in
     rw fault.1 (took_front c.args.most (known c.args.source.now) (known c.read_piece.new.source)
     (c.loop-bytes.bytes ++ lost.0) fits
@@ -35,13 +35,14 @@ returns-clause-reads g c =
     elim c.loop-bytes-test.branch [
       | else-loop-bytes-test w ↦ rw (w.bytes-is, w.source-is)
           (took_all c.args.most (known c.args.source.now) (known c.loop-bytes.source) c.loop-bytes.bytes
-          before.within before.consumed before.later (inl (omega (arith, c.len.ensures, w.loop-bytes-test.false))))
+          before.within before.consumed (omega (arith, before.faults))
+          (inl (omega (arith, c.len.ensures, w.loop-bytes-test.false))))
       | then-loop-bytes-test+in_ok-read_piece+then-branch-eq0 w ↦
           let next = w.in_ok-read_piece.ensures.added in
           rw (w.bytes-is, w.source-is)
           (took_all c.args.most (known c.args.source.now) (known w.read_piece.new.source) w.read_piece.new.bytes
           (omega (arith, next_length next.1, next.0, w.min-room.ensures, w.len-in-loop-bytes.ensures, before.within))
           (next_gone _ (known c.loop-bytes.source).left _ c.loop-bytes.bytes _ _ before.consumed next.1)
-          (omega (arith, before.later, w.in_ok-read_piece.ensures.cause.later))
+          (omega (arith, before.faults, w.in_ok-read_piece.ensures.cause.later))
           (inr (next.1.ended w.if-branch-eq0.true)))
     ]

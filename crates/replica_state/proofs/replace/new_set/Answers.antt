@@ -16,14 +16,14 @@ use Rattle.replica_state.proofs.replace.new_set.Goals as goal
 pub returns-clause-ready : goal.returns-clause-ready
 returns-clause-ready c =
     let items = c.prepare_indexes.new.indexes.items in
-    let docs = c.reserve.new.self.pairs in
+    let docs = c.args.docs.now.pairs in
     let set = c.args.set in
     record {
-      place = c.in_ok-reserve.ensures.ok;
+      place = c.requires.place;
       changed =
           c.in_ok-changes.ensures.changes
           ∙ ap (λ (o : Option Kept). map (λ (x : Index). key_change c.args.doc.now o set x.exprs.texts) items)
-          c.get.ensures
+          c.requires.old
           ∙ ap (λ (i : Text). map (λ (x : Index). key_change i (find id_cmp i docs) set x.exprs.texts) items)
           (sym c.in_ok-id.ensures)
           ∙ sym (map-map (λ (x : Heading). key_change c.in_ok-id.id (find id_cmp c.in_ok-id.id docs) set x.exprs)

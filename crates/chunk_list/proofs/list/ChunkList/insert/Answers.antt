@@ -18,9 +18,9 @@ invariant_of-self g c =
     let long : length (joined new.items) ≡ length old + 1 =
     omega (arith, ap length r.same, ap length p.items, length-insert old c.args.place c.args.item place) in
     record {
-      laid_out = record { chunks_are = r.chunks; starts_are = c.recount.ensures.starts };
-      turns = can_turn v.turns p.len p.capacity r.turned (c.recount.ensures.capacity ∙ p.starts_capacity)
-          (c.recount.ensures.blocks_capacity ∙ p.blocks_capacity)
+      laid_out = record { chunks_are = r.chunks; starts_are = r.starts };
+      turns = can_turn v.turns p.len p.capacity r.turned (r.starts_capacity ∙ p.starts_capacity)
+          (r.blocks_capacity ∙ p.blocks_capacity)
           (λ _. omega (arith, new.ok.0, some_chunk new.items (omega (arith, long))));
       counted = omega (arith, v.counted, long);
       enough = omega (arith, v.enough, r.long, p.len, room);

@@ -51,7 +51,8 @@ returns g c =
     let chunks = c.self.inside.chunks.items in
     let place = c.place_in-place.result in
     let s : IsSearched chunks c.self.inside.starts.inside.items c.self.inside.starts.bases.items
-    c.chunk_of-at.result c.at-start.result c.place_in-place.result c.min-known.result c.index-chunk.result.now = record {
+    c.chunk_of-at.result c.at-start.result c.place_in-place.result c.min-known.result
+    c.index-chunk.result.now = record {
       laid_out = v.laid_out;
       within = c.chunk_of-at.ensures.within;
       start_is = c.at-start.ensures;

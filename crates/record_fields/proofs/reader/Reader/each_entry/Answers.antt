@@ -6,7 +6,7 @@ use Rattle.record_fields.proofs.reader.Reader.each_entry.Goals as goal
 
 pub returns-in_err-entry : goal.returns-in_err-entry
 returns-in_err-entry c =
-    let p = err_from_is_err_and c.from_residual.result c.from_residual.ensures.1 in
+    let p = err_from_is_err_and c.from_residual-in_err-entry.result c.from_residual-in_err-entry.ensures.1 in
     rw (p.1, p.2) (ends entry c.in_err-entry.field-0.0 c.loop.entries c.args.count c.loop.counter c.loop.self
     (each_read entry c.args.count c.args.self.now) c.loop-test.true c.in_err-entry.ensures c.loop.invariant)
 

@@ -85,7 +85,7 @@ returns-in-Err-bring_forward-clause-looks g c t never =
     in let opened = c.in-Ok.opened in
     not_called known c.args.disks c.open_images.new.disks c.bring_forward.new.disks
     (c.bring_forward.ensures.stays
-    (not_first read.0 (seen_of old.files) opened.side opened.image c.in-Ok-replay_on.replayed read.2.0
+    (not_first read.0 (seen_of old.files) opened.side opened.image c.in-Ok-replay_on.made read.2.0
     (read.1 t) c.in-Ok-replay_on.ensures never))
     (c.open_images.ensures.looks t)
 
@@ -133,16 +133,16 @@ returns-clause-reads g c =
     let read = c.in-Ok.ensures.reads in let opened = c.in-Ok.opened in (
       read.0,
       read.1,
-      opened_from read.0 opened.side opened.image c.in-Ok-replay_on.replayed _ read.2.0
-          c.in-Ok-replay_on.ensures refl c.in-Ok-bring_forward.ensures.limit,
+      opened_from read.0 opened.side opened.image c.in-Ok-replay_on.made _ read.2.0
+          c.in-Ok-replay_on.ensures c.in-Ok-bring_forward.ensures.state c.in-Ok-bring_forward.ensures.limit,
     )
 
 pub returns-clause-open : goal.returns-clause-open
 returns-clause-open g c =
-    opened_volume g.D.Disk.tells g.D.Disk.known c.in-Ok.opened.image c.in-Ok-replay_on.replayed
-    c.in-Ok-bring_forward.standing _
-    c.in-Ok-bring_forward.ensures.ok c.in-Ok-bring_forward.ensures.side c.in-Ok-replay_on.ensures refl refl
-    refl refl refl
+    opened_volume g.D.Disk.tells g.D.Disk.known c.in-Ok.opened.image c.in-Ok-replay_on.made
+    c.in-Ok-bring_forward.finished.standing _
+    c.in-Ok-bring_forward.ensures.ok c.in-Ok-bring_forward.ensures.side c.in-Ok-replay_on.ensures refl
+    c.in-Ok-bring_forward.ensures.state refl refl refl
 
 pub returns-clause-left : goal.returns-clause-left
 returns-clause-left g c t =
@@ -158,7 +158,7 @@ returns-clause-looks g c t never =
     in let opened = c.in-Ok.opened in
     not_called known c.args.disks c.open_images.new.disks c.bring_forward.new.disks
     (c.bring_forward.ensures.stays
-    (not_first read.0 (seen_of old.files) opened.side opened.image c.in-Ok-replay_on.replayed read.2.0
+    (not_first read.0 (seen_of old.files) opened.side opened.image c.in-Ok-replay_on.made read.2.0
     (read.1 t) c.in-Ok-replay_on.ensures never))
     (c.open_images.ensures.looks t)
 

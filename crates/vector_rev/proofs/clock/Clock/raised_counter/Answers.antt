@@ -2,8 +2,6 @@
 use Rattle.std.proofs.Common.{◌+◌, length, inl, inr, arith, ap}
 use Rattle.vector_rev.proofs.ClockLaws.{count_of-small, few_entries}
 use Rattle.vector_rev.proofs.clock.Clock.raised_counter.Goals as goal
-use Rattle.vector_rev.proofs.clock.Clock.raised_counter.Goals.{else-count-eq0-via-then-count-eq0+else-entries-eq-MOST_CLOCK_ENTRIES}
-use Rattle.vector_rev.proofs.clock.Clock.raised_counter.Goals.{else-count-eq0-via-else-count-eq0}
 
 pub overflow_add-result : goal.overflow_add-result
 overflow_add-result c = omega (arith, c.count-count.ensures, count_of-small c.args.self.now c.args.own.now)
@@ -16,8 +14,8 @@ returns c =
       raised = ap (λ n. n + 1) c.count-count.ensures;
       small = omega (arith, c.count-count.ensures, small);
       room = elim c.else-count-eq0.branch [
-        | else-count-eq0-via-then-count-eq0+else-entries-eq-MOST_CLOCK_ENTRIES w ↦
+        | goal.else-count-eq0-via-then-count-eq0+else-entries-eq-MOST_CLOCK_ENTRIES w ↦
             inr (omega (arith, ap (λ es. length es) w.entries.ensures.value))
-        | else-count-eq0-via-else-count-eq0 w ↦ inl (omega (arith, c.count-count.ensures))
+        | goal.else-count-eq0-via-else-count-eq0 w ↦ inl (omega (arith, c.count-count.ensures))
       ];
     }

@@ -1,0 +1,135 @@
+//! Steps that are made one after the other, with the indexes built at the end.
+ghost use Rattle.std.specs.Prelude.{◌≡◌, [], IfOk, OnOk};
+ghost use Rattle.std.specs.FinMap.Entries.{put};
+ghost use Rattle.u1_base.specs.Ids.{id_cmp};
+ghost use Rattle.conflicts.specs.State.{Text, after, indexes_in, state_of};
+ghost use Rattle.replica_state.specs.Held.{meaning};
+ghost use Rattle.replica_state.specs.Indexes.{HasNoIndex, with_indexes};
+ghost use Rattle.replica_state.specs.Named.{names_of};
+ghost use Rattle.replica_state.specs.Steps.{step_of};
+
+use crate::exprs::IndexExprs;
+use crate::index::Index;
+use crate::naming::{add_index, drop_index};
+use crate::state::State;
+use crate::step::Step;
+use index_tables::IndexTable;
+use std::alloc::Global;
+use u1_base::{DbName, IndexName, Memory, ReplicaUid};
+
+/// What replayed steps leave, before the indexes are built: a state that has none, and a list of
+/// them. So a step costs nothing for any index, and each index is built once, over the documents
+/// that stand at the end.
+#[derive(Drop)]
+pub struct Replay {
+    pub(crate) state: State,
+    // With empty tables, in the order of their names.
+    pub(crate) listed: Vec<Index>,
+    ghost none: { HasNoIndex state },
+}
+
+impl Replay {
+    ghost use Rattle.replica_state.specs.Replayed.{replayed};
+
+    /// No step was made yet. It takes no memory.
+    pub fn new(alloc: Global, name: DbName, uid: ReplicaUid) -> Replay
+        ensures { replayed result ≡ state_of name uid [] }
+    {
+        let state = State::new(alloc, name, uid);
+        let listed = Vec::new(alloc);
+        Replay { state, listed }
+    }
+
+    /// Makes one more step. Every step may be made, also one that does not fit.
+    pub fn make(&mut self, step: Step) -> Result<(), Memory>
+        ensures { OnOk result (replayed self.new ≡ after (replayed self.old) (step_of step)) }
+    {
+        match step {
+            Step::Accept {
+                doc,
+                accept,
+                trans,
+                moved,
+            } => make_in(
+                &mut self.state,
+                Step::Accept {
+                    doc,
+                    accept,
+                    trans,
+                    moved,
+                },
+            ),
+            Step::Gone { doc, trans, moved } => {
+                make_in(&mut self.state, Step::Gone { doc, trans, moved })
+            }
+            Step::Position(moved) => make_in(&mut self.state, Step::Position(moved)),
+            Step::IndexCreate { name, exprs } => list_index(&mut self.listed, name, exprs),
+            Step::IndexDelete { name } => {
+                drop_index(&mut self.listed, &name);
+                Ok(())
+            }
+        }
+    }
+
+    /// The state of all steps, with its indexes.
+    pub fn finish(self) -> Result<State, Memory>
+        ensures { IfOk result (λ s. meaning s ≡ replayed self) }
+    {
+        let Replay { state, listed } = self;
+        build_all(state, listed)
+    }
+}
+
+// Makes the step on the state. An index of which the step does not speak is as it was, also where
+// memory runs out.
+fn make_in(state: &mut State, step: Step) -> Result<(), Memory>
+    ensures step { OnOk result
+        (meaning state.new ≡ after (meaning state.old) (step_of step)) }
+    ensures indexes { (n : Text) → indexes_in n (step_of step) ≡ []
+        → (meaning state.new).index n ≡ (meaning state.old).index n }
+{
+    let prepared = state.prepare(step)?;
+    state.apply(prepared);
+    Ok(())
+}
+
+// Lists an index, in the place of one of its name.
+fn list_index(listed: &mut Vec<Index>, name: IndexName, exprs: IndexExprs) -> Result<(), Memory>
+    ensures { OnOk result
+        (names_of listed.new.items ≡ put id_cmp name exprs.texts (names_of listed.old.items)) }
+{
+    listed.reserve(1)?;
+    let alloc = *listed.allocator();
+    let index = unbuilt(alloc, name, exprs);
+    add_index(listed, index);
+    Ok(())
+}
+
+// The index with an empty table.
+fn unbuilt(alloc: Global, name: IndexName, exprs: IndexExprs) -> Index
+    ensures name { result.name ≡ name }
+    ensures exprs { result.exprs ≡ exprs }
+{
+    Index {
+        name,
+        exprs,
+        table: IndexTable::new(alloc),
+    }
+}
+
+// Builds the listed indexes.
+fn build_all(mut state: State, mut listed: Vec<Index>) -> Result<State, Memory>
+    requires { HasNoIndex state }
+    ensures { IfOk result
+        (λ s. meaning s ≡ with_indexes (meaning state) (names_of listed.items)) }
+{
+    while let Some(index) = listed.pop() {
+        let Index {
+            name,
+            exprs,
+            table: _,
+        } = index;
+        make_in(&mut state, Step::IndexCreate { name, exprs })?;
+    }
+    Ok(state)
+}
