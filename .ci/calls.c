@@ -6,6 +6,7 @@
 // WAIT: at the noted call of this number the process waits until there is the file that GO names.
 // INTERRUPT: so many reads fail at first, as where a signal interrupts them.
 // NO_SEED: the system gives no random bytes.
+// PIECES: the size of each write to the standard output is a line of this file.
 #define _GNU_SOURCE
 #include <errno.h>
 #include <fcntl.h>
@@ -143,6 +144,18 @@ ssize_t read(int file, void *into, size_t size) {
         return -1;
     }
     return syscall(SYS_read, file, into, size);
+}
+
+ssize_t write(int file, const void *from, size_t size) {
+    const char *name = file == STDOUT_FILENO ? getenv("PIECES") : NULL;
+    if (name) {
+        int pieces = open(name, O_WRONLY | O_APPEND | O_CLOEXEC);
+        if (pieces >= 0) {
+            dprintf(pieces, "%zu\n", size);
+            close(pieces);
+        }
+    }
+    return syscall(SYS_write, file, from, size);
 }
 
 int getentropy(void *into, size_t size) {

@@ -56,13 +56,15 @@ const ASKED: Command = Command {
     question: "get d1",
 };
 
-// The image of a document that was put: the first acceptance is left out.
-const COMPACTED: Command = Command {
-    words: "compact",
-    input: b"",
-    printed: "compacted 196 157\n",
-    question: "get d1",
-};
+// Over the image of a document that was put: the first acceptance is left out.
+fn compacting(question: &'static str) -> Command {
+    Command {
+        words: "compact",
+        input: b"",
+        printed: "compacted 196 157\n",
+        question,
+    }
+}
 
 #[test]
 fn each_device_call_of_a_move_fails_in_turn(rt: HostRuntime) {
@@ -70,10 +72,17 @@ fn each_device_call_of_a_move_fails_in_turn(rt: HostRuntime) {
     assert!(rt; fails_over(alloc, former(alloc), &ASKED));
 }
 
+// The document, the log and the store are as they were, whatever is asked.
 #[test]
 fn each_device_call_of_a_compaction_fails_in_turn(rt: HostRuntime) {
     let alloc = rt.alloc();
-    assert!(rt; fails_over(alloc, image(alloc, &[CREATED, REPLACED]), &COMPACTED));
+    for question in ["get d1", "changes 0", "info"] {
+        let replaced = image(alloc, &[CREATED, REPLACED]);
+        assert!(rt;
+            fails_over(alloc, replaced, &compacting(question)),
+            "{question}"
+        );
+    }
 }
 
 fn fails_over(alloc: Global, left: Result<Bytes, Memory>, command: &Command) -> bool {
@@ -119,8 +128,8 @@ fn each_fails(alloc: Global, stored: Files<'_>, command: &Command, ran: &mut Ran
     match told_of(alloc, stored, command, ran) {
         Ok(told) => {
             disks_fail(alloc, stored, command, ran, &told)
-                && inputs_fail(alloc, stored, command)
-                && outputs_fail(alloc, stored, command, ran)
+                && inputs_fail(alloc, stored, command, &told)
+                && outputs_fail(alloc, stored, command, ran, &told)
                 && stands(alloc, command, ran, &told)
         }
         Err(_) => false,
@@ -187,14 +196,21 @@ fn disk_fails(
 // ---- the input
 
 // A command that reads an input makes two reads: of its bytes, and of its end.
-fn inputs_fail(alloc: Global, stored: Files<'_>, command: &Command) -> bool {
+fn inputs_fail(alloc: Global, stored: Files<'_>, command: &Command, told: &Told) -> bool {
     if command.input.is_empty() {
         return true;
     }
-    input_fails(alloc, stored, command, 0) && input_fails(alloc, stored, command, 1)
+    input_fails(alloc, stored, command, 0, told) && input_fails(alloc, stored, command, 1, told)
 }
 
-fn input_fails(alloc: Global, stored: Files<'_>, command: &Command, call: u64) -> bool {
+// Nothing changes, and a stop leaves nothing else.
+fn input_fails(
+    alloc: Global,
+    stored: Files<'_>,
+    command: &Command,
+    call: u64,
+    told: &Told,
+) -> bool {
     match run_on(
         alloc,
         command.words,
@@ -202,7 +218,17 @@ fn input_fails(alloc: Global, stored: Files<'_>, command: &Command, call: u64) -
         command.input,
         Failing::Input(call),
     ) {
-        Ok(ran) => ended(&ran, "failed input\n", 6) && same(ran.files(), stored),
+        Ok(mut ran) => {
+            ended(&ran, "failed input\n", 6)
+                && same(ran.files(), stored)
+                && leaves(
+                    alloc,
+                    &mut ran.disks,
+                    command.question,
+                    told.before.as_slice(),
+                    told.before.as_slice(),
+                )
+        }
         Err(_) => false,
     }
 }
@@ -211,7 +237,13 @@ fn input_fails(alloc: Global, stored: Files<'_>, command: &Command, call: u64) -
 
 // Each call of the output fails in turn, until none does. The command is done, and the beginning of
 // its text was printed.
-fn outputs_fail(alloc: Global, stored: Files<'_>, command: &Command, whole: &Ran) -> bool {
+fn outputs_fail(
+    alloc: Global,
+    stored: Files<'_>,
+    command: &Command,
+    whole: &Ran,
+    told: &Told,
+) -> bool {
     for call in 0..200 {
         match run_on(
             alloc,
@@ -220,11 +252,11 @@ fn outputs_fail(alloc: Global, stored: Files<'_>, command: &Command, whole: &Ran
             command.input,
             Failing::Output(call),
         ) {
-            Ok(ran) => {
+            Ok(mut ran) => {
                 if ran.outcome == Outcome::Done {
                     return call > 1;
                 }
-                if !output_failed(&ran, whole) {
+                if !output_failed(alloc, command, &mut ran, whole, told) {
                     return false;
                 }
             }
@@ -234,8 +266,22 @@ fn outputs_fail(alloc: Global, stored: Files<'_>, command: &Command, whole: &Ran
     false
 }
 
-fn output_failed(ran: &Ran, whole: &Ran) -> bool {
+// The change stands, and a stop leaves nothing else.
+fn output_failed(
+    alloc: Global,
+    command: &Command,
+    ran: &mut Ran,
+    whole: &Ran,
+    told: &Told,
+) -> bool {
     ran.outcome == Outcome::SinkFault
         && whole.printed.bytes().starts_with(ran.printed.bytes())
         && same(ran.files(), whole.files())
+        && leaves(
+            alloc,
+            &mut ran.disks,
+            command.question,
+            told.after.as_slice(),
+            told.after.as_slice(),
+        )
 }

@@ -132,8 +132,8 @@ fn letters(alloc: Global, count: usize) -> Result<Bytes, Memory> {
 }
 
 // What the left file has after `init db a` with 4,096 bytes as its limit and then `create d1`,
-// whose content has so many letters, if that one prints this.
-fn length_with(alloc: Global, count: usize, printed: &[u8]) -> Option<usize> {
+// whose content has so many letters, if that one prints this and ends with this status.
+fn length_with(alloc: Global, count: usize, printed: &str, status: u8) -> Option<usize> {
     match run_on(
         alloc,
         "init db a --limit 4096",
@@ -141,17 +141,23 @@ fn length_with(alloc: Global, count: usize, printed: &[u8]) -> Option<usize> {
         b"",
         Failing::Nothing,
     ) {
-        Ok(made) => length_over(alloc, made.files(), count, printed),
+        Ok(made) => length_over(alloc, made.files(), count, printed, status),
         Err(_) => None,
     }
 }
 
-fn length_over(alloc: Global, stored: Files<'_>, count: usize, printed: &[u8]) -> Option<usize> {
+fn length_over(
+    alloc: Global,
+    stored: Files<'_>,
+    count: usize,
+    printed: &str,
+    status: u8,
+) -> Option<usize> {
     match letters(alloc, count) {
         Ok(content) => {
             let content = content.as_slice();
             match run_on(alloc, "create d1", stored, content, Failing::Nothing) {
-                Ok(ran) if ran.printed.bytes() == printed => Some(ran.files().left.len()),
+                Ok(ran) if ended(&ran, printed, status) => Some(ran.files().left.len()),
                 _ => None,
             }
         }
@@ -162,25 +168,28 @@ fn length_over(alloc: Global, stored: Files<'_>, count: usize, printed: &[u8]) -
 #[test]
 fn a_store_is_full_at_its_limit(rt: HostRuntime) {
     assert_eq!(rt;
-        length_with(rt.alloc(), 3994, b"full 4097 4096\n"),
+        length_with(rt.alloc(), 3994, "full 4097 4096\n", 4),
         Some(24)
     );
-    assert_eq!(rt; length_with(rt.alloc(), 3993, b"d1 a:1\n"), Some(4096));
+    assert_eq!(rt; length_with(rt.alloc(), 3993, "d1 a:1\n", 0), Some(4096));
 }
 
 // Of a content that is too big no more is read than its size takes.
 #[test]
 fn a_content_may_be_too_big(rt: HostRuntime) {
     let alloc = rt.alloc();
-    let line = b"bad-content too-big 4194305\n";
-    assert_eq!(rt; length_over_empty(alloc, 4_194_304 + 100, line), Some(24));
-    let most = length_over_empty(alloc, 4_194_304 - 8, b"d1 a:1\n");
+    let line = "bad-content too-big 4194305\n";
+    assert_eq!(rt;
+        length_over_empty(alloc, 4_194_304 + 100, line, 1),
+        Some(24)
+    );
+    let most = length_over_empty(alloc, 4_194_304 - 8, "d1 a:1\n", 0);
     assert_eq!(rt; most, Some(103 - 8 + 4_194_304));
 }
 
-fn length_over_empty(alloc: Global, count: usize, printed: &[u8]) -> Option<usize> {
+fn length_over_empty(alloc: Global, count: usize, printed: &str, status: u8) -> Option<usize> {
     match image(alloc, &[]) {
-        Ok(left) => length_over(alloc, on_the_left(left.as_slice()), count, printed),
+        Ok(left) => length_over(alloc, on_the_left(left.as_slice()), count, printed, status),
         Err(_) => None,
     }
 }

@@ -77,7 +77,7 @@ fn ample(alloc: Global, words: &str, stored: Files<'_>, input: &[u8]) -> Result<
     Ok(ran)
 }
 
-// What was printed: all of the text, or something else.
+// What was printed: all of the text, a front of it, or something else.
 fn printed_as(ran: &Ran, command: &Command) -> &'static str {
     if ran.printed.bytes() == command.printed.as_bytes() {
         "whole"
@@ -88,7 +88,8 @@ fn printed_as(ran: &Ran, command: &Command) -> &'static str {
     }
 }
 
-// What the next command finds: the store as before the command, or as after it.
+// What the next command finds: the store as before the command or as after it, the same where the
+// command changes nothing, or neither.
 fn found_as(found: &Ran, before: &Ran, after: &Ran) -> &'static str {
     let found = found.printed.bytes();
     if before.printed.bytes() == after.printed.bytes() && found == after.printed.bytes() {

@@ -36,6 +36,7 @@ const EDITS: &[Row] = &[
         "replica a\ndatabase db\ngeneration 2 T-98057cb70a845067a81e0635ab0cbc89\n",
         0,
     ),
+    ("get d1", b"", "d1 a:2 - {}\n", 0),
     ("compact", b"", "compacted 196 157\n", 0),
     ("get d1", b"", "d1 a:2 - {}\n", 0),
     (

@@ -1,6 +1,6 @@
 -- Where chunks begin when one of them has given items to another.
-use Rattle.std.proofs.Common.{◌≡◌, ℕ, ◌+◌, ◌*◌, ◌/◌, ◌<◌, ◌≤◌, List, [], ◌∷◌, length, get_or, zero, suc, refl, sym, subst}
-use Rattle.std.proofs.Common.{ap, arith, add-one, inl, inr}
+use Rattle.std.proofs.Common.{◌≡◌, ℕ, ◌+◌, ◌*◌, ◌/◌, ◌<◌, ◌≤◌, List, [], ◌∷◌, length, get_or, zero, suc, refl, sym}
+use Rattle.std.proofs.Common.{subst, ap, arith, add-one, inl, inr}
 use Rattle.std.proofs.lemmas.Bool.{cases_eq, cases_lt}
 use Rattle.std.specs.Global.{Vec}
 use Rattle.std.specs.Vec.{vec_items, vec_len}
@@ -93,7 +93,8 @@ module _ {T : Type 0} (old new : List (Vec T)) (from to count : ℕ) (apart : fr
       → get_or mid_bases b 0 + count ≡ get_or bases b 0 + 0)
       (last_long : length last ≡ length mid) (last_blocks : length last_bases ≡ length mid_bases)
       (next_low : (k : ℕ) → k ≤ to → begin_of last last_bases k ≡ begin_of mid mid_bases k)
-      (next_high : (k : ℕ) → to < k → k < length mid → begin_of last last_bases k + 0 ≡ begin_of mid mid_bases k + count)
+      (next_high : (k : ℕ) → to < k → k < length mid
+      → begin_of last last_bases k + 0 ≡ begin_of mid mid_bases k + count)
       (next_blocks_low : (b : ℕ) → b ≤ to / block → get_or last_bases b 0 ≡ get_or mid_bases b 0)
       (next_blocks_high : (b : ℕ) → to / block < b → b < length mid_bases
       → get_or last_bases b 0 + 0 ≡ get_or mid_bases b 0 + count)

@@ -1,5 +1,7 @@
 pub mod Chunks
 pub mod Edits
+pub mod Ends
 pub mod Halves
 pub mod Kept
+pub mod Looks
 pub mod Sorted

@@ -1,10 +1,12 @@
 //! The list, and what a caller may do with it.
-ghost use Rattle.std.specs.Prelude.{◌≡◌, ◌+◌, ◌*◌, ◌-◌, ◌^◌, ◌<◌, ◌≤◌, ℕ, [], true, false, length};
+ghost use Rattle.std.specs.Prelude.{◌≡◌, ◌+◌, ◌<◌, ◌≤◌, [], length};
 ghost use Rattle.std.specs.Prelude.{slice_get, slice_index_or, slice_set, IsTrue, ◌↔◌, OnOk};
 ghost use Rattle.std.specs.Fn.{FnReturnsAt};
 ghost use Rattle.std.specs.Option.{option_copied};
-ghost use Rattle.std.specs.List.{HoldsAt, insert, remove};
+ghost use Rattle.std.specs.List.{insert, remove};
 ghost use Rattle.chunk_list.specs.Chunks.{IsRun};
+ghost use Rattle.chunk_list.specs.Ends.{FailsAt, PassesBefore};
+ghost use Rattle.chunk_list.specs.Looks.{FewLooks};
 
 use crate::chunks::{grow, set_out};
 use crate::room::{put_in, relieve, take_out};
@@ -122,12 +124,10 @@ impl<T> ChunkList<T> {
     ) -> (usize, Option<&T>)
         requires { F.IsAlwaysCallable passes }
         ensures within { result.0 ≤ length self.now.items }
-        ensures before { 0 < result.0
-            → HoldsAt (λ x. FnReturnsAt F.Fn passes x true) self.now.items (result.0 - 1) }
-        ensures after { result.0 < length self.now.items
-            → HoldsAt (λ x. FnReturnsAt F.Fn passes x false) self.now.items result.0 }
+        ensures before { PassesBefore (FnReturnsAt F.Fn passes) self.now.items result.0 }
+        ensures after { FailsAt (FnReturnsAt F.Fn passes) self.now.items result.0 }
         ensures item { option_copied result.1 ≡ slice_get self.now.items result.0 }
-        ensures looks { (k : ℕ) → length self.now.items < 2 ^ k → steps.new ≤ steps.old + 2 * k }
+        ensures looks { FewLooks (length self.now.items) 0 steps.old steps.new }
     {
         if self.len == 0 {
             return (0, None);
@@ -152,10 +152,8 @@ impl<T> ChunkList<T> {
     pub fn find<F: Fn(&T) -> bool>(&self, passes: F) -> (usize, Option<&T>)
         requires { F.IsAlwaysCallable passes }
         ensures within { result.0 ≤ length self.now.items }
-        ensures before { 0 < result.0
-            → HoldsAt (λ x. FnReturnsAt F.Fn passes x true) self.now.items (result.0 - 1) }
-        ensures after { result.0 < length self.now.items
-            → HoldsAt (λ x. FnReturnsAt F.Fn passes x false) self.now.items result.0 }
+        ensures before { PassesBefore (FnReturnsAt F.Fn passes) self.now.items result.0 }
+        ensures after { FailsAt (FnReturnsAt F.Fn passes) self.now.items result.0 }
         ensures item { option_copied result.1 ≡ slice_get self.now.items result.0 }
     {
         counted::<T, Brand, F>(self, passes, Blank::new(1))
@@ -242,10 +240,8 @@ fn counted<T, L: Ledger, F: Fn(&T) -> bool>(
     requires parts { blank.parts ≡ L.parts }
     requires some { 0 < L.parts }
     ensures within { result.0 ≤ length list.now.items }
-    ensures before { 0 < result.0
-        → HoldsAt (λ x. FnReturnsAt F.Fn passes x true) list.now.items (result.0 - 1) }
-    ensures after { result.0 < length list.now.items
-        → HoldsAt (λ x. FnReturnsAt F.Fn passes x false) list.now.items result.0 }
+    ensures before { PassesBefore (FnReturnsAt F.Fn passes) list.now.items result.0 }
+    ensures after { FailsAt (FnReturnsAt F.Fn passes) list.now.items result.0 }
     ensures item { option_copied result.1 ≡ slice_get list.now.items result.0 }
 {
     let mut steps = Steps::<L>::new(blank);

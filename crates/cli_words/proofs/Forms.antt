@@ -6,6 +6,7 @@ use Rattle.std.proofs.Common.{map, Option, Some, None, refl, sym, ap, ap₂, ◌
 use Rattle.std.proofs.Common.{lt-ltb, le-ltb, ltb-false, le-leb, eqb-true}
 use Rattle.std.proofs.lemmas.List.{append-nil, length-map}
 use Rattle.std.proofs.lemmas.Bool.{ne_eqb, eq-eqb, cases_lt, lt-leb, not-false}
+use mathlib.Core.Bool.{and-false}
 use Rattle.std.specs.Prelude.{codes, nat_le, nat_eq, unwrap_or}
 use Rattle.clap.specs.Lexer.{usize_max}
 use Rattle.clap.specs.Kinds.{Kinds, or_else, range_kinds, values_kinds, FailsBy, HasKind}
@@ -214,10 +215,6 @@ several_is c l e x xs h =
 
 -- ---- how many operands there may be
 
-and_false : (b : Bool) → (b && false) ≡ false
-and_false true = refl
-and_false false = refl
-
 range_fits : (l e n : ℕ) → l ≤ e → has_no_kind (range_kinds l e (suc n)) ≡ (nat_le l (suc n) && nat_le (suc n) e)
 range_fits l e n within = go (nat_eq l e) refl (cases_lt (suc n) l) (cases_lt e (suc n))
   where
@@ -227,12 +224,12 @@ range_fits l e n within = go (nat_eq l e) refl (cases_lt (suc n) l) (cases_lt e 
     go : (q : Bool) → nat_eq l e ≡ q → (suc n < l) ⊎ (l ≤ suc n) → (e < suc n) ⊎ (suc n ≤ e)
         → has_no_kind (range_kinds l e (suc n)) ≡ (nat_le l (suc n) && nat_le (suc n) e)
     go true q (inl low) high =
-        rw (some, and_false (nat_lt 0 l), q, ne_eqb l (suc n) (λ same. omega arith), lt-leb l (suc n) low) refl
+        rw (some, and-false (nat_lt 0 l), q, ne_eqb l (suc n) (λ same. omega arith), lt-leb l (suc n) low) refl
     go true q (inr enough) (inl high) =
         let same : l ≡ e = eqb-true l e q in
         rw (
           some,
-          and_false (nat_lt 0 l),
+          and-false (nat_lt 0 l),
           q,
           ne_eqb l (suc n) (λ other. omega arith),
           le-leb l (suc n) enough,
@@ -241,13 +238,13 @@ range_fits l e n within = go (nat_eq l e) refl (cases_lt (suc n) l) (cases_lt e 
     go true q (inr enough) (inr few) =
         let same : l ≡ e = eqb-true l e q in
         let here : l ≡ suc n = omega arith in
-        rw (some, and_false (nat_lt 0 l), q, eq-eqb l (suc n) here, le-leb l (suc n) enough, le-leb (suc n) e few) refl
+        rw (some, and-false (nat_lt 0 l), q, eq-eqb l (suc n) here, le-leb l (suc n) enough, le-leb (suc n) e few) refl
     go false q (inl low) high =
-        rw (some, and_false (nat_lt 0 l), q, lt-ltb (suc n) l low, lt-leb l (suc n) low) refl
+        rw (some, and-false (nat_lt 0 l), q, lt-ltb (suc n) l low, lt-leb l (suc n) low) refl
     go false q (inr enough) (inl high) =
         rw (
           some,
-          and_false (nat_lt 0 l),
+          and-false (nat_lt 0 l),
           q,
           le-ltb (suc n) l enough,
           lt-ltb e (suc n) high,
@@ -257,7 +254,7 @@ range_fits l e n within = go (nat_eq l e) refl (cases_lt (suc n) l) (cases_lt e 
     go false q (inr enough) (inr few) =
         rw (
           some,
-          and_false (nat_lt 0 l),
+          and-false (nat_lt 0 l),
           q,
           le-ltb (suc n) l enough,
           le-ltb e (suc n) few,
@@ -330,7 +327,7 @@ abbrev counted : ℕ → ℕ → ℕ → Bool
 counted l e n = nat_le l n && nat_le n e
 
 too_many : (l n : ℕ) → l < n → false ≡ counted l l n
-too_many l n more = sym (ap (λ b. nat_le l n && b) (lt-leb n l more) ∙ and_false (nat_le l n))
+too_many l n more = sym (ap (λ b. nat_le l n && b) (lt-leb n l more) ∙ and-false (nat_le l n))
 
 single_at : (c : Option') (l : ℕ) (x : Text) (xs : List Text) → l ≤ 1
     → clean c l l (x ∷ xs) ≡ counted l l (length (x ∷ xs))

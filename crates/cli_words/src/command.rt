@@ -98,8 +98,8 @@ pub enum Command {
         port: u16,
         count: u64,
     },
-    /// Serves and synchronises in turn: the rounds, and how many connections are served between two
-    /// of them.
+    /// Serves and synchronises in turn: the rounds, and how many connections are served at each of
+    /// the five places of a round.
     Node {
         port: u16,
         with: Address,

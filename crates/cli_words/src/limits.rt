@@ -9,7 +9,7 @@ pub const MOST_CONNECTIONS: u64 = 1_000_000;
 /// The most rounds of a node.
 pub const MOST_ROUNDS: u64 = 1_000;
 
-/// The most connections that a node serves between two rounds.
+/// The most connections that a node serves at each of the five places of a round.
 pub const MOST_BETWEEN: u64 = 100;
 
 /// The most documents of a workload.

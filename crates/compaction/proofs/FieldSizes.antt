@@ -4,39 +4,28 @@ use Rattle.std.proofs.Common.{refl, sym, ap, ap₂, ◌∙◌, arith, length-app
 use Rattle.std.specs.Prelude.{◌||◌, is_some}
 use Rattle.std.specs.Int.{Width, w16, w32, w64, to_be_bytes}
 use Rattle.std.specs.List.{flat_map, list_any, position_from}
-use Rattle.std.specs.Str.{bytes_eq}
 use Rattle.std.proofs.lemmas.List.Folds.{list_any-append}
-use Rattle.std.proofs.lemmas.Slice.Eq.{bytes_eq-Decides}
 use Rattle.u1_base.specs.Ids.{id_in, same_id}
 use Rattle.u1_base.specs.declared.ids.Form.{Form}
 use Rattle.u1_base.specs.declared.ids.Form.TheVariants.{Replica}
-use Rattle.u1_base.proofs.SameIds.{same_id_is, is_same_id}
 use Rattle.vector_rev.specs.Counts.{Uid}
 use Rattle.record_fields.specs.Table.{Text, Table, uids, number_of, with_uid, after}
 use Rattle.record_fields.specs.Fields.{Field, ◌then◌, mapped, checked, each_spelled, each, counted}
 use Rattle.record_fields.specs.Plain.{nothing, byte, bytes, number, sized, text, text_of, id}
 use Rattle.record_fields.specs.Named.{reference_bytes, reference}
 use Rattle.record_fields.proofs.Tables.{number_of-from}
-use Rattle.compaction.proofs.Repeated.{same_truth}
 use Rattle.compaction.proofs.Texts.{uid_texts, seen_after, texts-append}
 
 -- ---- which uids have numbers
 
-one_text : (u v : Text) → bytes_eq v u ≡ same_id u v
-one_text u v =
-    same_truth _ _ (λ e. is_same_id u v (sym ((bytes_eq-Decides v u).0 e)))
-    (λ e. (bytes_eq-Decides v u).1 (sym (same_id_is u v e)))
-
-found_from : (us : List Text) (u : Text) (n : ℕ)
-    → is_some (position_from (λ known. bytes_eq known u) n us) ≡ list_any (same_id u) us
+found_from : (us : List Text) (u : Text) (n : ℕ) → is_some (position_from (same_id u) n us) ≡ list_any (same_id u) us
 found_from [] u n = refl
 found_from (v ∷ us) u n =
-    elim (bytes_eq v u) as (λ b. bytes_eq v u ≡ b
-    → is_some (cond b (Some n) (position_from (λ known. bytes_eq known u) (n + 1) us))
-    ≡ (same_id u v || list_any (same_id u) us)) [
-      | true ↦ λ e. ap (λ b. b || list_any (same_id u) us) (sym e ∙ one_text u v)
-      | false ↦ λ e. found_from us u (n + 1) ∙ ap (λ b. b || list_any (same_id u) us) (sym e ∙ one_text u v)
-    ] refl
+    elim (same_id u v) as
+    (λ b. is_some (cond b (Some n) (position_from (same_id u) (n + 1) us)) ≡ (b || list_any (same_id u) us)) [
+      | true ↦ refl
+      | false ↦ found_from us u (n + 1)
+    ]
 
 pub is_some-number_of : (us : List Text) (u : Text) → is_some (number_of us u) ≡ list_any (same_id u) us
 is_some-number_of us u = ap (λ o. is_some o) (number_of-from us u) ∙ found_from us u 0

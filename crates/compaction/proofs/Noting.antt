@@ -1,6 +1,5 @@
 -- What is noted after one note more.
 use Rattle.std.proofs.Common.{◌≡◌, Bool, true, false, cond, List, [], ◌∷◌, ◌++◌, Option, Some, None, refl, sym, ap, ◌∙◌}
-use Rattle.std.proofs.Common.{true≢false}
 use Rattle.std.specs.Prelude.{not, ◌&&◌, ◌||◌, is_some}
 use Rattle.std.specs.List.{list_any}
 use Rattle.std.specs.Cmp.Lexicographic.{nat_list_cmp_total}
@@ -38,10 +37,6 @@ id_noted q id copy x old mid new is_new is_mid is_copy =
     [ true ↦ refl | false ↦ refl ]
 
 -- ---- revisions
-
-not_this : (b : Bool) → not b ≡ true → b ≡ false
-not_this true e = absurd (true≢false (sym e))
-not_this false e = refl
 
 find-without : {X : Type 0} (q id : Text) (ps : List (Text × X))
     → find id_cmp q (without id ps) ≡ cond (not (same_id id q)) (find id_cmp q ps) None

@@ -12,7 +12,7 @@ use Rattle.vector_rev.specs.Compare.{same}
 use Rattle.conflicts.specs.Lists.{In}
 use Rattle.conflicts.specs.Pruning.{pruned}
 use Rattle.conflicts.specs.Document.{member_of, covers_member, has_rev, current_after, no_document, document_after}
-use Rattle.conflicts.specs.Document.{IsKept, FitsDocument}
+use Rattle.conflicts.specs.Document.{StaysBeside, FitsDocument}
 use Rattle.conflicts.specs.Kept.{Kept, all_apart, current, document}
 use Rattle.conflicts.specs.declared.member.Member.{Member}
 use Rattle.conflicts.specs.declared.accept.Accept.{Accept}
@@ -129,7 +129,7 @@ uncovered : (k : Kept) (a : Accept) → FitsDocument (document (Some k)) a → a
     → not (covers a.rev (current k).rev) ≡ true
 uncovered k a fits off = ap not (kept_from fits.settled)
   where
-    kept_from : (a.current ≡ true) ⊎ IsKept (Some (current k).rev) a.rev → covers a.rev (current k).rev ≡ false
+    kept_from : (a.current ≡ true) ⊎ StaysBeside (Some (current k).rev) a.rev → covers a.rev (current k).rev ≡ false
     kept_from (inl on) = absurd (not_both a.current on off)
     kept_from (inr kept) = kept
 

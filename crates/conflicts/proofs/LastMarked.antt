@@ -2,8 +2,8 @@
 use Rattle.std.specs.Prelude.{◌≡◌, Bool, true, false, cond, List, [], ◌∷◌, Option, Some, None, refl}
 use Rattle.std.proofs.Common.{sym, ◌∙◌, ap, inl, inr}
 use Rattle.vector_rev.specs.Clock.{Clock, covers}
-use Rattle.conflicts.specs.Document.{Document, current_after, no_document, document_after, document_after_all, IsKept}
-use Rattle.conflicts.specs.Document.{FitsDocument}
+use Rattle.conflicts.specs.Document.{Document, current_after, no_document, document_after, document_after_all}
+use Rattle.conflicts.specs.Document.{StaysBeside, FitsDocument}
 use Rattle.conflicts.specs.Laws.{CurrentIs}
 use Rattle.conflicts.specs.Acceptances.{AllFit, LastMarkedIsCurrent, last_marked}
 use Rattle.conflicts.specs.declared.accept.Accept.{Accept}
@@ -15,7 +15,7 @@ use Rattle.conflicts.proofs.Accepted.{stays_member, takes_over}
 
 module _ (d : Document) (a : Accept) (fits : FitsDocument d a) where
   -- a current revision that the accepted one does not cover stays the current one, unless that one is marked
-  kept_current : (c : Option Clock) → d.current ≡ c → CurrentIs d.members c → IsKept c a.rev → a.current ≡ false
+  kept_current : (c : Option Clock) → d.current ≡ c → CurrentIs d.members c → StaysBeside c a.rev → a.current ≡ false
       → (document_after d a).current ≡ c
   kept_current None is member kept unmarked = absurd kept
   kept_current (Some c) is member kept unmarked =
@@ -26,15 +26,15 @@ module _ (d : Document) (a : Accept) (fits : FitsDocument d a) where
       unmarked
 
   -- an acceptance that is not marked and fits does not cover the current one
-  is_kept : a.current ≡ false → IsKept d.current a.rev
-  is_kept unmarked =
+  stays_beside : a.current ≡ false → StaysBeside d.current a.rev
+  stays_beside unmarked =
       elim fits.settled [ inl marked ↦ absurd (not_both a.current marked unmarked) | inr kept ↦ kept ]
 
   -- the current revision after it, by its mark
   by_mark : CurrentIs d.members d.current → (b : Bool) → a.current ≡ b
       → (document_after d a).current ≡ cond b (Some a.rev) d.current
   by_mark member true marked = takes_over d a fits.not_older marked
-  by_mark member false unmarked = kept_current d.current refl member (is_kept unmarked) unmarked
+  by_mark member false unmarked = kept_current d.current refl member (stays_beside unmarked) unmarked
 
 -- over a list of acceptances, from any document on
 after_list : (h : List Accept) (d : Document) → CurrentIs d.members d.current → AllFit d h

@@ -15,7 +15,8 @@ use Rattle.u1_base.proofs.SameIds.{same_id_is, same_id-itself}
 use Rattle.vector_rev.proofs.RoundTrip.{entries-clock_of}
 use Rattle.vector_rev.proofs.ClockLaws.{covers_at, dominates_from, same_decides, not_same}
 use Rattle.conflicts.specs.Lists.{In, is_empty}
-use Rattle.conflicts.specs.Document.{Document, has_rev, others, in_order, is_conflicted, is_live, covers_member, IsKept}
+use Rattle.conflicts.specs.Document.{Document, has_rev, others, in_order, is_conflicted, is_live, covers_member}
+use Rattle.conflicts.specs.Document.{StaysBeside}
 use Rattle.conflicts.specs.Making.{joined, made_clock, greatest, revs, names, edited, edited_at, deleted, deleted_at}
 use Rattle.conflicts.specs.Making.{named_in, leader, resolved_at, resolved}
 use Rattle.conflicts.specs.Decision.{same_content, is_alike, is_unlike, alike, unlike, merge_parents, may_merge}
@@ -229,12 +230,12 @@ deleted_makes d w rev own = deleted_makes_at own d d.current w.current rev
 -- a made revision that may leave the current one beside it is marked current where it does not
 made_settled : (own : Uid) (d : Document) (c : Clock) → d.current ≡ Some c → CurrentIs d.members (Some c)
     → (a : Accept) → IsMade own d.members a → (b : Bool) → a.current ≡ (b || dominates a.rev c) → (a.current ≡ true)
-    ⊎ IsKept d.current a.rev
+    ⊎ StaysBeside d.current a.rev
 made_settled own d c now m a made true e = inl e
 made_settled own d c now m a made false e =
-    elim (dominates a.rev c) as (λ k. dominates a.rev c ≡ k → (a.current ≡ true) ⊎ IsKept d.current a.rev) [
+    elim (dominates a.rev c) as (λ k. dominates a.rev c ≡ k → (a.current ≡ true) ⊎ StaysBeside d.current a.rev) [
       | true ↦ λ n. inl (e ∙ n)
-      | false ↦ λ n. inr (subst (λ o. IsKept o a.rev) (sym now)
+      | false ↦ λ n. inr (subst (λ o. StaysBeside o a.rev) (sym now)
           (subst (λ (k : Clock). covers a.rev k ≡ false) m.2
           (not_newer own d.members a m.0 made m.1 (subst (λ (k : Clock). dominates a.rev k ≡ false) (sym m.2) n))))
     ] refl

@@ -8,8 +8,8 @@ use Rattle.vector_rev.specs.Compare.{same}
 use Rattle.vector_rev.proofs.ClockLaws.{same_decides}
 use Rattle.conflicts.specs.Lists.{In}
 use Rattle.conflicts.specs.Pruning.{pruned}
-use Rattle.conflicts.specs.Document.{Document, member_of, covers_member, has_rev, current_after, document_after, IsKept}
-use Rattle.conflicts.specs.Document.{FitsDocument}
+use Rattle.conflicts.specs.Document.{Document, member_of, covers_member, has_rev, current_after, document_after}
+use Rattle.conflicts.specs.Document.{StaysBeside, FitsDocument}
 use Rattle.conflicts.specs.Laws.{IsDocument}
 use Rattle.conflicts.specs.Acceptances.{Unfitting, marked}
 use Rattle.conflicts.specs.declared.member.Member.{Member}
@@ -92,7 +92,7 @@ module _ (d : Document) (a : Accept) (none : list_any (λ m. dominates m.rev a.r
   over_none : current_after (grown d a) None a ≡ Some a.rev
   over_none = ap (λ b. cond b (Some a.rev) None) (accepted_is_there _ a)
 
-  over_any : (c : Option Clock) → (IsKept c a.rev → ⊥) → current_after (grown d a) c a ≡ Some a.rev
+  over_any : (c : Option Clock) → (StaysBeside c a.rev → ⊥) → current_after (grown d a) c a ≡ Some a.rev
   over_any None unkept = over_none
   over_any (Some c) unkept = over_current c (some_true (covers a.rev c) unkept)
 

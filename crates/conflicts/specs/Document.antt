@@ -104,12 +104,12 @@ is_live d = is_some (content_of d)
 
 -- ---- which acceptance fits
 
--- a current revision is there that the clock does not cover
-abbrev pub IsKept : Option Clock → Clock → Type 0
-IsKept None r = ⊥
-IsKept (Some c) r = covers r c ≡ false
+-- a current revision is there, and the accepted clock does not cover it, so both stay
+abbrev pub StaysBeside : Option Clock → Clock → Type 0
+StaysBeside None r = ⊥
+StaysBeside (Some c) r = covers r c ≡ false
 
 -- no member is newer, and the revision is marked current unless a current one stays beside it
 pub record FitsDocument (d : Document) (a : Accept) : Type 0 where
   pub not_older : list_any (λ m. dominates m.rev a.rev) d.members ≡ false
-  pub settled : (a.current ≡ true) ⊎ IsKept d.current a.rev
+  pub settled : (a.current ≡ true) ⊎ StaysBeside d.current a.rev

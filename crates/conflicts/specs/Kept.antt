@@ -1,4 +1,5 @@
--- A document that is there, as it is kept: its members, and the place of the current one among them.
+-- A document that is there, as it is kept: its members, and the place of the current one among them. How it is stored,
+-- at the end of this file, is private.
 use Rattle.std.specs.Prelude.{◌≡◌, ℕ, zero, suc, ◌<◌, Bool, true, not, ◌&&◌, T, is_some, List, [], ◌∷◌, length}
 use Rattle.std.specs.Prelude.{slice_get, Option, Some, None, refl}
 use Rattle.std.specs.List.{list_all}

@@ -3,6 +3,7 @@ pub mod Pruning
 pub mod Document
 pub mod Kept
 pub mod Making
+pub mod MadeAccepts
 pub mod Faults
 pub mod Decision
 pub mod Walk

@@ -45,7 +45,8 @@ impl DocSet {
     }
 
     /// The same for a set that stays as it is. Of its members only those are copied that the
-    /// accepted revision does not cover, so nothing is copied where there is no conflict.
+    /// accepted revision does not cover, so nothing is copied where it covers all of them, as an
+    /// edit does.
     pub fn after(alloc: Global, set: Option<&DocSet>, accept: Accept) -> Result<DocSet, Memory>
         requires { FitsDocument (document (option_copied set)) accept }
         ensures { IfOk result (λ s. document (Some s)

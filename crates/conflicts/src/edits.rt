@@ -1,8 +1,9 @@
 //! What an edit and a deletion make.
-ghost use Rattle.std.specs.Prelude.{◌≡◌, ◌⊎◌, [], ◌∷◌, Err, Ok, Some, true, option_copied};
+ghost use Rattle.std.specs.Prelude.{◌≡◌, ◌⊎◌, [], ◌∷◌, Err, Ok, Some, option_copied};
 ghost use Rattle.std.specs.Option.{ok_or};
 ghost use Rattle.conflicts.specs.Document.{is_live};
 ghost use Rattle.conflicts.specs.Kept.{current, document};
+ghost use Rattle.conflicts.specs.MadeAccepts.{made_edit};
 ghost use Rattle.conflicts.specs.Making.{deleted, edit_of, edited, names};
 
 use crate::made::{first_clock, made_of};
@@ -170,14 +171,7 @@ fn edit_over(
 
 fn edit_with(rev: Clock, content: Option<&Content>, parents: Clocks) -> Result<Accept, EditFault>
     ensures { (result ≡ Err EditFault.Memory)
-        ⊎ (result ≡ Ok (record {
-          rev = rev;
-          content = option_copied content.entry;
-          making =
-              Making.Edit;
-          parents = parents;
-          current = true;
-        })) }
+        ⊎ (result ≡ Ok (made_edit rev (option_copied content.entry) parents)) }
 {
     let content = match content {
         Some(content) => Some(content.copy()?),

@@ -4,6 +4,7 @@ ghost use Rattle.std.specs.Prelude.{IfOk, OnOk, Some, find, length, option_copie
 ghost use Rattle.std.specs.Option.{ok_or};
 ghost use Rattle.vector_rev.specs.Clock.{count_of, dominates};
 ghost use Rattle.conflicts.specs.Kept.{current, current_first, document};
+ghost use Rattle.conflicts.specs.MadeAccepts.{made_resolution};
 ghost use Rattle.conflicts.specs.Walk.{seen};
 ghost use Rattle.conflicts.specs.Making.{greatest, leader, named_in, resolution_of, resolved};
 ghost use Rattle.conflicts.specs.Making.{resolved_over, revs};
@@ -259,14 +260,8 @@ fn resolution_with(
     current: bool,
 ) -> Result<Accept, ResolveFault>
     ensures { (result ≡ Err ResolveFault.Memory)
-        ⊎ (result ≡ Ok (record {
-          rev = rev;
-          content = option_copied content.entry;
-          making =
-              Making.Resolve;
-          parents = parents.items;
-          current = current;
-        })) }
+        ⊎ (result ≡ Ok (made_resolution rev (option_copied content.entry) parents.items
+        current)) }
 {
     let content = match content {
         Some(content) => Some(content.copy()?),

@@ -4,12 +4,13 @@ use crate::stories::{
     CONFLICT, EDITS, FULL, MERGES, PARTIAL_MERGES, PLACES, RECEIPTS, RESOLUTIONS,
 };
 use crate::{
-    Accept, DocSet, EditFault, Making, Member, ResolveFault, Taken, delete, edit, receive, resolve,
+    Accept, DocSet, EditFault, Making, Member, Move, PosTable, ResolveFault, Taken, delete, edit,
+    receive, resolve,
 };
 use content::Content;
 use std::alloc::Global;
 use std::test::Fail;
-use u1_base::ReplicaUid;
+use u1_base::{IdFault, Position, ReplicaUid, TransId};
 use vector_rev::{Clock, Clocks};
 
 #[test]
@@ -60,30 +61,34 @@ fn members_keep_their_places(rt: HostRuntime) -> Result<(), Fail> {
     Ok(())
 }
 
-// The first line that is not told as it stands.
-fn first_wrong<'a>(alloc: Global, lines: &'a str) -> Result<Option<&'a str>, Fail> {
+// The first row that is not told as it stands.
+fn first_wrong<'a>(alloc: Global, rows: &'a str) -> Result<Option<&'a str>, Fail> {
     let mut set = None;
-    for line in lines.lines() {
-        let (left, is_right) = after_line(alloc, set, line)?;
+    for row in rows.split(";\n") {
+        if row.starts_with('\n') {
+            set = None;
+        }
+        let row = row.trim();
+        if row.is_empty() {
+            continue;
+        }
+        let (left, is_right) = after_row(alloc, set, row)?;
         if !is_right {
-            return Ok(Some(line));
+            return Ok(Some(row));
         }
         set = left;
     }
     Ok(None)
 }
 
-// The set after a line, and whether it is told as the line tells it.
-fn after_line(
+// The set after a row, and whether it is told as the row tells it.
+fn after_row(
     alloc: Global,
     set: Option<DocSet>,
-    line: &str,
+    row: &str,
 ) -> Result<(Option<DocSet>, bool), Fail> {
-    if line.is_empty() {
-        return Ok((None, true));
-    }
-    let (words, want) = line.split_once(" => ").ok_or("no answer")?;
-    let Answered { told, accepted } = answer_of(alloc, set.as_ref(), words)?;
+    let (words, want) = row.split_once("=> ").ok_or("no answer")?;
+    let Answered { told, accepted } = answer_of(alloc, set.as_ref(), words.trim())?;
     let set = after(alloc, set, &accepted)?;
     let is_right = is_answered(alloc, told.as_str(), set.as_ref(), want)?;
     Ok((set, is_right))
@@ -94,16 +99,19 @@ pub(crate) fn are_same(text: &str, want: &str) -> bool {
     text == want
 }
 
-// Whether this answer and the set afterwards are told so.
+// Whether this answer and the set afterwards are told so. The last semicolon of the members is the
+// end of the row.
 fn is_answered(
     alloc: Global,
     answer: &str,
     set: Option<&DocSet>,
     want: &str,
 ) -> Result<bool, Fail> {
+    let (want_answer, want_set) = want.split_once("=> ").ok_or("no members")?;
     let left = set_told(alloc, set)?;
-    let told = format!(in alloc; "{answer} => {}", left.as_str())?;
-    Ok(are_same(told.as_str(), want))
+    let told = left.as_str();
+    let members = told.strip_suffix(';').unwrap_or(told);
+    Ok(are_same(answer, want_answer.trim()) && are_same(members, want_set))
 }
 
 // The set after an acceptance, which has to fit.
@@ -403,7 +411,7 @@ fn joins(alloc: Global, right: &str, answer: &str) -> Result<String, Fail> {
     Ok(format!(in alloc;
         "z commit current {left} {{}} => fits => {left} {{}};\n\
          z commit current {right} {{}} => fits => {right} {{}};{left} {{}};\n\
-         z resolve {left},{right} {{}} => {answer}"
+         z resolve {left},{right} {{}} => {answer}\n"
     )?)
 }
 
@@ -656,5 +664,44 @@ fn copied_member(alloc: Global) -> Result<String, Fail> {
 #[test]
 fn copies_members(rt: HostRuntime) -> Result<(), Fail> {
     assert_eq!(rt; copied_member(rt.alloc())?.as_str(), "a:1|b:2 {\"v\":1};");
+    Ok(())
+}
+
+// The peer `b` has told of its second entry, `T-2`.
+fn told_by_b(alloc: Global) -> Result<Move, IdFault> {
+    let trans = TransId::read(alloc, "T-2")?;
+    let uid = ReplicaUid::read(alloc, "b")?;
+    let at = Position {
+        generation: 2,
+        trans: Some(trans),
+    };
+    Ok(Move {
+        table: PosTable::Told,
+        uid,
+        at,
+    })
+}
+
+// Whether the move is that one.
+fn is_told_by_b(told: &Move) -> bool {
+    let trans = match &told.at.trans {
+        Some(trans) => trans.as_str(),
+        None => "",
+    };
+    told.table == PosTable::Told
+        && told.at.generation == 2
+        && trans == "T-2"
+        && told.uid.as_str() == "b"
+}
+
+fn is_move_copied(alloc: Global) -> Result<bool, Fail> {
+    let told = told_by_b(alloc)?;
+    let copy = told.copy()?;
+    Ok(is_told_by_b(&copy) && is_told_by_b(&told))
+}
+
+#[test]
+fn copies_moves(rt: HostRuntime) -> Result<(), Fail> {
+    assert!(rt; is_move_copied(rt.alloc())?);
     Ok(())
 }

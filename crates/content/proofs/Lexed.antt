@@ -1,9 +1,9 @@
 -- The lexemes of a text are written no longer than the text.
 use Rattle.std.proofs.Common.{◌≡◌, ℕ, suc, ◌+◌, ◌-◌, ◌*◌, ◌≤◌, Bool, true, false, cond, not, ◌&&◌, ◌||◌, ◌==◌, nat_eq}
-use Rattle.std.proofs.Common.{nat_lt, nat_le, ◌⊎◌, inl, inr, List, [], ◌∷◌, length, take, drop, Option, Some, None}
+use Rattle.std.proofs.Common.{nat_lt, nat_le, inl, inr, List, [], ◌∷◌, length, take, drop, Option, Some, None}
 use Rattle.std.proofs.Common.{option_and_then, encode_utf8, refl, sym, ap, ◌∙◌, subst, arith, length-take}
 use Rattle.std.proofs.Common.{length-append}
-use Rattle.std.proofs.lemmas.Bool.{and_parts, eqb-true, leb-true, ne_eqb}
+use Rattle.std.proofs.lemmas.Bool.{and_parts, or_cases, eqb-true, leb-true, ne_eqb}
 use Rattle.std.specs.Prelude.{⊤}
 use Rattle.std.specs.List.{prefix_len, starts_with}
 use Rattle.std.specs.Char.{is_ascii_digit, is_digit, digit_value}
@@ -108,13 +108,9 @@ digits t = PassesTo-cond t (prefix_len is_ascii_digit t == 0) None (Some (drop (
 minus : (t : List ℕ) → Passes t (after_minus t)
 minus t = pass_if t (head t == 45) (λ e. pass_one 45 t refl (eqb-true (head t) 45 e))
 
-either : (a b : Bool) → (a || b) ≡ true → (a ≡ true) ⊎ (b ≡ true)
-either true b e = inl refl
-either false b e = inr e
-
 pass_either : (c d : ℕ) (t : List ℕ) → in_a_word c ≡ true → in_a_word d ≡ true → (head t == c || head t == d) ≡ true
     → Passes t (drop 1 t)
-pass_either c d t p q e = elim (either (head t == c) (head t == d) e) [
+pass_either c d t p q e = elim (or_cases (head t == c) (head t == d) e) [
   | inl h ↦ pass_one c t p (eqb-true (head t) c h)
   | inr h ↦ pass_one d t q (eqb-true (head t) d h)
 ]

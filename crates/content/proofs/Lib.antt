@@ -1,5 +1,5 @@
 mod Converted
-mod Refused
+pub mod Refused
 mod PutFields
 mod PlainTexts
 pub mod SameTrees

@@ -12,11 +12,11 @@ use std::thread;
 use std::time::Duration;
 use u1_base::Text;
 
-/// How often the lock is tried: for about five seconds.
-const LOCK_TRIES: u32 = 50;
+/// How often a lock is tried: for about five seconds.
+pub const LOCK_TRIES: u32 = 50;
 
 /// The time between two tries, in milliseconds.
-const LOCK_WAIT: u64 = 100;
+pub const LOCK_WAIT: u64 = 100;
 
 /// New files are readable and writable by their owner alone.
 const OWNER_ALONE: u32 = 0o600;

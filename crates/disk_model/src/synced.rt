@@ -1,4 +1,4 @@
-//! Writes, cuts and reads, each with its sync. Nothing above makes a device call of its own.
+//! Writes, cuts and reads, each with its sync. No library above makes a device call of its own.
 ghost use Rattle.std.specs.Prelude.{◌≡◌, ◌+◌, ◌<◌, ◌≤◌, IsTrue, IfOk, MatchOption, OnOk, length};
 ghost use Rattle.std.specs.Prelude.{slice_index, take};
 ghost use Rattle.u1_base.specs.Causes.{HasCause, HasCauseOf};

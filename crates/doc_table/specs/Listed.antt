@@ -1,4 +1,4 @@
--- What a contract sees of a table.
+-- What a contract sees of a table. How it is stored, at the end of this file, is private.
 use Rattle.std.specs.Prelude.{◌≡◌, ℕ, not, List, T}
 use Rattle.std.specs.Coded.{Coded, coded×, coded_ℕ, coded_list}
 use Rattle.std.specs.FinMap.Entries.{is_sorted, where_key}
@@ -16,6 +16,8 @@ pub record Listed (V : Type 0) : Type 0 where
 -- the pairs but that of the id
 abbrev pub without : {V : Type 0} → List ℕ → List (List ℕ × V) → List (List ℕ × V)
 without id pairs = where_key id_cmp (λ other. not (same_id id other)) pairs
+
+-- ---- how it is stored
 
 -- pairs and room tell a table
 pub same_listed : {V : Type 0} (x y : Listed V)

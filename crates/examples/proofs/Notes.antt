@@ -32,7 +32,7 @@ use Rattle.replica_core.specs.CallsDecide.{accept_made, kept_place, put_decides,
 use Rattle.replica_core.specs.CallsFaults.{put_refusal}
 use Rattle.replica_core.specs.Replica.{after_step}
 use Rattle.replica_core.specs.declared.calls.receipts.TakeFault.TheVariants.{LogCheck}
-use Rattle.examples.specs.Notes.{IsKept, Reads}
+use Rattle.examples.specs.Notes.{IsCovered, Reads}
 use Rattle.examples.proofs.Acceptances.{after_next, made_ok, reads_after, unless}
 
 -- ---- over what a call promises of its Ok
@@ -111,7 +111,7 @@ after_take seed s id m None = by (same_place m.at (kept_place s m))
 pub take_keeps : (seed : ℕ) (s new : State) (id : Text) (x : Member) (m : Move) (answer : Taken)
     → IsDocument (s.document id)
     → IsAnswer (take_decides seed id x true m s) answer
-    → new ≡ after_step s (step_in (take_decides seed id x true m s)) → IsKept new id x.rev
+    → new ≡ after_step s (step_in (take_decides seed id x true m s)) → IsCovered new id x.rev
 take_keeps seed s new id x m answer is = by (passes (kept_place s m) m.at)
   where
     by : (b : Bool) → IsAnswer
@@ -119,7 +119,7 @@ take_keeps seed s new id x m answer is = by (passes (kept_place s m) m.at)
         (LogCheck (kept_place s m) m.at)) answer
         → new ≡ after_step s (step_in
         (if b then take_answers seed id m s (decides (s.document id) x true s.uid) else Refuses
-        (LogCheck (kept_place s m) m.at))) → IsKept new id x.rev
+        (LogCheck (kept_place s m) m.at))) → IsCovered new id x.rev
     by false decided after = absurd decided
     by true decided after =
         subst (λ (d : Document). (n : Member) × In n d.members × (covers n.rev x.rev ≡ true))

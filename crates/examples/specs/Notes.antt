@@ -18,8 +18,8 @@ abbrev pub Reads : State → Text → Clock → Tree → Type 0
 Reads s id rev tree = current_member (s.document id) ≡ Some (record { rev = rev; content = Some tree })
 
 -- a member of the note is this revision, or knows it
-abbrev pub IsKept : State → Text → Clock → Type 0
-IsKept s id rev = (m : Member) × In m (s.document id).members × (covers m.rev rev ≡ true)
+abbrev pub IsCovered : State → Text → Clock → Type 0
+IsCovered s id rev = (m : Member) × In m (s.document id).members × (covers m.rev rev ≡ true)
 
 -- the revisions of a note in conflict, the current one first
 abbrev pub conflicting_in : Document → List Clock

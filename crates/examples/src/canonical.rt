@@ -21,7 +21,7 @@ use u1_base::Bytes;
 pub enum PrintFault {
     /// The bytes are not a content, or memory ran out. Nothing was printed.
     Content(ContentFault),
-    /// The sink failed. It may have taken the beginning of the text.
+    /// The sink failed. It may have taken the beginning of the text, or all of it.
     Sink,
 }
 

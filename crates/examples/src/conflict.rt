@@ -12,7 +12,7 @@ ghost use Rattle.replica_core.specs.Calls.{IsDone};
 ghost use Rattle.replica_core.specs.CallsDecide.{take_decides};
 ghost use Rattle.replica_core.specs.CallsFaults.{put_failure, resolve_failure, take_failure};
 ghost use Rattle.replica_core.specs.Replica.{state_in};
-ghost use Rattle.examples.specs.Notes.{IsKept, Reads, conflicting_in};
+ghost use Rattle.examples.specs.Notes.{IsCovered, Reads, conflicting_in};
 ghost use Rattle.examples.specs.Notes.{settle_decides, write_decides};
 
 use conflicts::{DocSet, Member, Move, Taken};
@@ -51,7 +51,7 @@ pub fn write_note<R: Replica>(
 
 /// Takes over what another device made of the note; `at` is the place of that in the other device's
 /// log. It is a conflict if neither of the two devices knew of the other's change and their texts
-/// differ; equal ones are merged.
+/// differ; equal ones are merged where the rule of merges allows it.
 pub fn take_note<R: Replica>(
     alloc: Global,
     notes: &mut R,
@@ -61,7 +61,7 @@ pub fn take_note<R: Replica>(
     at: &Move,
 ) -> Result<Taken, TakeFault>
     requires { R.is_open notes.old }
-    ensures kept { OnOk result (IsKept (state_in (R.known notes.new)) id.now theirs.now.rev) }
+    ensures kept { OnOk result (IsCovered (state_in (R.known notes.new)) id.now theirs.now.rev) }
     ensures same { OnErr result (state_in (R.known notes.new) ≡ state_in (R.known notes.old)) }
     ensures done { IsDone R.known R.is_open R.crash take_failure
         (take_decides seed id.now theirs.now true at.now (state_in (R.known notes.old)))

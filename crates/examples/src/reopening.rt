@@ -20,12 +20,13 @@ use std::error::Error;
 use std::fmt;
 use u1_base::DocId;
 
-/// Why no note was kept.
+/// Why no store with the note was given.
 #[derive(Debug, PartialEq, Eq, Drop)]
 pub enum KeepFault {
-    /// No store was made: there is one already, or a disk or the memory failed.
+    /// There is a store already, or a disk or the memory failed; after a failed disk the empty
+    /// store may stand.
     Init(InitFault),
-    /// The note was not written.
+    /// The note was refused, or a disk or the memory failed; after a failed disk it may stand.
     Write(PutFault),
     /// The store was not opened again.
     Open(VolumeFault),

@@ -1,7 +1,8 @@
 -- The test tells equality of forms.
-use Rattle.std.proofs.Common.{◌≡◌, ℕ, Bool, true, false, ◌&&◌, ◌↔◌, eqb, eqb-true, eq-eqb, IsTrue, List, [], ◌∷◌}
+use Rattle.std.proofs.Common.{◌≡◌, ℕ, Bool, true, false, ◌↔◌, eqb, eqb-true, eq-eqb, IsTrue, List, [], ◌∷◌}
 use Rattle.std.proofs.Common.{length, refl, sym, ◌∙◌, ap, arith}
 use Rattle.std.proofs.lemmas.Bool.{and_parts, and_from, false≢true}
+use mathlib.Core.Bool.{and-false}
 use Rattle.std.proofs.lemmas.Slice.Eq.{bytes_eq-Decides, slice_eq-Decides}
 use Rattle.expr_parser.specs.declared.expr.Expr.{Expr}
 use Rattle.expr_parser.specs.Forms.{Form, Forms, field, lower, split_words, number, truth, combine, no_forms, form}
@@ -59,8 +60,4 @@ other_length [] [] h = absurd (h refl)
 other_length [] (y ∷ ys) h = refl
 other_length (x ∷ xs) [] h = refl
 other_length (x ∷ xs) (y ∷ ys) h =
-    let rest = other_length xs ys (λ e. h (omega (arith, e))) in rw rest (and_false (is_same (form_of x) (form_of y)))
-  where
-    and_false : (b : Bool) → (b && false) ≡ false
-    and_false true = refl
-    and_false false = refl
+    let rest = other_length xs ys (λ e. h (omega (arith, e))) in rw rest (and-false (is_same (form_of x) (form_of y)))

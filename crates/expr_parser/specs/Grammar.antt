@@ -4,6 +4,7 @@ use Rattle.std.specs.Prelude.{encode_utf8_all}
 use Rattle.std.specs.List.{list_all, join_with_byte}
 use Rattle.std.specs.Char.{is_whitespace}
 use Rattle.std.specs.Fmt.{decimal}
+use Rattle.expr_parser.specs.declared.reader.TheConstants.{LEAST_WIDTH, GREATEST_WIDTH}
 use Rattle.expr_parser.specs.Forms.{Form, Forms, field, lower, split_words, number, truth, combine, no_forms, form}
 
 -- white space, as `char::is_whitespace` says
@@ -63,8 +64,8 @@ pub record Pair (P Q : List ℕ → Type 0) (text : List ℕ) : Type 0 where
 
 -- a width: from 1 to 128, in decimal without a leading zero
 pub record SpellsWidth (width : ℕ) (text : List ℕ) : Type 0 where
-  pub least : 1 ≤ width
-  pub greatest : width ≤ 128
+  pub least : LEAST_WIDTH ≤ width
+  pub greatest : width ≤ GREATEST_WIDTH
   pub is : text ≡ decimal width
 
 -- the grammar, by cases on the form

@@ -4,6 +4,7 @@ use Rattle.std.specs.Prelude.{ℕ, ◌+◌, ◌-◌, ◌*◌, Bool, ◌&&◌, �
 use Rattle.std.specs.Prelude.{Option, Some, None, Result, Ok, Err, encode_utf8}
 use Rattle.std.specs.Str.{bytes_eq}
 use Rattle.std.specs.Option.{option_map}
+use Rattle.expr_parser.specs.declared.reader.TheConstants.{LEAST_WIDTH, GREATEST_WIDTH}
 use Rattle.expr_parser.specs.declared.transform.Transform.{Transform}
 use Rattle.expr_parser.specs.declared.transform.Transform.TheVariants.{Lower, SplitWords, Number, Truth, Combine}
 use Rattle.expr_parser.specs.Forms.{Form, field, lower, split_words, number, truth, combine, forms_of}
@@ -79,7 +80,9 @@ closing K f n c = if is_white c then Some (spaced K f n) else (if c == 41 then S
 
 -- a digit goes on after a number, so that it is from 1 to 128
 unfoldable pub goes_on : ℕ → ℕ → Bool
-goes_on n c = nat_le 48 c && nat_le c 57 && nat_le 1 (n * 10 + (c - 48)) && nat_le (n * 10 + (c - 48)) 128
+goes_on n c =
+    let longer = n * 10 + (c - 48) in
+    nat_le 48 c && nat_le c 57 && nat_le LEAST_WIDTH longer && nat_le longer GREATEST_WIDTH
 
 -- one character on, or none where it cannot stand there
 abbrev pub step : State → ℕ → Option State

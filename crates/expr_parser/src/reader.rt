@@ -5,6 +5,7 @@ ghost use Rattle.std.specs.Str.{chars};
 ghost use Rattle.expr_parser.specs.Grammar.{is_part, is_white};
 ghost use Rattle.expr_parser.specs.Descent.{Fails, front_of, rest_of};
 ghost use Rattle.expr_parser.specs.Machine.{goes_on};
+ghost use Rattle.expr_parser.specs.declared.reader.TheConstants.{GREATEST_WIDTH};
 
 use std::marker::Model;
 
@@ -84,7 +85,7 @@ impl<'t> Reader<'t> {
     /// Passes one more digit of a number from 1 to 128, if one follows, and gives the number with
     /// it.
     pub fn digit_behind(&mut self, number: u8) -> Option<u8>
-        requires { number ≤ 128 }
+        requires { number ≤ GREATEST_WIDTH }
         ensures { MatchOption result
             ((self.new ≡ self.old) × Fails (goes_on number) self.old)
             (λ longer. (c : ℕ) × (self.old ≡ c ∷ self.new) × (goes_on number c ≡ true)
@@ -105,7 +106,7 @@ impl<'t> Reader<'t> {
 
 // The number with one more digit after it, where that is from 1 to 128.
 fn number_with(number: u8, digit: char) -> Option<u8>
-    requires { number ≤ 128 }
+    requires { number ≤ GREATEST_WIDTH }
     ensures { MatchOption result
         (goes_on number digit ≡ false)
         (λ longer. (goes_on number digit ≡ true) × (longer ≡ number * 10 + (digit - 48))) }

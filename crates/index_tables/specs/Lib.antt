@@ -1,7 +1,6 @@
 pub mod Abbreviated
 pub mod Documents
 pub mod Entries
-pub mod Looks
 pub mod Order
 pub mod Seen
 pub mod Table

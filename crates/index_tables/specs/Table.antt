@@ -1,4 +1,4 @@
--- What a contract sees of the table of an index.
+-- What a contract sees of the table of an index. How it is stored, at the end of this file, is private.
 use Rattle.std.specs.Prelude.{◌≡◌, ℕ, List}
 use Rattle.std.specs.Coded.{Coded, coded×, coded_ℕ, coded_list}
 use Rattle.std.specs.Ordering.{Ordering-set}
@@ -11,6 +11,8 @@ pub record Indexed : Type 0 where
   pub pairs : List Entry
   pub order : IsInOrder pairs
   pub room : ℕ
+
+-- ---- how it is stored
 
 -- entries and room tell a table: entries are in order in one way alone
 pub in_order_once : (entries : List Entry) (one other : IsInOrder entries) → one ≡ other

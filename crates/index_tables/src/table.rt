@@ -2,8 +2,8 @@
 ghost use Rattle.std.specs.Prelude.{◌≡◌, ◌≢◌, ◌+◌, ◌≤◌, [], length, slice_get, option_map, IfOk};
 ghost use Rattle.std.specs.Prelude.{OnOk, OnErr};
 ghost use Rattle.std.specs.List.{AllPairs};
+ghost use Rattle.chunk_list.specs.Looks.{FewLooks};
 ghost use Rattle.index_tables.specs.Entries.{AreNew, HoldsBoth, entries_of, not_among, not_of};
-ghost use Rattle.index_tables.specs.Looks.{FewLooks};
 ghost use Rattle.index_tables.specs.Order.{FallsAt, IsInOrder};
 ghost use Rattle.index_tables.specs.Seen.{EndsAt, has_lower_key, seen};
 

@@ -1,5 +1,5 @@
 -- A file begins with at most one field of each kind, and the reader finds it.
-use Rattle.std.proofs.Common.{◌≡◌, ℕ, zero, suc, ⊎_elim, ◌+◌, ◌^◌, ◌<◌, ◌≤◌, Bool, true, false, ◌&&◌, List, [], ◌∷◌}
+use Rattle.std.proofs.Common.{◌≡◌, ℕ, zero, suc, ⊎_elim, ◌+◌, ◌^◌, ◌<◌, ◌≤◌, Bool, true, List, [], ◌∷◌}
 use Rattle.std.proofs.Common.{◌++◌, length, get_or, take, drop, refl, sym, ◌∙◌, ap, subst, arith, length-append}
 use Rattle.std.specs.Prelude.{None, codes}
 use Rattle.std.specs.Int.{w16, w32, w64, from_be_bytes}
@@ -8,7 +8,7 @@ use Rattle.std.specs.Str.{IsUtf8, IsAscii}
 use Rattle.std.proofs.lemmas.Nat.{from_be_bytes-to_be_bytes_2, from_be_bytes-to_be_bytes_4, from_be_bytes-to_be_bytes_8}
 use Rattle.std.proofs.lemmas.List.{take_at, drop_at, take-append-drop, append_assoc, length-take-le, get_or_past}
 use Rattle.std.proofs.lemmas.List.{drop_more}
-use Rattle.std.proofs.lemmas.Bool.{cases_lt}
+use Rattle.std.proofs.lemmas.Bool.{and_parts, cases_lt}
 use Rattle.std.proofs.lemmas.Bool.Decides.{nat_tests}
 use Rattle.std.proofs.lemmas.Str.{IsUtf8-from_ascii}
 use Rattle.u1_base.specs.Fields.{u16_bytes, u32_bytes, u64_bytes, text_field}
@@ -153,14 +153,10 @@ allowed_ascii form_of.Replica b e = grind (arith, nat_tests)
 allowed_ascii form_of.Transaction b e = grind (arith, nat_tests)
 allowed_ascii form_of.Name b e = grind (arith, nat_tests)
 
-and_true : (a b : Bool) → (a && b) ≡ true → (a ≡ true) × (b ≡ true)
-and_true true b e = (refl, e)
-and_true false b e = absurd (cc e)
-
 all_at : (p : ℕ → Bool) (xs : List ℕ) (k : ℕ) → k < length xs → list_all p xs ≡ true → p (get_or xs k 0) ≡ true
 all_at p [] k h e = absurd (omega (arith, h))
-all_at p (x ∷ xs) zero h e = (and_true (p x) (list_all p xs) e).0
-all_at p (x ∷ xs) (suc k) h e = all_at p xs k (omega (arith, h)) (and_true (p x) (list_all p xs) e).1
+all_at p (x ∷ xs) zero h e = (and_parts (p x) (list_all p xs) e).0
+all_at p (x ∷ xs) (suc k) h e = all_at p xs k (omega (arith, h)) (and_parts (p x) (list_all p xs) e).1
 
 all_ascii : (form : Form) (xs : List ℕ) → list_all (is_allowed form) xs ≡ true → IsAscii xs
 all_ascii form xs e k =

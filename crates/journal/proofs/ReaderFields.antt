@@ -4,10 +4,12 @@ use Rattle.std.proofs.Common.{None, MatchOption, List, length, get_or, take, dro
 use Rattle.std.specs.Int.{w16, w32, w64, from_be_bytes}
 use Rattle.std.proofs.lemmas.Nat.{from_be_bytes-to_be_bytes_2, from_be_bytes-to_be_bytes_4, from_be_bytes-to_be_bytes_8}
 use Rattle.std.proofs.lemmas.Slice.Eq.{bytes_eq-Decides}
+use Rattle.std.proofs.lemmas.Bool.{and_from, and_parts}
 use Rattle.std.proofs.lemmas.Bool.Decides.{nat_tests}
 use Rattle.u1_base.specs.Fields.{u16_bytes, u32_bytes, u64_bytes, text_field}
 use Rattle.u1_base.specs.Ids.{IsId, is_id}
 use Rattle.u1_base.specs.declared.ids.Form.{Form}
+use Rattle.u1_base.proofs.Booleans.{not_both}
 use Rattle.journal.specs.Image.{IsFormat, IsLimit, IsBody, first_field, body_field}
 use Rattle.journal.specs.Damage.{Begins}
 use Rattle.journal.specs.Fields.{NoFirst, NoId, NoLimit, NoBody}
@@ -39,19 +41,6 @@ guarded : {A : Type 0} (b c : Bool) (x : A) (No : Type 0) (P : A → Type 0) →
 guarded true true x No P there_is missing = there_is refl refl
 guarded true false x No P there_is missing = missing refl
 guarded false c x No P there_is missing = missing refl
-
-both : (b c : Bool) → b ≡ true → c ≡ true → (b && c) ≡ false → ⊥
-both true true p q e = absurd (cc e)
-both true false p q e = absurd (cc q)
-both false c p q e = absurd (cc p)
-
-and_true : (b c : Bool) → (b && c) ≡ true → (b ≡ true) × (c ≡ true)
-and_true true c e = (refl, e)
-and_true false c e = absurd (cc e)
-
-true_and : (b c : Bool) → b ≡ true → c ≡ true → (b && c) ≡ true
-true_and true c p q = q
-true_and false c p q = absurd (cc p)
 
 first_cases : (b c : Bool) (file : List ℕ) → (b ≡ true → Begins (first_field 1) file)
     → (c ≡ true → Begins (first_field 2) file)
@@ -127,9 +116,10 @@ read_text_is form file =
     (λ p q. (q, begins_true (text_field text) file p))
     (λ missing id is b.
     let same : text ≡ id = text_decoded id file (id_short form id is) b in
-    both (begins (text_field text) file) (is_id form text)
+    not_both (begins (text_field text) file && is_id form text)
+    (and_from (begins (text_field text) file) (is_id form text)
     (begins_is (text_field text) file (subst (λ (l : List ℕ). Begins (text_field l) file) (sym same) b))
-    (subst (IsId form) (sym same) is) missing)
+    (subst (IsId form) (sym same) is)) missing)
 
 pub id_same : (form : Form) (a b file : List ℕ) → IsId form a × Begins (text_field a) file → IsId form b
     → Begins (text_field b) file → a ≡ b
@@ -141,15 +131,16 @@ read_limit_is file =
     let limit = from_be_bytes w64 (take 8 file) in
     guarded (begins (u64_bytes limit) file && leb 1024 limit) (leb limit (2 ^ 40)) limit (NoLimit file)
     (λ limit. IsLimit limit × Begins (u64_bytes limit) file)
-    (λ p q. let r = and_true (begins (u64_bytes limit) file) (leb 1024 limit) p in
+    (λ p q. let r = and_parts (begins (u64_bytes limit) file) (leb 1024 limit) p in
     ((le_from 1024 limit r.1, le_from limit (2 ^ 40) q), begins_true (u64_bytes limit) file r.0))
     (λ missing n known b.
     let same : limit ≡ n = limit_decoded n file (omega (arith, known.1)) b in
-    both (begins (u64_bytes limit) file && leb 1024 limit) (leb limit (2 ^ 40))
-    (true_and (begins (u64_bytes limit) file) (leb 1024 limit)
+    not_both ((begins (u64_bytes limit) file && leb 1024 limit) && leb limit (2 ^ 40))
+    (and_from (begins (u64_bytes limit) file && leb 1024 limit) (leb limit (2 ^ 40))
+    (and_from (begins (u64_bytes limit) file) (leb 1024 limit)
     (begins_is (u64_bytes limit) file (subst (λ (m : ℕ). Begins (u64_bytes m) file) (sym same) b))
     (le_test 1024 limit (omega (arith, same, known.0))))
-    (le_test limit (2 ^ 40) (omega (arith, same, known.1))) missing)
+    (le_test limit (2 ^ 40) (omega (arith, same, known.1)))) missing)
 
 pub limit_same : (a b : ℕ) (file : List ℕ) → IsLimit a × Begins (u64_bytes a) file → IsLimit b
     → Begins (u64_bytes b) file → a ≡ b
@@ -162,15 +153,16 @@ read_body_is file =
     let body = take (from_be_bytes w32 (take 4 file)) (drop 4 file) in
     guarded (begins (body_field body) file && leb 1 (length body)) (ltb (length body) (2 ^ 32)) body (NoBody file)
     (λ body. IsBody body × Begins (body_field body) file)
-    (λ p q. let r = and_true (begins (body_field body) file) (leb 1 (length body)) p in
+    (λ p q. let r = and_parts (begins (body_field body) file) (leb 1 (length body)) p in
     ((le_from 1 (length body) r.1, lt_from (length body) (2 ^ 32) q), begins_true (body_field body) file r.0))
     (λ missing other is b.
     let same : body ≡ other = body_decoded other file is.1 b in
-    both (begins (body_field body) file && leb 1 (length body)) (ltb (length body) (2 ^ 32))
-    (true_and (begins (body_field body) file) (leb 1 (length body))
+    not_both ((begins (body_field body) file && leb 1 (length body)) && ltb (length body) (2 ^ 32))
+    (and_from (begins (body_field body) file && leb 1 (length body)) (ltb (length body) (2 ^ 32))
+    (and_from (begins (body_field body) file) (leb 1 (length body))
     (begins_is (body_field body) file (subst (λ (l : List ℕ). Begins (body_field l) file) (sym same) b))
     (le_test 1 (length body) (omega (arith, ap length same, is.0))))
-    (lt_test (length body) (2 ^ 32) (omega (arith, ap length same, is.1))) missing)
+    (lt_test (length body) (2 ^ 32) (omega (arith, ap length same, is.1)))) missing)
 
 pub body_same : (a b file : List ℕ) → IsBody a × Begins (body_field a) file → IsBody b
     → Begins (body_field b) file → a ≡ b

@@ -7,6 +7,7 @@ use Rattle.std.proofs.lemmas.Bool.Decides.{Decides-eqb}
 use Rattle.u1_base.specs.Fields.{text_field, u64_bytes}
 use Rattle.u1_base.specs.Ids.{IsId}
 use Rattle.u1_base.specs.declared.ids.Form.TheVariants as form
+use Rattle.u1_base.proofs.Booleans.{none_true}
 use Rattle.journal.specs.Image.{Head, IsFormat, IsLimit, IsHeader, ReadsAs, AreBodies, IsBody, first_field, body_field}
 use Rattle.journal.specs.Image.{entry, entries, up_to_gate, header_bytes}
 use Rattle.journal.specs.Damage.{Part, Begins, DamagedAt, IsField, IsBefore}
@@ -402,11 +403,7 @@ ends_shut (suc fuel) format head place gate tail some ne =
     (λ (x : List ℕ). with_body x
     (read_entries fuel format head (place + 1 + length (body_field x)) (drop (length (body_field x)) tail))))
     (Stands format head []))
-    (is_false (eqb gate 1) (λ e. ne (is_one gate e)))
-  where
-    is_false : (b : Bool) → (b ≡ true → ⊥) → b ≡ false
-    is_false true missing = absurd (missing refl)
-    is_false false missing = refl
+    (none_true (eqb gate 1) (λ e. ne (is_one gate e)))
 
 ends_cut : (fuel : ℕ) (format : ℕ) (head : Head) (place : ℕ) → 0 < fuel
     → read_entries fuel format head place [] ≡ Damaged place

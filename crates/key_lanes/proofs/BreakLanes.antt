@@ -2,7 +2,7 @@
 use Rattle.std.proofs.Common.{◌≡◌, ℕ, ◌+◌, ◌%◌, ◌^◌, ◌<◌, eqb, Bool, true, false, ◌&&◌, List, map, length, get_or}
 use Rattle.std.proofs.Common.{replicate, w8, bit_and, refl, sym, ap, ap₂, ◌∙◌, arith}
 use Rattle.std.specs.Prelude.{Option, MatchOption}
-use Rattle.std.proofs.lemmas.Bool.{eqb-true, eqb-false, eq-eqb}
+use Rattle.std.proofs.lemmas.Bool.{and_parts, eqb-true, eqb-false, eq-eqb}
 use Rattle.std.proofs.lemmas.Simd.{bitmask_splat, none_from_empty_mask, length-chunk, get_or-chunk, length-replicate}
 use Rattle.std.proofs.lemmas.Simd.{get_or-replicate}
 use lib.Lanes.{chunk, zip2, mask_l, top}
@@ -14,14 +14,9 @@ use Rattle.key_lanes.proofs.Masks.{Fails, IsFirstLane, match_map, first_lane, co
 abbrev is_break : List ℕ → ℕ → Bool
 is_break bytes k = eqb (get_or bytes k 0) 13 && eqb (get_or bytes (k + 1) 0) 10
 
-both_true : (b c : Bool) → (b && c) ≡ true → (b ≡ true) × (c ≡ true)
-both_true true true is = (refl, refl)
-both_true true false is = absurd (cc is)
-both_true false c is = absurd (cc is)
-
 is_break-IsBreak : (bytes : List ℕ) (k : ℕ) → k + 1 < length bytes → is_break bytes k ≡ true → IsBreak bytes k
 is_break-IsBreak bytes k inside is =
-    let both = both_true _ _ is in
+    let both = and_parts _ _ is in
     (inside, eqb-true _ _ both.0, eqb-true _ _ both.1)
 
 Fails-NoBreak : (bytes : List ℕ) (low high : ℕ) → Fails (is_break bytes) low high → NoBreak bytes low high

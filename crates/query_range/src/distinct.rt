@@ -6,7 +6,7 @@ ghost use Rattle.query_range.specs.Wanted.{is_key};
 use index_tables::{IndexTable, compare_keys};
 use std::alloc::Global;
 use std::sync::ledger::Ledger;
-use u1_base::{Key, Keys, Memory, Steps, Texts};
+use u1_base::{Key, Keys, Memory, Steps};
 
 /// The keys of all pairs, in order, each once.
 ///
@@ -27,7 +27,7 @@ pub fn distinct_keys<L: Ledger>(
             break;
         };
         if !is_last(keys.as_slice(), key) {
-            keys.push(copy(alloc, key)?)?;
+            keys.push(key.copy()?)?;
         }
     }
     Ok(keys)
@@ -41,14 +41,4 @@ fn is_last(keys: &[Key], key: &Key) -> bool
         Some(last) => compare_keys(last.texts(), key.texts()).is_eq(),
         None => false,
     }
-}
-
-fn copy(alloc: Global, key: &Key) -> Result<Key, Memory>
-    ensures { IfOk result (λ copied. copied ≡ key.now) }
-{
-    let mut texts = Texts::new(alloc);
-    for text in key.texts() {
-        texts.push(text.duplicate()?)?;
-    }
-    Ok(Key::of(texts))
 }

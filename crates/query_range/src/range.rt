@@ -1,7 +1,7 @@
 //! The documents that a pattern or a range finds.
 ghost use Rattle.std.specs.Prelude.{◌≡◌, ◌+◌, IfOk, length, option_copied};
+ghost use Rattle.chunk_list.specs.Looks.{FewLooks};
 ghost use Rattle.index_tables.specs.Entries.{HaveWidth};
-ghost use Rattle.index_tables.specs.Looks.{FewLooks};
 ghost use Rattle.query_range.specs.Answers.{IsAnswer, answer, is_to, is_within, wanted_of};
 ghost use Rattle.query_range.specs.Patterns.{meets};
 ghost use Rattle.query_range.specs.Wanted.{StartsAt, takes};

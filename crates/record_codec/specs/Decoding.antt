@@ -1,4 +1,4 @@
--- What reading a body answers.
+-- What reading a body answers. `read_whole` and `Records` are private.
 use Rattle.std.specs.Prelude.{◌≡◌, ◌≤◌, ℕ, List, ◌++◌, codes, Result, Ok, Err}
 use Rattle.std.specs.Fmt.{decimal}
 use Rattle.conflicts.specs.State.{Step}

@@ -1,15 +1,17 @@
 -- Tables grow, keep their numbers, and give no uid two of them.
 use Rattle.std.proofs.Common.{◌≡◌, ℕ, zero, suc, ◌+◌, ◌-◌, ◌≤◌, ◌<◌, ◌^◌, Bool, true, false, not, cond, List, [], ◌∷◌}
 use Rattle.std.proofs.Common.{◌++◌, length, Option, Some, None, refl, sym, ap, ◌∙◌, subst, arith, length-append}
-use Rattle.std.proofs.Common.{true≢false, lit≤}
-use Rattle.std.specs.Prelude.{◌||◌, is_some}
+use Rattle.std.proofs.Common.{lit≤}
+use Rattle.std.specs.Prelude.{◌||◌, is_some, position}
 use Rattle.std.specs.List.{list_all, list_any, position_from, slice_get}
 use Rattle.std.specs.Str.{bytes_eq}
-use Rattle.std.proofs.lemmas.Bool.{and_parts, and_from}
+use Rattle.std.specs.Cmp.Lexicographic.{texts_ties}
+use Rattle.std.proofs.lemmas.Bool.{and_parts, and_from, or_parts}
 use Rattle.std.proofs.lemmas.Iterator.Adapters.{position_from-zero}
-use Rattle.std.proofs.lemmas.Slice.Eq.{bytes_eq-Decides}
-use Rattle.u1_base.specs.Ids.{IsId, is_id}
+use Rattle.u1_base.specs.Ids.{IsId, is_id, same_id}
 use Rattle.u1_base.specs.declared.ids.Form.TheVariants.{Replica}
+use Rattle.u1_base.proofs.Booleans.{not_true}
+use Rattle.u1_base.proofs.SameIds.{same_id_is, is_same_id, same_id-comm}
 use Rattle.record_fields.specs.Table.{Text, Table, uids, number_of, with_uid, after, are_distinct, HasRoom, AreNumbered}
 
 -- ---- one uid after the other
@@ -36,18 +38,22 @@ room_before t us room = omega (arith, after-longer t us, room)
 
 -- ---- numbers
 
-pub number_of-from : (us : List Text) (u : Text) → number_of us u ≡ position_from (λ known. bytes_eq known u) 0 us
-number_of-from us u = position_from-zero (λ known. bytes_eq known u) us
+-- what the code's `==` of uids finds
+pub number_by_bytes : (us : List Text) (u : Text) → position (λ known. bytes_eq known u) us ≡ number_of us u
+number_by_bytes us u = λ i. position (λ known. (texts_ties known u ∙ same_id-comm known u) i) us
+
+pub number_of-from : (us : List Text) (u : Text) → number_of us u ≡ position_from (same_id u) 0 us
+number_of-from us u = position_from-zero (same_id u) us
 
 -- the uid of a number is the one that has it
-at_from : (us : List Text) (u : Text) (from n : ℕ) → position_from (λ known. bytes_eq known u) from us ≡ Some n
+at_from : (us : List Text) (u : Text) (from n : ℕ) → position_from (same_id u) from us ≡ Some n
     → (k : ℕ) × (n ≡ from + k) × (slice_get us k ≡ Some u)
 at_from [] u from n e = absurd (cc e)
 at_from (v ∷ us) u from n e =
-    elim (bytes_eq v u) as (λ b. bytes_eq v u ≡ b
-    → cond b (Some from) (position_from (λ known. bytes_eq known u) (from + 1) us) ≡ Some n → (k : ℕ) × (n ≡ from + k)
+    elim (same_id u v) as (λ b. same_id u v ≡ b
+    → cond b (Some from) (position_from (same_id u) (from + 1) us) ≡ Some n → (k : ℕ) × (n ≡ from + k)
     × (slice_get (v ∷ us) k ≡ Some u)) [
-      | true ↦ λ same here. (0, omega (arith, some_is here), ap Some ((bytes_eq-Decides v u).0 same))
+      | true ↦ λ same here. (0, omega (arith, some_is here), ap Some (sym (same_id_is u v same)))
       | false ↦ λ other there. let later = at_from us u (from + 1) n there
           in (suc later.0, omega (arith, later.1), later.2)
     ] refl e
@@ -62,57 +68,57 @@ number_of-get us u n e =
     rw same found.2
 
 -- no number where none of the uids is this one
-pub none_from : (us : List Text) (u : Text) (from : ℕ) → position_from (λ known. bytes_eq known u) from us ≡ None
-    → list_any (λ known. bytes_eq known u) us ≡ false
+pub none_from : (us : List Text) (u : Text) (from : ℕ) → position_from (same_id u) from us ≡ None
+    → list_any (same_id u) us ≡ false
 none_from [] u from e = refl
 none_from (v ∷ us) u from e =
-    elim (bytes_eq v u) as (λ b. cond b (Some from) (position_from (λ known. bytes_eq known u) (from + 1) us) ≡ None
-    → (b || list_any (λ known. bytes_eq known u) us) ≡ false) [
+    elim (same_id u v) as (λ b. cond b (Some from) (position_from (same_id u) (from + 1) us) ≡ None
+    → (b || list_any (same_id u) us) ≡ false) [
       | true ↦ λ here. absurd (cc here)
       | false ↦ λ there. none_from us u (from + 1) there
     ] e
 
 pub number_of-none : (us : List Text) (u : Text) → number_of us u ≡ None
-    → list_any (λ known. bytes_eq known u) us ≡ false
+    → list_any (same_id u) us ≡ false
 number_of-none us u e = none_from us u 0 (sym (number_of-from us u) ∙ e)
 
 -- ---- no uid has two numbers
 
-any_at : (us : List Text) (u : Text) (k : ℕ) → slice_get us k ≡ Some u → list_any (λ known. bytes_eq known u) us ≡ true
+any_at : (us : List Text) (u : Text) (k : ℕ) → slice_get us k ≡ Some u → list_any (same_id u) us ≡ true
 any_at [] u k e = absurd (cc e)
 any_at (v ∷ us) u zero e =
     let same : v ≡ u = some_text e
-    in ap (λ b. b || list_any (λ known. bytes_eq known u) us) ((bytes_eq-Decides v u).1 same)
+    in ap (λ b. b || list_any (same_id u) us) (is_same_id u v (sym same))
   where
     some_text : {a b : Text} → Some a ≡ Some b → a ≡ b
     some_text e = cc
-any_at (v ∷ us) u (suc k) e = either (bytes_eq v u) (any_at us u k e)
+any_at (v ∷ us) u (suc k) e = either (same_id u v) (any_at us u k e)
   where
     either : (b : Bool) {c : Bool} → c ≡ true → (b || c) ≡ true
     either true h = refl
     either false h = h
 
 same_as : (v w : Text) (us : List Text) → v ≡ w
-    → list_any (λ other. bytes_eq other v) us ≡ list_any (λ other. bytes_eq other w) us
-same_as v w us e = ap (λ x. list_any (λ other. bytes_eq other x) us) e
+    → list_any (same_id v) us ≡ list_any (same_id w) us
+same_as v w us e = ap (λ x. list_any (same_id x) us) e
 
 at_distinct : (us : List Text) (u : Text) (from k : ℕ) → are_distinct us ≡ true → slice_get us k ≡ Some u
-    → position_from (λ known. bytes_eq known u) from us ≡ Some (from + k)
+    → position_from (same_id u) from us ≡ Some (from + k)
 at_distinct [] u from k d e = absurd (cc e)
 at_distinct (v ∷ us) u from zero d e =
     let same : v ≡ u = some_text e in
-    ap (λ b. cond b (Some from) (position_from (λ known. bytes_eq known u) (from + 1) us))
-    ((bytes_eq-Decides v u).1 same) ∙ ap Some (omega arith)
+    ap (λ b. cond b (Some from) (position_from (same_id u) (from + 1) us))
+    (is_same_id u v (sym same)) ∙ ap Some (omega arith)
   where
     some_text : {a b : Text} → Some a ≡ Some b → a ≡ b
     some_text e = cc
 at_distinct (v ∷ us) u from (suc k) d e =
-    let parts = and_parts (not (list_any (λ other. bytes_eq other v) us)) (are_distinct us) d in
-    elim (bytes_eq v u) as (λ b. bytes_eq v u ≡ b
-    → cond b (Some from) (position_from (λ known. bytes_eq known u) (from + 1) us) ≡ Some (from + suc k)) [
+    let parts = and_parts (not (list_any (same_id v) us)) (are_distinct us) d in
+    elim (same_id u v) as (λ b. same_id u v ≡ b
+    → cond b (Some from) (position_from (same_id u) (from + 1) us) ≡ Some (from + suc k)) [
       | true ↦ λ same. absurd
-          (clash (list_any (λ other. bytes_eq other v) us) parts.0
-          (same_as v u us ((bytes_eq-Decides v u).0 same) ∙ any_at us u k e))
+          (clash (list_any (same_id v) us) parts.0
+          (same_as v u us (sym (same_id_is u v same)) ∙ any_at us u k e))
       | false ↦ λ other. at_distinct us u (from + 1) k parts.1 e ∙ ap Some (omega arith)
     ] refl
   where
@@ -125,39 +131,22 @@ pub number_of-distinct : (us : List Text) (u : Text) (n : ℕ) → are_distinct 
 number_of-distinct us u n d e = number_of-from us u ∙ at_distinct us u 0 n d e ∙ ap Some (omega arith)
 
 -- one more uid, which has no number yet
-apart : (us : List Text) (u v : Text) → list_any (λ other. bytes_eq other v) us ≡ false → bytes_eq u v ≡ false
-    → list_any (λ other. bytes_eq other v) (us ++ u ∷ []) ≡ false
+apart : (us : List Text) (u v : Text) → list_any (same_id v) us ≡ false → same_id v u ≡ false
+    → list_any (same_id v) (us ++ u ∷ []) ≡ false
 apart [] u v none other = ap (λ b. b || false) other
 apart (w ∷ us) u v none other =
-    let parts = neither (bytes_eq w v) (list_any (λ x. bytes_eq x v) us) none in
-    ap (λ b. b || list_any (λ x. bytes_eq x v) (us ++ u ∷ [])) parts.0 ∙ apart us u v parts.1 other
-  where
-    neither : (a b : Bool) → (a || b) ≡ false → (a ≡ false) × (b ≡ false)
-    neither true b e = absurd (cc e)
-    neither false b e = (refl, e)
+    let parts = or_parts (same_id v w) (list_any (same_id v) us) none in
+    ap (λ b. b || list_any (same_id v) (us ++ u ∷ [])) parts.0 ∙ apart us u v parts.1 other
 
-distinct_more : (us : List Text) (u : Text) → are_distinct us ≡ true → list_any (λ known. bytes_eq known u) us ≡ false
+distinct_more : (us : List Text) (u : Text) → are_distinct us ≡ true → list_any (same_id u) us ≡ false
     → are_distinct (us ++ u ∷ []) ≡ true
 distinct_more [] u d none = refl
 distinct_more (v ∷ us) u d none =
-    let parts = and_parts (not (list_any (λ other. bytes_eq other v) us)) (are_distinct us) d in
-    let others = neither (bytes_eq v u) (list_any (λ known. bytes_eq known u) us) none in
-    let turned : bytes_eq u v ≡ false = unequal u v (bytes_eq u v) refl others.0 in
-    and_from _ _ (ap not (apart us u v (denied (list_any (λ other. bytes_eq other v) us) parts.0) turned))
+    let parts = and_parts (not (list_any (same_id v) us)) (are_distinct us) d in
+    let others = or_parts (same_id u v) (list_any (same_id u) us) none in
+    let turned : same_id v u ≡ false = same_id-comm v u ∙ others.0 in
+    and_from _ _ (ap not (apart us u v (not_true (list_any (same_id v) us) parts.0) turned))
     (distinct_more us u parts.1 others.1)
-  where
-    neither : (a b : Bool) → (a || b) ≡ false → (a ≡ false) × (b ≡ false)
-    neither true b e = absurd (cc e)
-    neither false b e = (refl, e)
-
-    denied : (b : Bool) → not b ≡ true → b ≡ false
-    denied true e = absurd (cc e)
-    denied false e = refl
-
-    unequal : (a b : Text) (r : Bool) → bytes_eq a b ≡ r → bytes_eq b a ≡ false → r ≡ false
-    unequal a b true same other =
-        absurd (true≢false (sym ((bytes_eq-Decides b a).1 (sym ((bytes_eq-Decides a b).0 same))) ∙ other))
-    unequal a b false same other = refl
 
 none_is : (o : Option ℕ) → is_some o ≡ false → o ≡ None
 none_is None e = refl
@@ -222,27 +211,27 @@ id_at (v ∷ us) u (suc n) all e = id_at us u n (and_parts (is_id Replica v) (li
 
 -- ---- the uids of a table are those that were given, and behind them those that were added
 
-from_given : (us vs : List Text) (u : Text) (from n : ℕ) → position_from (λ known. bytes_eq known u) from us ≡ Some n
-    → position_from (λ known. bytes_eq known u) from (us ++ vs) ≡ Some n
+from_given : (us vs : List Text) (u : Text) (from n : ℕ) → position_from (same_id u) from us ≡ Some n
+    → position_from (same_id u) from (us ++ vs) ≡ Some n
 from_given [] vs u from n e = absurd (cc e)
 from_given (v ∷ us) vs u from n e =
-    elim (bytes_eq v u) as (λ b. cond b (Some from) (position_from (λ known. bytes_eq known u) (from + 1) us) ≡ Some n
-    → cond b (Some from) (position_from (λ known. bytes_eq known u) (from + 1) (us ++ vs)) ≡ Some n) [
+    elim (same_id u v) as (λ b. cond b (Some from) (position_from (same_id u) (from + 1) us) ≡ Some n
+    → cond b (Some from) (position_from (same_id u) (from + 1) (us ++ vs)) ≡ Some n) [
       | true ↦ λ here. here
       | false ↦ λ there. from_given us vs u (from + 1) n there
     ] e
 
-from_added : (us vs : List Text) (u : Text) (from : ℕ) → position_from (λ known. bytes_eq known u) from us ≡ None
-    → position_from (λ known. bytes_eq known u) from (us ++ vs)
-    ≡ position_from (λ known. bytes_eq known u) (from + length us) vs
-from_added [] vs u from e = ap (λ n. position_from (λ known. bytes_eq known u) n vs) (omega arith)
+from_added : (us vs : List Text) (u : Text) (from : ℕ) → position_from (same_id u) from us ≡ None
+    → position_from (same_id u) from (us ++ vs)
+    ≡ position_from (same_id u) (from + length us) vs
+from_added [] vs u from e = ap (λ n. position_from (same_id u) n vs) (omega arith)
 from_added (v ∷ us) vs u from e =
-    elim (bytes_eq v u) as (λ b. cond b (Some from) (position_from (λ known. bytes_eq known u) (from + 1) us) ≡ None
-    → cond b (Some from) (position_from (λ known. bytes_eq known u) (from + 1) (us ++ vs))
-    ≡ position_from (λ known. bytes_eq known u) (from + suc (length us)) vs) [
+    elim (same_id u v) as (λ b. cond b (Some from) (position_from (same_id u) (from + 1) us) ≡ None
+    → cond b (Some from) (position_from (same_id u) (from + 1) (us ++ vs))
+    ≡ position_from (same_id u) (from + suc (length us)) vs) [
       | true ↦ λ here. absurd (cc here)
       | false ↦ λ there. from_added us vs u (from + 1) there
-          ∙ ap (λ n. position_from (λ known. bytes_eq known u) n vs) (omega arith)
+          ∙ ap (λ n. position_from (same_id u) n vs) (omega arith)
     ] e
 
 shifted : ℕ → Option ℕ → Option ℕ
@@ -250,15 +239,15 @@ shifted k None = None
 shifted k (Some n) = Some (k + n)
 
 from_shifted : (vs : List Text) (u : Text) (from k : ℕ)
-    → position_from (λ known. bytes_eq known u) (k + from) vs
-    ≡ shifted k (position_from (λ known. bytes_eq known u) from vs)
+    → position_from (same_id u) (k + from) vs
+    ≡ shifted k (position_from (same_id u) from vs)
 unfolding shifted
 from_shifted [] u from k = refl
 from_shifted (v ∷ vs) u from k =
-    elim (bytes_eq v u) as (λ b. cond b (Some (k + from)) (position_from (λ known. bytes_eq known u) (k + from + 1) vs)
-    ≡ shifted k (cond b (Some from) (position_from (λ known. bytes_eq known u) (from + 1) vs))) [
+    elim (same_id u v) as (λ b. cond b (Some (k + from)) (position_from (same_id u) (k + from + 1) vs)
+    ≡ shifted k (cond b (Some from) (position_from (same_id u) (from + 1) vs))) [
       | true ↦ refl
-      | false ↦ ap (λ n. position_from (λ known. bytes_eq known u) n vs) (omega arith) ∙ from_shifted vs u (from + 1) k
+      | false ↦ ap (λ n. position_from (same_id u) n vs) (omega arith) ∙ from_shifted vs u (from + 1) k
     ]
 
 pub number_given : (us vs : List Text) (u : Text) (n : ℕ) → number_of us u ≡ Some n → number_of (us ++ vs) u ≡ Some n
@@ -270,7 +259,7 @@ unfolding shifted
 number_behind us vs u none =
     number_of-from (us ++ vs) u
     ∙ from_added us vs u 0 (sym (number_of-from us u) ∙ none)
-    ∙ ap (λ n. position_from (λ known. bytes_eq known u) n vs) (omega arith)
+    ∙ ap (λ n. position_from (same_id u) n vs) (omega arith)
     ∙ from_shifted vs u 0 (length us)
     ∙ ap (shifted (length us)) (sym (number_of-from vs u))
 

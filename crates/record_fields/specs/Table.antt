@@ -3,8 +3,7 @@ use Rattle.std.specs.Prelude.{ℕ, ◌≤◌, ◌^◌, Bool, true, not, ◌&&◌
 use Rattle.std.specs.Prelude.{length, position, Option, refl}
 use Rattle.std.specs.Coded.{Coded, code_by, coded×, coded_ℕ, coded_list}
 use Rattle.std.specs.List.{list_all, list_any}
-use Rattle.std.specs.Str.{bytes_eq}
-use Rattle.u1_base.specs.Ids.{is_id}
+use Rattle.u1_base.specs.Ids.{is_id, same_id}
 use Rattle.u1_base.specs.declared.ids.Form.TheVariants.{Replica}
 
 -- a uid, an id or another text, as its bytes
@@ -21,7 +20,7 @@ abbrev pub uids : Table → List Text
 uids t = t.given ++ t.added
 
 abbrev pub number_of : List Text → Text → Option ℕ
-number_of us u = position (λ known. bytes_eq known u) us
+number_of us u = position (same_id u) us
 
 -- the table before a body: these uids have numbers
 abbrev pub table_with : List Text → Table
@@ -38,7 +37,7 @@ after t (u ∷ us) = after (with_uid t u) us
 
 abbrev pub are_distinct : List Text → Bool
 are_distinct [] = true
-are_distinct (u ∷ us) = not (list_any (λ other. bytes_eq other u) us) && are_distinct us
+are_distinct (u ∷ us) = not (list_any (same_id u) us) && are_distinct us
 
 -- uids as they have numbers: each is one, none has two numbers, and each number fits the four bytes of a reference
 pub record AreNumbered (us : List Text) : Type 0 where

@@ -1,6 +1,7 @@
 //! The numbers of uids.
 ghost use Rattle.std.specs.Prelude.{◌≡◌, ◌+◌, ◌-◌, ◌<◌, ◌≤◌, [], ◌∷◌, ◌++◌, IfOk, OnOk, OnErr};
-ghost use Rattle.std.specs.Prelude.{length, vec_len, vec_capacity};
+ghost use Rattle.std.specs.Prelude.{length, position, vec_len, vec_capacity};
+ghost use Rattle.std.specs.Str.{bytes_eq};
 ghost use Rattle.record_fields.specs.Table.{AreNumbered, number_of};
 
 use std::alloc::Global;
@@ -129,6 +130,12 @@ fn append(list: &mut Vec<ReplicaUid>, mut added: Vec<ReplicaUid>)
 // The place of the uid in the list.
 pub(crate) fn place_of(uids: &[ReplicaUid], uid: &ReplicaUid) -> Option<usize>
     ensures { result ≡ number_of uids.now uid.now }
+{
+    first_same(uids, uid)
+}
+
+fn first_same(uids: &[ReplicaUid], uid: &ReplicaUid) -> Option<usize>
+    ensures { result ≡ position (λ known. bytes_eq known uid.now) uids.now }
 {
     uids.iter().position(|known| *known == *uid)
 }

@@ -5,6 +5,7 @@ use Rattle.std.proofs.Common.{append_assoc, append-nil}
 use Rattle.std.specs.Prelude.{IfOk, IfSome, option_to_list}
 use Rattle.std.specs.List.{flat_map, list_all}
 use Rattle.std.proofs.lemmas.List.Folds.{list_all-append}
+use mathlib.Core.Bool.{and-false}
 use Rattle.u1_base.specs.Causes.{Rose}
 use Rattle.vector_rev.specs.Counts.{Uid}
 use Rattle.conflicts.specs.Laws.{MembersAreKept, StateGoesOn}
@@ -291,11 +292,7 @@ not_all_open : (ends : Ends) (end : Result (Unit {0}) CallFault) → stays_open 
     → list_all stays_open (ends ++ end ∷ []) ≡ false
 not_all_open ends end last =
     list_all-append stays_open ends (end ∷ []) ∙ ap (λ (b : Bool). list_all stays_open ends && (b && true)) last
-    ∙ none (list_all stays_open ends)
-  where
-    none : (b : Bool) → (b && false) ≡ false
-    none true = refl
-    none false = refl
+    ∙ and-false (list_all stays_open ends)
 
 none_made : (s : State) (cs : List Call) → steps_made s cs [] ≡ []
 none_made s [] = refl

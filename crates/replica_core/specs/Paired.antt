@@ -24,8 +24,8 @@ KnowsDocuments a b =
     → (b.document d).current ≡ Some r
     → (m : Member) × In m (a.document d).members × (covers m.rev r ≡ true)
 
--- a revision that a reads has no older one in its place at b, if a has not changed the document since the place up to
--- which it told b
+-- b has a member that is not older than the revision that a reads, if a has not changed the document since the place
+-- up to which it told b
 abbrev pub ToldDocuments : State → State → Type 0
 ToldDocuments a b =
     (d : Text) (r : Clock) → IsUnchangedSince a.log (position_kept b Told a.uid).generation d

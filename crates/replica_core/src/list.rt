@@ -61,7 +61,7 @@ pub enum Call {
     },
 }
 
-/// Why a call of a list made no step.
+/// Why a call of a list did not succeed.
 #[derive(Clone, Copy, Debug, PartialEq, Eq)]
 pub enum CallFault {
     /// Its definition refuses it.

@@ -1,5 +1,6 @@
 //! Stories: each line is a call on a replica in memory or a question on its state, with the answer
-//! after `=>`. An empty line begins with a new replica, which has no document.
+//! after `=>`. An empty line begins with a new replica `a`, which has no document, and a line
+//! `replica UID` with a new one of this uid.
 use crate::stories::answers::{answer_of, created};
 use crate::stories::calls::call_of;
 use crate::stories::questions::asked;
@@ -39,8 +40,13 @@ pub(crate) fn first_wrong_on(
 
 /// The replica `a` of the database `db`, without a document.
 pub(crate) fn empty(alloc: Global) -> Result<MemReplica, Fail> {
+    empty_of(alloc, "a")
+}
+
+/// The replica of a uid of the database `db`, without a document.
+pub(crate) fn empty_of(alloc: Global, uid: &str) -> Result<MemReplica, Fail> {
     let name = DbName::read(alloc, "db")?;
-    let uid = ReplicaUid::read(alloc, "a")?;
+    let uid = ReplicaUid::read(alloc, uid)?;
     Ok(MemReplica::new(alloc, name, uid))
 }
 
@@ -49,7 +55,13 @@ fn is_right(alloc: Global, replica: &mut MemReplica, line: &str) -> Result<bool,
         *replica = empty(alloc)?;
         return Ok(true);
     }
-    is_right_line(alloc, replica, line)
+    match line.strip_prefix("replica ") {
+        Some(uid) => {
+            *replica = empty_of(alloc, uid)?;
+            Ok(true)
+        }
+        None => is_right_line(alloc, replica, line),
+    }
 }
 
 fn is_right_line(alloc: Global, replica: &mut MemReplica, line: &str) -> Result<bool, Fail> {
@@ -148,14 +160,19 @@ fn called_once(
     answer_of(alloc, replica, &call)
 }
 
-const OF_A_STATE: [(&str, &str); 7] = [
+const OF_A_STATE: [(&str, &str); 12] = [
     ("all", "deleted"),
     ("changes", "0"),
     ("get-deleted", "d1"),
+    ("get-deleted", "d2"),
     ("conflicts", "d1"),
+    ("conflicts", "d2"),
     ("kept", "known 0"),
+    ("kept", "known 1"),
     ("kept", "told 0"),
     ("index", "0"),
+    ("index", "1"),
+    ("keys", "i"),
 ];
 
 // What a state answers to these questions.

@@ -1,9 +1,13 @@
 //! Worked calls on a replica in memory, with what is read of it, told as stories.
-use crate::stories::first_wrong;
+use crate::stories::{empty_of, first_wrong, first_wrong_on, is_answered, is_told};
+use crate::{MemReplica, Replica};
+use replica_state::State;
+use std::alloc::Global;
 use std::test::Fail;
 
 // Edits; deletions, after which a document is read only where deleted ones are asked for, and no
-// index answers it; and a clock that is full.
+// index answers it; a clock that is full; the least number, and a name that stands twice in an
+// object.
 const EDITS: &str = r#"put d1 a:1 {} => there is no such document
 put d1 - {"b":1,"a":"x"} => a:1
 get? d1 => a:1 {"a":"x","b":1}
@@ -44,6 +48,11 @@ put d1 a:9223372036854775807 {} => the clock is full
 delete d1 a:9223372036854775807 => the clock is full
 get? d1 => a:9223372036854775807 {"v":1}
 changes? 0 => 1 #1 d1 1 #1
+
+put d1 - {"a":-9223372036854775808} => a:1
+get? d1 => a:1 {"a":-9223372036854775808}
+put d2 - {"a":1,"a":2} => a:1
+get? d2 => a:1 {"a":2}
 "#;
 
 // A conflict is resolved, and while it stands the document has the keys of its current member. Part
@@ -102,6 +111,8 @@ get? d1 => a:1|c:2|d:2 {}
 // was sent.
 const MERGES: &str = r#"save d1 b:1 {"v":"b"} known/b/1/Tb => Inserted b:1
 save d1 c:1 {"v":"c"} known/c/1/Tc => Conflicted c:1
+get? d1 => c:1 {"v":"c"}
+conflicts? d1 => c:1 {"v":"c"} b:1 {"v":"b"}
 save d1 e:1 {"v":"b"} known/e/1/Te => Superseded a:1|b:1|e:1
 conflicts? d1 => a:1|b:1|e:1 {"v":"b"} c:1 {"v":"c"}
 save d2 b:1 {"v":"b"} known/b/2/Tc => Inserted b:1
@@ -140,6 +151,91 @@ kept? known 0 => a 5 Ta
 kept? known 1 => b 3 Tb
 kept? known 2 => none
 kept? told 1 => none
+"#;
+
+// Each replica puts `d1`, and `a` synchronises with `b`: it sends its document, takes that of `b`,
+// and records how far it has told. Where the contents differ `a` has the conflict, and `b` keeps
+// its own. A second time nothing is sent or taken. Where the contents are the same `b` merges, and
+// `a` takes the merge.
+const TWO_REPLICAS: &str = r#"replica b
+put d1 - {"v":"b"} => b:1
+sent d1 a:1 {"v":"a"} told/a/1/#1 => Conflicted -
+changes? 0 => 1 #1 d1 1 #1
+move told/a/2/#2 => done
+get? d1 => b:1 {"v":"b"}
+conflicts? d1 => none
+position? told a => 2 #2
+changes? 1 => 1 #1
+
+put d1 - {"v":"a"} => a:1
+save d1 b:1 {"v":"b"} known/b/1/#1 => Conflicted b:1
+get? d1 => b:1 {"v":"b"}
+conflicts? d1 => b:1 {"v":"b"} a:1 {"v":"a"}
+position? known b => 1 #1
+changes? 0 => 2 #2 d1 2 #2
+changes? 2 => 2 #2
+move known/b/1/#1 => done
+save d1 b:1 {"v":"b"} known/b/1/#1 => Converged -
+changes? 0 => 2 #2 d1 2 #2
+conflicts? d1 => b:1 {"v":"b"} a:1 {"v":"a"}
+
+replica b
+put d1 - {"v":1} => b:1
+sent d1 a:1 {"v":1} told/a/1/#1 => Superseded a:1|b:2
+get? d1 => a:1|b:2 {"v":1}
+conflicts? d1 => none
+changes? 1 => 2 #2 d1 2 #2
+
+put d1 - {"v":1} => a:1
+save d1 a:1|b:2 {"v":1} known/b/2/#2 => Inserted a:1|b:2
+get? d1 => a:1|b:2 {"v":1}
+conflicts? d1 => none
+position? known b => 2 #2
+"#;
+
+// Each replica puts `d1`, `a` sends its document to `b`, and the reply is lost. Then `b`
+// synchronises with `a`: it takes that document, and tells `a` so. When `a` asks again it gets its
+// own revision, and both read it.
+const LOST_REPLY: &str = r#"replica b
+put d1 - {"v":"b"} => b:1
+sent d1 a:1 {"v":"a"} told/a/1/#1 => Conflicted -
+save d1 a:1 {"v":"a"} known/a/1/#1 => Conflicted a:1
+get? d1 => a:1 {"v":"a"}
+conflicts? d1 => a:1 {"v":"a"} b:1 {"v":"b"}
+changes? 0 => 2 #2 d1 2 #2
+position? told a => 1 #1
+position? known a => 1 #1
+
+put d1 - {"v":"a"} => a:1
+position? known b => 0 -
+sent d1 b:1 {"v":"b"} told/b/1/#1 => Conflicted -
+move told/b/2/#2 => done
+changes? 1 => 1 #1
+save d1 a:1 {"v":"a"} known/b/2/#2 => Converged -
+position? known b => 2 #2
+get? d1 => a:1 {"v":"a"}
+conflicts? d1 => none
+changes? 0 => 1 #1 d1 1 #1
+"#;
+
+// Two replicas put `d1` differently, and `a` has no document. It synchronises with `b`, then with
+// `c`, then with `b` again, and ends with the content of `c`. `b` keeps its own.
+const THREE_REPLICAS: &str = r#"save d1 b:1 {"v":"b"} known/b/1/#1 => Inserted b:1
+save d1 c:1 {"v":"c"} known/c/1/#1 => Conflicted c:1
+get? d1 => c:1 {"v":"c"}
+conflicts? d1 => c:1 {"v":"c"} b:1 {"v":"b"}
+changes? 1 => 2 #2 d1 2 #2
+move known/b/1/#1 => done
+get? d1 => c:1 {"v":"c"}
+position? known b => 1 #1
+
+replica b
+put d1 - {"v":"b"} => b:1
+move told/a/1/#1 => done
+sent d1 c:1 {"v":"c"} told/a/2/#2 => Conflicted -
+get? d1 => b:1 {"v":"b"}
+conflicts? d1 => none
+changes? 1 => 1 #1
 "#;
 
 const LOG: &str = r#"changes? 0 => 0 -
@@ -227,32 +323,140 @@ range? i open;a|b => wrong width
 range? j open;open => unknown
 "#;
 
-const BOOK: &str = r#"put c01 - {"name":"Ann Lee","tags":"friend work"} => a:1
-put c02 - {"name":"Anna Roy","tags":"work"} => a:1
-put c03 - {"name":"Bob Kay","tags":"friend"} => a:1
-put c04 - {"name":"Carl Poe","tags":"club"} => a:1
-put c05 - {"name":"ANN Diaz","tags":"club friend"} => a:1
-put c06 - {"name":"Dora Ek","tags":"family"} => a:1
-put c07 - {"name":"Evan Ito","tags":"work"} => a:1
-put c08 - {"name":"annika Holm","tags":"family club"} => a:1
-put c09 - {"name":"Finn Orr","tags":""} => a:1
-put c10 - {"name":"Gus Ash","tags":"friend friend"} => a:1
-put c11 - {"name":"Hal Ann","tags":"work"} => a:1
-put c12 - {"name":"Ida Foy","tags":"club"} => a:1
-create names lower(name)+split_words(tags) => done
-keys? names => |ann diaz|club,|ann diaz|friend,|ann lee|friend,|ann lee|work,|anna roy|work,|annika holm|club,|annika holm|family,|bob kay|friend,|carl poe|club,|dora ek|family,|evan ito|work,|gus ash|friend,|hal ann|work,|ida foy|club,
+// An address book: the documents in the order in which `laptop` puts them.
+const BOOK: [(&str, &str); 12] = [
+    (
+        "c01",
+        r#"{"name":"Ann Lee","phones":["555-01"],"tags":"friend work"}"#,
+    ),
+    (
+        "c02",
+        r#"{"name":"Anna Roy","phones":["555-02"],"tags":"work"}"#,
+    ),
+    (
+        "c03",
+        r#"{"name":"Bob Kay","phones":["555-03"],"tags":"friend"}"#,
+    ),
+    (
+        "c04",
+        r#"{"name":"Carl Poe","phones":["555-04"],"tags":"club"}"#,
+    ),
+    (
+        "c05",
+        r#"{"name":"ANN Diaz","phones":["555-05"],"tags":"club friend"}"#,
+    ),
+    (
+        "c06",
+        r#"{"name":"Dora Ek","phones":["555-06"],"tags":"family"}"#,
+    ),
+    (
+        "c07",
+        r#"{"name":"Evan Ito","phones":["555-07"],"tags":"work"}"#,
+    ),
+    (
+        "c08",
+        r#"{"name":"annika Holm","phones":["555-08"],"tags":"family club"}"#,
+    ),
+    (
+        "c09",
+        r#"{"name":"Finn Orr","phones":["555-09"],"tags":""}"#,
+    ),
+    (
+        "c10",
+        r#"{"name":"Gus Ash","phones":["555-10"],"tags":"friend friend"}"#,
+    ),
+    (
+        "c11",
+        r#"{"name":"Hal Ann","phones":["555-11"],"tags":"work"}"#,
+    ),
+    (
+        "c12",
+        r#"{"name":"Ida Foy","phones":["555-12"],"tags":"club"}"#,
+    ),
+];
+
+// How `server` takes what `laptop` put later.
+const RENAMED_IS_SENT: &str =
+    r#"sent c02 laptop:2 {"name":"Nina Roy","phones":["555-02"],"tags":"work"} told/laptop/13/#13"#;
+
+// The keys of the address book: the name and a tag. The document without a tag has none, and a tag
+// that stands twice gives one.
+const KEYS: [(&str, &str); 14] = [
+    ("ann diaz", "club"),
+    ("ann diaz", "friend"),
+    ("ann lee", "friend"),
+    ("ann lee", "work"),
+    ("anna roy", "work"),
+    ("annika holm", "club"),
+    ("annika holm", "family"),
+    ("bob kay", "friend"),
+    ("carl poe", "club"),
+    ("dora ek", "family"),
+    ("evan ito", "work"),
+    ("gus ash", "friend"),
+    ("hal ann", "work"),
+    ("ida foy", "club"),
+];
+
+const BOOK_IS_ASKED: &str = "create names lower(name)+split_words(tags) => done
 query? names ann*|* => c05 c01 c02 c08
 query? names *|* => c05 c01 c02 c08 c03 c04 c06 c07 c10 c11 c12
 query? names ann lee|work => c01
-query? names *|club => bad glob 1
-put c02 a:1 {"name":"Nina Roy","tags":"work"} => a:2
-delete c12 a:1 => a:2
-query? names ann*|* => c05 c01 c08
+query? names *|club => bad glob 1";
+
+// `laptop` has told its documents and puts one again. `server` has deleted another one, and
+// `laptop` takes the deletion.
+const LAPTOP_TAKES: &str = r#"move known/server/12/#12 => done
+put c02 laptop:1 {"name":"Nina Roy","phones":["555-02"],"tags":"work"} => laptop:2
+save c12 laptop:1|server:1 - known/server/13/#13 => Inserted laptop:1|server:1
+move known/server/14/#14 => done
+position? known server => 14 #14
+changes? 12 => 14 #14 c02 13 #13 c12 14 #14"#;
+
+const SERVER_TAKES: &str = "move told/laptop/14/#14 => done
+position? told laptop => 14 #14
+changes? 12 => 14 #14 c12 13 #13 c02 14 #14";
+
+// What both answer at the end.
+const BOOK_AT_LAST: &str = "query? names ann*|* => c05 c01 c08
 query? names nina roy|* => c02
 query? names ida foy|* => 
-all? live => c01 c02 c03 c04 c05 c06 c07 c08 c09 c10 c11
-changes? 12 => 14 #14 c02 13 #13 c12 14 #14
-"#;
+get-deleted? c12 => laptop:1|server:1 deleted
+all? live => c01 c02 c03 c04 c05 c06 c07 c08 c09 c10 c11";
+
+// Whether `laptop` puts the documents.
+fn is_put(alloc: Global, replica: &mut MemReplica) -> Result<bool, Fail> {
+    for (id, content) in BOOK {
+        let words = format!(in alloc; "put {id} - {content}")?;
+        if !is_answered(alloc, replica, words.as_str(), "laptop:1")? {
+            return Ok(false);
+        }
+    }
+    Ok(true)
+}
+
+// Whether `server` takes them from `laptop`.
+fn is_taken(alloc: Global, replica: &mut MemReplica) -> Result<bool, Fail> {
+    let mut place: u64 = 0;
+    for (id, content) in BOOK {
+        place = place.saturating_add(1);
+        let words = format!(in alloc; "sent {id} laptop:1 {content} told/laptop/{place}/#{place}")?;
+        if !is_answered(alloc, replica, words.as_str(), "Inserted laptop:1")? {
+            return Ok(false);
+        }
+    }
+    Ok(true)
+}
+
+// Whether the index has these keys.
+fn are_keys(alloc: Global, state: &State) -> Result<bool, Fail> {
+    let mut keys = String::new(alloc);
+    for (name, tag) in KEYS {
+        let key = format!(in alloc; "|{name}|{tag},")?;
+        keys.push_str(key.as_str())?;
+    }
+    is_told(alloc, state, "keys", "names", keys.as_str())
+}
 
 #[test]
 fn edits(rt: HostRuntime) -> Result<(), Fail> {
@@ -297,7 +501,69 @@ fn queries_and_ranges(rt: HostRuntime) -> Result<(), Fail> {
 }
 
 #[test]
-fn an_address_book(rt: HostRuntime) -> Result<(), Fail> {
-    assert_eq!(rt; first_wrong(rt.alloc(), BOOK)?, None);
+fn two_replicas(rt: HostRuntime) -> Result<(), Fail> {
+    assert_eq!(rt; first_wrong(rt.alloc(), TWO_REPLICAS)?, None);
+    Ok(())
+}
+
+#[test]
+fn a_lost_reply(rt: HostRuntime) -> Result<(), Fail> {
+    assert_eq!(rt; first_wrong(rt.alloc(), LOST_REPLY)?, None);
+    Ok(())
+}
+
+#[test]
+fn three_replicas(rt: HostRuntime) -> Result<(), Fail> {
+    assert_eq!(rt; first_wrong(rt.alloc(), THREE_REPLICAS)?, None);
+    Ok(())
+}
+
+#[test]
+fn an_address_book_of_its_writer(rt: HostRuntime) -> Result<(), Fail> {
+    let mut laptop = empty_of(rt.alloc(), "laptop")?;
+    assert!(rt; is_put(rt.alloc(), &mut laptop)?);
+    assert_eq!(rt;
+        first_wrong_on(rt.alloc(), &mut laptop, BOOK_IS_ASKED)?,
+        None
+    );
+    assert!(rt; are_keys(rt.alloc(), laptop.state())?);
+    assert_eq!(rt;
+        first_wrong_on(rt.alloc(), &mut laptop, LAPTOP_TAKES)?,
+        None
+    );
+    assert_eq!(rt;
+        first_wrong_on(rt.alloc(), &mut laptop, BOOK_AT_LAST)?,
+        None
+    );
+    Ok(())
+}
+
+#[test]
+fn an_address_book_of_its_reader(rt: HostRuntime) -> Result<(), Fail> {
+    let mut server = empty_of(rt.alloc(), "server")?;
+    assert!(rt; is_taken(rt.alloc(), &mut server)?);
+    assert_eq!(rt;
+        first_wrong_on(rt.alloc(), &mut server, BOOK_IS_ASKED)?,
+        None
+    );
+    assert!(rt; are_keys(rt.alloc(), server.state())?);
+    let deletion = "delete c12 laptop:1";
+    assert!(rt; is_answered(rt.alloc(), &mut server, deletion, "laptop:1|server:1")?);
+    assert!(rt;
+        is_answered(
+            rt.alloc(),
+            &mut server,
+            RENAMED_IS_SENT,
+            "Inserted laptop:2"
+        )?
+    );
+    assert_eq!(rt;
+        first_wrong_on(rt.alloc(), &mut server, SERVER_TAKES)?,
+        None
+    );
+    assert_eq!(rt;
+        first_wrong_on(rt.alloc(), &mut server, BOOK_AT_LAST)?,
+        None
+    );
     Ok(())
 }

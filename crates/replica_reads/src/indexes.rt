@@ -1,7 +1,7 @@
 //! The indexes of a state, and what they answer.
 ghost use Rattle.std.specs.Prelude.{◌≡◌, ◌+◌, ◌≤◌, IfOk, length, map, option_copied, option_map};
 ghost use Rattle.std.specs.Prelude.{slice_get};
-ghost use Rattle.index_tables.specs.Looks.{FewLooks};
+ghost use Rattle.chunk_list.specs.Looks.{FewLooks};
 ghost use Rattle.query_range.specs.Answers.{is_within, keys_of, wanted_of};
 ghost use Rattle.query_range.specs.Patterns.{meets, part_of};
 ghost use Rattle.replica_state.specs.Held.{lists_of};

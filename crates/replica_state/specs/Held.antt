@@ -1,4 +1,5 @@
--- What a contract sees of a state, and the state that it stands for.
+-- What a contract sees of a state, and the state that it stands for. How it is stored, at the end of this file, is
+-- private.
 use Rattle.std.specs.Prelude.{◌≡◌, ℕ, List, [], map, T, refl}
 use Rattle.std.specs.Coded.{Coded, code_by, coded×, coded_ℕ, coded_list}
 use Rattle.std.specs.FinMap.Entries.{find, is_sorted}

@@ -1,5 +1,5 @@
 -- Writing the image of a volume anew with what a compaction leaves: what is answered, and what a crash on the way
--- leaves.
+-- leaves. The words under the last two headings are private.
 use Rattle.std.specs.Prelude.{◌≡◌, ◌≢◌, ◌⊎◌, ℕ, ◌-◌, ◌^◌, List, [], ◌∷◌, ◌++◌, Bool, false, length, map, min, Result}
 use Rattle.std.specs.Prelude.{Ok, Err}
 use Rattle.compaction.specs.Compaction.{compaction, trimmed}

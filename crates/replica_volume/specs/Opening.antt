@@ -1,4 +1,4 @@
--- Opening a store: what is answered, and what a crash on the way leaves.
+-- Opening a store: what is answered, and what a crash on the way leaves. The last word of this file is private.
 use Rattle.std.specs.Prelude.{◌≡◌, ◌⊎◌, ℕ, List, Result, Ok, Err}
 use Rattle.conflicts.specs.State.{History}
 use Rattle.disks.specs.declared.name.DiskName.{DiskName}

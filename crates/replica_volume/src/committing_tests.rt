@@ -1,23 +1,24 @@
-//! Commits: the worked images, full ones, each call that fails, and what a crash leaves at each
-//! moment.
+//! Commits: the worked images, full ones, revisions of a peer that are taken, each call that fails,
+//! and what a crash leaves at each moment.
 ghost use Rattle.std.specs.Prelude.{IsTrue};
 
 use crate::Volume;
 use crate::tests::{
-    CREATED, EMPTY, Found, NOTHING, ONE, TAKEN, Three, are, calls, disks_of, has, has_both, header,
-    hold, leave, look,
+    CREATED, EMPTY, Found, NOTHING, ONE, RECEIVED, TAKEN, Three, all_left, are, calls, disks_of,
+    has, has_both, has_entry, header, hold, leave, look,
 };
+use conflicts::{Member, Outcome4};
 use content::Content;
 use disk_model::MemDisk;
 use disks::{DiskName, Disks};
 use journal::Header;
 use json::Scratch;
 use record_codec::{Uids, decode};
-use replica_core::{PutFault, Replica, get_doc, put_doc};
-use replica_state::{State, Step};
+use replica_core::{PutFault, Replica, get_doc, position_of, put_doc, put_if_newer};
+use replica_state::{Move, PosTable, State, Step};
 use std::alloc::Global;
 use u1_base::limits::GREATEST_IMAGE_LIMIT;
-use u1_base::{Bytes, DocId, Memory, ReplicaUid};
+use u1_base::{Bytes, DocId, IdFault, Memory, Position, ReplicaUid, TransId};
 use vector_rev::Clock;
 
 // ---- a document is created
@@ -399,4 +400,234 @@ fn leaves_the_state_before_the_step_or_after_it(rt: HostRuntime) {
 #[test]
 fn leaves_the_step_once_it_is_committed(rt: HostRuntime) {
     assert!(rt; leaves(rt.alloc(), 7, DONE, &[ONE]));
+}
+
+// ---- revisions of a peer are taken
+
+// An entry of the log of b, which makes a document.
+#[derive(Clone, Copy)]
+struct Entry {
+    generation: u64,
+    trans: &'static str,
+    id: &'static str,
+}
+
+// The ids are those of the seed 0.
+const FIRST: Entry = Entry {
+    generation: 1,
+    trans: "T-a12aa9bff3485ffcbd67876eea76a865",
+    id: "d1",
+};
+
+const SECOND: Entry = Entry {
+    generation: 2,
+    trans: "T-98057cb70a845067a81e0635ab0cbc89",
+    id: "d2",
+};
+
+const THIRD: Entry = Entry {
+    generation: 3,
+    trans: "T-4a2f05bda87d5e5da1aec07f076e0982",
+    id: "d3",
+};
+
+fn place_of(generation: u64, trans: TransId) -> Position {
+    let trans = Some(trans);
+    match generation {
+        1 => Position {
+            generation: 1,
+            trans,
+        },
+        2 => Position {
+            generation: 2,
+            trans,
+        },
+        _ => Position {
+            generation: 3,
+            trans,
+        },
+    }
+}
+
+fn moved_to(alloc: Global, entry: &Entry) -> Result<Move, IdFault> {
+    let uid = ReplicaUid::read(alloc, "b")?;
+    let trans = TransId::read(alloc, entry.trans)?;
+    Ok(Move {
+        table: PosTable::Known,
+        uid,
+        at: place_of(entry.generation, trans),
+    })
+}
+
+fn take_at<R: Replica>(
+    alloc: Global,
+    replica: &mut R,
+    id: &DocId,
+    theirs: &Member,
+    moved: &Move,
+) -> bool
+    requires { R.is_open replica.old }
+{
+    match put_if_newer(alloc, replica, 0, id, theirs, true, moved) {
+        Ok(taken) => taken.outcome == Outcome4::Inserted,
+        Err(_) => false,
+    }
+}
+
+fn take_member<R: Replica>(alloc: Global, replica: &mut R, entry: &Entry, theirs: &Member) -> bool
+    requires { R.is_open replica.old }
+{
+    let Ok(moved) = moved_to(alloc, entry) else {
+        return false;
+    };
+    match DocId::read(alloc, entry.id) {
+        Ok(id) => take_at(alloc, replica, &id, theirs, &moved),
+        Err(_) => false,
+    }
+}
+
+// Takes the first revision of the entry's document.
+fn take<R: Replica>(alloc: Global, replica: &mut R, entry: &Entry) -> bool
+    requires { R.is_open replica.old }
+{
+    let Ok(rev) = Clock::read(alloc, "b:1") else {
+        return false;
+    };
+    match Content::read(alloc, b"{}") {
+        Ok(content) => {
+            let theirs = Member {
+                rev,
+                content: Some(content),
+            };
+            take_member(alloc, replica, entry, &theirs)
+        }
+        Err(_) => false,
+    }
+}
+
+// Opens the store, and takes the entry.
+fn open_and_take(alloc: Global, disks: Disks<MemDisk>, entry: &Entry) -> (Disks<MemDisk>, bool) {
+    match Volume::open_volume(alloc, disks) {
+        Ok(mut volume) => {
+            let done = take(alloc, &mut volume, entry);
+            (volume.into_disks(), done)
+        }
+        Err((disks, _)) => (disks, false),
+    }
+}
+
+// Whether a state has the first entries of the log of b, so many: their documents, as many entries
+// of its own, and the place of the last one.
+fn has_first(alloc: Global, state: &State, count: u64) -> bool {
+    let Ok(uid) = ReplicaUid::read(alloc, "b") else {
+        return false;
+    };
+    match position_of(state, PosTable::Known, &uid) {
+        Ok(at) => has(state) == (count, count) && at.generation == count,
+        Err(_) => false,
+    }
+}
+
+// Whether these disks are opened as such a store, of one of two counts.
+fn opens_as_first(alloc: Global, disks: Disks<MemDisk>, count: u64, or: u64) -> bool {
+    match Volume::open_volume(alloc, disks) {
+        Ok(volume) => {
+            has_first(alloc, volume.state(), count) || has_first(alloc, volume.state(), or)
+        }
+        Err(_) => false,
+    }
+}
+
+fn takes_the_first(alloc: Global) -> bool {
+    match disks_of(alloc, (&[0], EMPTY, b"other"), DiskName::Root, &[]) {
+        Ok(disks) => {
+            let (disks, done) = open_and_take(alloc, disks, &FIRST);
+            let left = disks.disk(DiskName::Left).bytes();
+            let end = left.get(147..).unwrap_or(&[]);
+            done && has_entry(left, 23, RECEIVED)
+                && are(end, &[0])
+                && opens_as_first(alloc, disks, 1, 1)
+        }
+        Err(_) => false,
+    }
+}
+
+// 23 bytes of header, the gate and the length, the body, and the closed gate.
+#[test]
+fn adds_the_body_of_what_is_taken(rt: HostRuntime) {
+    assert_eq!(rt; RECEIVED.len(), 119);
+    assert!(rt; takes_the_first(rt.alloc()));
+}
+
+// Takes the three entries one after the other, until one is not taken.
+fn take_three(alloc: Global, disks: Disks<MemDisk>) -> (Disks<MemDisk>, bool) {
+    let (disks, done) = open_and_take(alloc, disks, &FIRST);
+    if !done {
+        return (disks, false);
+    }
+    let (disks, done) = open_and_take(alloc, disks, &SECOND);
+    if !done {
+        return (disks, false);
+    }
+    open_and_take(alloc, disks, &THIRD)
+}
+
+fn all_open_as_first(alloc: Global, lefts: &Vec<Bytes>, count: u64, or: u64) -> bool {
+    for left in lefts {
+        match disks_of(alloc, (&[0], left.as_slice(), b""), DiskName::Root, &[]) {
+            Ok(disks) => {
+                if !opens_as_first(alloc, disks, count, or) {
+                    return false;
+                }
+            }
+            Err(_) => return false,
+        }
+    }
+    true
+}
+
+// Whether a crash now leaves so many entries, by each choice of lost writes. The other two disks
+// were not written.
+fn leave_first(alloc: Global, disks: &mut Disks<MemDisk>, count: u64, or: u64) -> bool {
+    match all_left(alloc, disks, DiskName::Left) {
+        Ok(lefts) => all_open_as_first(alloc, &lefts, count, or),
+        Err(_) => false,
+    }
+}
+
+// Whether all are taken unless this call fails, and a crash leaves so many.
+fn takes_first(alloc: Global, failing: (DiskName, u64), count: u64, or: u64) -> bool {
+    let (name, number) = failing;
+    match disks_of(alloc, (&[0], EMPTY, b""), name, &[number]) {
+        Ok(disks) => {
+            let (mut disks, done) = take_three(alloc, disks);
+            done == (count == 3) && leave_first(alloc, &mut disks, count, or)
+        }
+        Err(_) => false,
+    }
+}
+
+// Each time three calls of the left disk open the store, and four add the body: until its gate is
+// opened the entry is not there. The call of the last number is not made.
+#[test]
+fn leaves_the_first_entries_of_a_peer(rt: HostRuntime) {
+    for number in 0..22u64 {
+        let count = number / 7;
+        let or = if number % 7 < 5 {
+            count
+        } else {
+            count.saturating_add(1)
+        };
+        assert!(rt;
+            takes_first(rt.alloc(), (DiskName::Left, number), count, or),
+            "{number}"
+        );
+    }
+    for number in 0..10u64 {
+        let count = number / 3;
+        assert!(rt;
+            takes_first(rt.alloc(), (DiskName::Root, number), count, count),
+            "{number}"
+        );
+    }
 }

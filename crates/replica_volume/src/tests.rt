@@ -52,6 +52,13 @@ pub(crate) const TAKEN: &[u8] =
       2aa9bff3485ffcbd67876eea76a865\x02\0\0\0\x01\0\0\0\0\0\0\0\x01\0\x22T-a12aa9bff3485ffcbd67876\
       eea76a865";
 
+/// The body of the same revision where a asked for it: with it moves the place in the log of b that
+/// a knows. 119 bytes.
+pub(crate) const RECEIVED: &[u8] =
+    b"\x01\0\x02d1\x01\0\0\0\x01\0\x01b\0\0\0\0\0\0\0\x01\x03\0\0\0\0\x01\x01\0\0\0\x02{}\0\x22T-a1\
+      2aa9bff3485ffcbd67876eea76a865\x01\0\0\0\x01\0\0\0\0\0\0\0\x01\0\x22T-a12aa9bff3485ffcbd67876\
+      eea76a865";
+
 /// Where b has its number: the position of b moves to its second entry.
 pub(crate) const MOVED: &[u8] = b"\x03\x01\0\0\0\x01\0\0\0\0\0\0\0\x02\0\x01T";
 
@@ -115,8 +122,8 @@ pub(crate) fn header(alloc: Global, limit: u64) -> Result<Header, IdFault> {
     Ok(Header { name, uid, limit })
 }
 
-// The entry of the body stands at the place, and behind it a gate.
-fn has_entry(image: &[u8], place: usize, body: &[u8]) -> bool {
+/// Whether the entry of the body stands at the place of the image.
+pub(crate) fn has_entry(image: &[u8], place: usize, body: &[u8]) -> bool {
     let start = place.saturating_add(5);
     let end = start.saturating_add(body.len());
     match image.get(place..end) {
@@ -200,8 +207,8 @@ fn left_now(
     disk.crash_image(alloc, call, choice)
 }
 
-// What a crash now leaves of the disk, by each choice.
-fn all_left(
+/// What a crash now leaves of the disk, by each choice.
+pub(crate) fn all_left(
     alloc: Global,
     disks: &mut Disks<MemDisk>,
     name: DiskName,

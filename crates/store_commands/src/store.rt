@@ -46,12 +46,12 @@ pub struct Sizes {
 /// Why an open store was not compacted.
 #[derive(Clone, Copy, Debug, PartialEq, Eq)]
 pub enum CompactFault {
-    /// The image was read anew, and this file does not read, from this byte on. Nothing was
-    /// written.
+    /// The image was read anew, and this file does not read, from this byte on. The image is the
+    /// one that was there.
     Damaged { disk: DiskName, place: u64 },
     /// A disk failed.
     Disk,
-    /// Nothing was written.
+    /// The image is the one that was there.
     Memory,
 }
 

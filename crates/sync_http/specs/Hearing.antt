@@ -76,8 +76,9 @@ abbrev pub unfinished : {T : Type 0} → List ℕ → Result (Heard T) WireFault
 unfinished bytes = if nat_lt (length bytes) most_bytes then Ok NotYet else Err TooLarge
 
 -- what is answered to bytes of which this is known: what a whole head at their front says (with its length), that it is
--- still open, or that there is none. The cases exclude each other, but where a target is still unfinished: of that it
--- may be seen only later that no head can come of it
+-- still open, or that there is none. The cases exclude each other, but in two places: where a target is still
+-- unfinished, and where more fields came than may be without the end of the head. There it may be seen only later that
+-- no head can come of the bytes
 abbrev pub Hears : {T : Type 0} → (Result T WireFault → ℕ → Type 0) → (List ℕ → Type 0) → (List ℕ → Type 0) → List ℕ
     → Result (Heard T) WireFault → Type 0
 Hears says is_open is_none bytes (Ok NotYet) = (length bytes < most_bytes) × is_open bytes

@@ -69,7 +69,9 @@ fn reads_told_positions(rt: HostRuntime) -> Result<(), Fail> {
         (r#"{"generation":1,"transaction_id":null}"#, "bad"),
         (r#"{"generation":1,"transaction_id":"T_1"}"#, "bad"),
         (
-            r#"{"generation":1,"transaction_id":"aaaaaaaaaaaaaaaaaaaaaaaaaaaaaaaaaaaaaaaaaaaaaaaaaaaaaaaaaaaaaaaaa"}"#,
+            "{\"generation\":1,\
+             \"transaction_id\":\"aaaaaaaaaaaaaaaaaaaaaaaaaaaaaaaaaaaaaaaa\
+             aaaaaaaaaaaaaaaaaaaaaaaaa\"}",
             "bad",
         ),
         (r#"[1,"T"]"#, "bad"),
@@ -79,6 +81,28 @@ fn reads_told_positions(rt: HostRuntime) -> Result<(), Fail> {
     ] {
         assert!(rt; is_told(alloc, body.as_bytes(), want)?, "{body:?}");
     }
+    Ok(())
+}
+
+// The longest id of a transaction or a replica has 64 bytes.
+const LONGEST: &str = "aaaaaaaaaaaaaaaaaaaaaaaaaaaaaaaaaaaaaaaaaaaaaaaaaaaaaaaaaaaaaaaa";
+
+// What a body tells whose transaction has this id, which stands behind the generation 1.
+fn is_told_of(alloc: Global, id: &str, want: &str) -> Result<bool, AllocError> {
+    let body = format!(in alloc; "{{\"generation\":1,\"transaction_id\":\"{id}\"}}")?;
+    is_told(alloc, body.as_bytes(), want)
+}
+
+fn longest_transaction_is_told(alloc: Global) -> Result<bool, AllocError> {
+    let want = format!(in alloc; "1 {LONGEST}")?;
+    let longer = format!(in alloc; "{LONGEST}a")?;
+    let is_read = is_told_of(alloc, LONGEST, want.as_str())?;
+    Ok(is_told_of(alloc, longer.as_str(), "bad")? && is_read)
+}
+
+#[test]
+fn reads_transactions_of_64_bytes(rt: HostRuntime) -> Result<(), Fail> {
+    assert!(rt; longest_transaction_is_told(rt.alloc())?);
     Ok(())
 }
 
@@ -128,8 +152,9 @@ fn said(alloc: Global, body: &[u8]) -> Result<String, AllocError> {
     }
 }
 
-const EMPTY_TARGET: &[u8] =
-    br#"{"source_replica_generation":0,"source_replica_uid":"a","source_transaction_id":"","target_replica_generation":0,"target_replica_transaction_id":"","target_replica_uid":"b"}"#;
+const EMPTY_TARGET: &[u8] = b"{\"source_replica_generation\":0,\"source_replica_uid\":\"a\",\
+      \"source_transaction_id\":\"\",\"target_replica_generation\":0,\
+      \"target_replica_transaction_id\":\"\",\"target_replica_uid\":\"b\"}";
 
 fn empty_info(alloc: Global) -> Result<Info, Fail> {
     Ok(Info {
@@ -162,28 +187,68 @@ fn reads_what_a_target_says(rt: HostRuntime) -> Result<(), Fail> {
     let alloc = rt.alloc();
     for (body, want) in [
         (
-            r#"{"target_replica_uid":"b","target_replica_transaction_id":"T-9","target_replica_generation":9,"source_transaction_id":"S-3","source_replica_uid":"a","source_replica_generation":3}"#,
+            "{\"target_replica_uid\":\"b\",\"target_replica_transaction_id\":\"T-9\",\
+             \"target_replica_generation\":9,\"source_transaction_id\":\"S-3\",\
+             \"source_replica_uid\":\"a\",\"source_replica_generation\":3}",
             "b 9 T-9 a 3 S-3",
         ),
         (
-            r#"{"target_replica_uid":"b.c","target_replica_transaction_id":"T-9","target_replica_generation":9,"source_transaction_id":"S-3","source_replica_uid":"a","source_replica_generation":3}"#,
+            "{\"target_replica_uid\":\"b.c\",\"target_replica_transaction_id\":\"T-9\",\
+             \"target_replica_generation\":9,\"source_transaction_id\":\"S-3\",\
+             \"source_replica_uid\":\"a\",\"source_replica_generation\":3}",
             "bad",
         ),
         (
-            r#"{"target_replica_uid":"b","target_replica_transaction_id":"T-9","target_replica_generation":9,"source_transaction_id":"S-3","source_replica_uid":null,"source_replica_generation":3}"#,
+            "{\"target_replica_uid\":\"b\",\"target_replica_transaction_id\":\"T-9\",\
+             \"target_replica_generation\":9,\"source_transaction_id\":\"S-3\",\
+             \"source_replica_uid\":null,\"source_replica_generation\":3}",
             "bad",
         ),
         (
-            r#"{"target_replica_uid":"b","target_replica_transaction_id":"","target_replica_generation":9,"source_transaction_id":"S-3","source_replica_uid":"a","source_replica_generation":3}"#,
+            "{\"target_replica_uid\":\"b\",\"target_replica_transaction_id\":\"\",\
+             \"target_replica_generation\":9,\"source_transaction_id\":\"S-3\",\
+             \"source_replica_uid\":\"a\",\"source_replica_generation\":3}",
             "bad",
         ),
         (
-            r#"{"target_replica_uid":"b","target_replica_transaction_id":"T-9","target_replica_generation":9,"source_transaction_id":"S-3","source_replica_uid":"a"}"#,
+            "{\"target_replica_uid\":\"b\",\"target_replica_transaction_id\":\"T-9\",\
+             \"target_replica_generation\":9,\"source_transaction_id\":\"S-3\",\
+             \"source_replica_uid\":\"a\"}",
             "bad",
         ),
         ("{}", "bad"),
     ] {
         assert!(rt; is_said(alloc, body.as_bytes(), want)?, "{body:?}");
     }
+    Ok(())
+}
+
+// What an info says that has these uids, of the target and of the source.
+fn is_said_of(alloc: Global, target: &str, source: &str, want: &str) -> Result<bool, AllocError> {
+    let body = format!(in alloc;
+        "{{\"target_replica_uid\":\"{target}\",\"target_replica_transaction_id\":\"\",\
+          \"target_replica_generation\":0,\"source_transaction_id\":\"\",\
+          \"source_replica_uid\":\"{source}\",\"source_replica_generation\":0}}"
+    )?;
+    is_said(alloc, body.as_bytes(), want)
+}
+
+fn longest_uids_are_said(alloc: Global) -> Result<bool, AllocError> {
+    let want = format!(in alloc; "{LONGEST} 0 - a 0 -")?;
+    let target_is_said = is_said_of(alloc, LONGEST, "a", want.as_str())?;
+    let want = format!(in alloc; "b 0 - {LONGEST} 0 -")?;
+    Ok(is_said_of(alloc, "b", LONGEST, want.as_str())? && target_is_said)
+}
+
+fn longer_uids_are_bad(alloc: Global) -> Result<bool, AllocError> {
+    let longer = format!(in alloc; "{LONGEST}a")?;
+    let target_is_bad = is_said_of(alloc, longer.as_str(), "a", "bad")?;
+    Ok(is_said_of(alloc, "b", longer.as_str(), "bad")? && target_is_bad)
+}
+
+#[test]
+fn reads_uids_of_64_bytes(rt: HostRuntime) -> Result<(), Fail> {
+    assert!(rt; longest_uids_are_said(rt.alloc())?);
+    assert!(rt; longer_uids_are_bad(rt.alloc())?);
     Ok(())
 }

@@ -55,6 +55,7 @@ fn tells_what_a_request_says(rt: HostRuntime) -> Result<(), Fail> {
         ("GET /db/sync-from/a HTTP/1.1\r\nHost", "not yet"),
         ("", "not yet"),
         ("POST /db/sync-from/a HTTP/1.1\r\n\r\n", "NoLength"),
+        ("PUT /db/sync-from/a HTTP/1.1\r\n\r\n", "NoLength"),
         (
             "POST /db/sync-from/a HTTP/1.1\r\nTransfer-Encoding: chunked\r\n\r\n",
             "Chunked",
@@ -72,6 +73,15 @@ fn tells_what_a_request_says(rt: HostRuntime) -> Result<(), Fail> {
         ("GET /db/sync-from/a?x HTTP/1.1\r\n\r\n", "BadPath"),
         ("GET db/sync-from/a HTTP/1.1\r\n\r\n", "BadPath"),
         ("GET /db HTTP/1.1\r\n\r\n", "BadPath"),
+        ("DELETE /x HTTP/1.1\r\n\r\n", "BadPath"),
+        (
+            "DELETE /db/sync-from/a HTTP/1.1\r\nTransfer-Encoding: x\r\n\r\n",
+            "BadMethod",
+        ),
+        (
+            "GET /db/sync-from/a HTTP/1.1\r\ntransfer-encoding: x\r\n\r\n",
+            "Chunked",
+        ),
         ("X\r\n\r\n", "BadHead"),
         ("GET /db/sync-from/a HTTP/2.0\r\n\r\n", "BadHead"),
     ] {
@@ -114,6 +124,61 @@ fn reads_lengths_first(rt: HostRuntime) -> Result<(), Fail> {
     assert!(rt; tells(rt.alloc(), text, "BadHead")?);
     let text = "GET /db/sync-from/a HTTP/1.1\r\nContent-Length: 5\r\n\r\n";
     assert!(rt; tells(rt.alloc(), text, "Get db a 0 in 51")?);
+    let text = "GET /db/sync-from/a HTTP/1.1\r\nContent-Length: x\r\n\r\n";
+    assert!(rt; tells(rt.alloc(), text, "BadHead")?);
+    Ok(())
+}
+
+// The longest name of a database or a replica has 64 bytes.
+const LONGEST: &str = "aaaaaaaaaaaaaaaaaaaaaaaaaaaaaaaaaaaaaaaaaaaaaaaaaaaaaaaaaaaaaaaa";
+
+// What a request to this database from this source says.
+fn tells_ids(alloc: Global, db: &str, source: &str, want: &str) -> Result<bool, AllocError> {
+    let text = format!(in alloc; "GET /{db}/sync-from/{source} HTTP/1.1\r\n\r\n")?;
+    tells(alloc, text.as_str(), want)
+}
+
+fn longest_ids_are_read(alloc: Global) -> Result<bool, AllocError> {
+    let want = format!(in alloc; "Get {LONGEST} a 0 in 94")?;
+    let db_is_read = tells_ids(alloc, LONGEST, "a", want.as_str())?;
+    let want = format!(in alloc; "Get db {LONGEST} 0 in 95")?;
+    Ok(tells_ids(alloc, "db", LONGEST, want.as_str())? && db_is_read)
+}
+
+fn longer_ids_are_refused(alloc: Global) -> Result<bool, AllocError> {
+    let longer = format!(in alloc; "{LONGEST}a")?;
+    let db_is_refused = tells_ids(alloc, longer.as_str(), "a", "BadPath")?;
+    Ok(tells_ids(alloc, "db", longer.as_str(), "BadPath")? && db_is_refused)
+}
+
+#[test]
+fn reads_ids_of_64_bytes(rt: HostRuntime) -> Result<(), Fail> {
+    assert!(rt; longest_ids_are_read(rt.alloc())?);
+    assert!(rt; longer_ids_are_refused(rt.alloc())?);
+    Ok(())
+}
+
+// Whether of each shorter front of the head it is told that more must come.
+fn waits_for(alloc: Global, head: &str) -> Result<bool, Fail> {
+    for length in 0..head.len() {
+        let (front, _) = head
+            .as_bytes()
+            .split_at_checked(length)
+            .ok_or("the head is shorter")?;
+        let said = told(alloc, front)?;
+        if !are_same(said.as_str(), "not yet") {
+            return Ok(false);
+        }
+    }
+    Ok(true)
+}
+
+#[test]
+fn waits_for_each_byte_of_a_request(rt: HostRuntime) -> Result<(), Fail> {
+    let alloc = rt.alloc();
+    let head = "PUT /db/sync-from/a HTTP/1.1\r\nHost: h:80\r\nContent-Length: 7\r\n\r\n";
+    assert!(rt; waits_for(alloc, head)?);
+    assert!(rt; tells(alloc, head, "Put db a 7 in 63")?);
     Ok(())
 }
 
@@ -135,6 +200,8 @@ fn tells_long(alloc: Global, length: usize, end: &str, want: &str) -> Result<boo
 fn looks_at_so_many_bytes(rt: HostRuntime) -> Result<(), Fail> {
     let alloc = rt.alloc();
     assert!(rt; tells_long(alloc, 16_380, "", "not yet")?);
+    assert!(rt; tells_long(alloc, 16_383, "", "not yet")?);
+    assert!(rt; tells_long(alloc, 16_384, "", "TooLarge")?);
     assert!(rt; tells_long(alloc, 16_380, "\r\n\r", "not yet")?);
     assert!(rt; tells_long(alloc, 16_380, "\r\n\r\n", "Get db a 0 in 16384")?);
     assert!(rt; tells_long(alloc, 16_381, "\r\n\r\n", "TooLarge")?);
@@ -195,6 +262,71 @@ fn tells_what_a_reply_says(rt: HostRuntime) -> Result<(), Fail> {
     ] {
         assert!(rt; reply_tells(alloc, text, want)?, "{text:?}");
     }
+    Ok(())
+}
+
+// What a reply says whose head is so long before its end, and then has this end.
+fn reply_tells_long(
+    alloc: Global,
+    length: usize,
+    end: &str,
+    want: &str,
+) -> Result<bool, AllocError> {
+    let mut text = String::from_str(alloc, "HTTP/1.1 200 OK\r\nContent-Length: 1\r\nX: ")?;
+    for _ in text.len()..length {
+        text.push('x')?;
+    }
+    text.push_str(end)?;
+    reply_tells(alloc, text.as_str(), want)
+}
+
+#[test]
+fn looks_at_so_many_bytes_of_a_reply(rt: HostRuntime) -> Result<(), Fail> {
+    let alloc = rt.alloc();
+    assert!(rt; reply_tells_long(alloc, 16_383, "", "not yet")?);
+    assert!(rt; reply_tells_long(alloc, 16_384, "", "TooLarge")?);
+    assert!(rt; reply_tells_long(alloc, 16_380, "\r\n\r\n", "200 1 in 16384")?);
+    assert!(rt; reply_tells_long(alloc, 16_381, "\r\n\r\n", "TooLarge")?);
+    Ok(())
+}
+
+// What a reply says that has so many fields beside the length.
+fn reply_tells_fields(alloc: Global, count: u32, want: &str) -> Result<bool, AllocError> {
+    let mut text = String::from_str(alloc, "HTTP/1.1 200 OK\r\nContent-Length: 1\r\n")?;
+    for _ in 0..count {
+        text.push_str("A: b\r\n")?;
+    }
+    text.push_str("\r\n")?;
+    reply_tells(alloc, text.as_str(), want)
+}
+
+#[test]
+fn takes_so_many_fields_of_a_reply(rt: HostRuntime) -> Result<(), Fail> {
+    assert!(rt; reply_tells_fields(rt.alloc(), 63, "200 1 in 416")?);
+    assert!(rt; reply_tells_fields(rt.alloc(), 64, "BadHead")?);
+    Ok(())
+}
+
+// The same of a reply: of each shorter front more must come.
+fn waits_for_reply(alloc: Global, head: &str) -> Result<bool, Fail> {
+    for length in 0..head.len() {
+        let (front, _) = head
+            .as_bytes()
+            .split_at_checked(length)
+            .ok_or("the head is shorter")?;
+        let said = reply_told(alloc, front)?;
+        if !are_same(said.as_str(), "not yet") {
+            return Ok(false);
+        }
+    }
+    Ok(true)
+}
+
+#[test]
+fn waits_for_each_byte_of_a_reply(rt: HostRuntime) -> Result<(), Fail> {
+    let head = "HTTP/1.1 200 OK\r\nContent-Length: 12\r\n\r\n";
+    assert!(rt; waits_for_reply(rt.alloc(), head)?);
+    assert!(rt; reply_tells(rt.alloc(), head, "200 12 in 39")?);
     Ok(())
 }
 
@@ -327,7 +459,9 @@ fn reads_addresses(rt: HostRuntime) -> Result<(), Fail> {
         ("http://h/db#", "bad"),
         ("http://h/%64b", "bad"),
         ("http://h/d b", "bad"),
+        ("http://h:65535/db", "h 65535 db"),
         ("http://h:65536/db", "bad"),
+        ("http://h:0/db", "h 0 db"),
         ("https://h/db", "bad"),
         ("h/db", "bad"),
         ("http://h", "bad"),
@@ -335,5 +469,23 @@ fn reads_addresses(rt: HostRuntime) -> Result<(), Fail> {
     ] {
         assert!(rt; address_is(alloc, text, want)?, "{text:?}");
     }
+    Ok(())
+}
+
+fn longest_name_is_read(alloc: Global) -> Result<bool, AllocError> {
+    let text = format!(in alloc; "http://h/{LONGEST}")?;
+    let want = format!(in alloc; "h 80 {LONGEST}")?;
+    address_is(alloc, text.as_str(), want.as_str())
+}
+
+fn longer_name_is_refused(alloc: Global) -> Result<bool, AllocError> {
+    let text = format!(in alloc; "http://h/{LONGEST}a")?;
+    address_is(alloc, text.as_str(), "bad")
+}
+
+#[test]
+fn reads_addresses_with_names_of_64_bytes(rt: HostRuntime) -> Result<(), Fail> {
+    assert!(rt; longest_name_is_read(rt.alloc())?);
+    assert!(rt; longer_name_is_refused(rt.alloc())?);
     Ok(())
 }

@@ -10,14 +10,14 @@ use std::test::Fail;
 use sync_http::{Address, read_address};
 use u1_base::{Bytes, Memory, Numbers};
 
-// What a source asks for first, and the answer of a target that has one document.
+// What a source asks for first, and the answer of a target that has three documents.
 const INFO_REQUEST: &[u8] =
     b"GET /db/sync-from/a HTTP/1.1\r\nHost: h:8080\r\nConnection: close\r\n\r\n";
 
 const INFO: &[u8] = b"HTTP/1.1 200 OK\r\nContent-Type: application/json\r\nContent-Length: 177\r\n\
 Connection: close\r\n\r\n{\"source_replica_generation\":0,\"source_replica_uid\":\"a\",\
-\"source_transaction_id\":\"\",\"target_replica_generation\":1,\
-\"target_replica_transaction_id\":\"T-b1\",\"target_replica_uid\":\"b\"}";
+\"source_transaction_id\":\"\",\"target_replica_generation\":3,\
+\"target_replica_transaction_id\":\"T-b3\",\"target_replica_uid\":\"b\"}";
 
 // What it asks for then, in a head and a body, and the answer.
 const POST_HEAD: &[u8] = b"POST /db/sync-from/a HTTP/1.1\r\nHost: h:8080\r\nConnection: close\r\n\
@@ -27,10 +27,14 @@ const POST_BODY: &[u8] =
     b"[\r\n{\"ensure\":false,\"last_known_generation\":0,\"last_known_trans_id\":\"\"}\r\n]\r\n";
 
 const STREAM: &[u8] = b"HTTP/1.1 200 OK\r\nContent-Type: application/x-u1db-sync-stream\r\n\
-Content-Length: 134\r\nConnection: close\r\n\r\n\
-[\r\n{\"new_generation\":1,\"new_transaction_id\":\"T-b1\"},\r\n\
+Content-Length: 290\r\nConnection: close\r\n\r\n\
+[\r\n{\"new_generation\":3,\"new_transaction_id\":\"T-b3\"},\r\n\
 {\"content\":\"{\\\"v\\\":\\\"b\\\"}\",\"gen\":1,\
-\"id\":\"d1\",\"rev\":\"b:1\",\"trans_id\":\"T-b1\"}\r\n]\r\n";
+\"id\":\"d1\",\"rev\":\"b:1\",\"trans_id\":\"T-b1\"},\r\n\
+{\"content\":\"{\\\"v\\\":\\\"c\\\"}\",\"gen\":2,\
+\"id\":\"d2\",\"rev\":\"b:1\",\"trans_id\":\"T-b2\"},\r\n\
+{\"content\":\"{\\\"v\\\":\\\"d\\\"}\",\"gen\":3,\
+\"id\":\"d3\",\"rev\":\"b:1\",\"trans_id\":\"T-b3\"}\r\n]\r\n";
 
 fn address(alloc: Global) -> Result<Address, Fail> {
     Ok(read_address(alloc, "http://h:8080/db")?)

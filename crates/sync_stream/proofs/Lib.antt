@@ -11,3 +11,4 @@ pub mod ObjectsBack
 pub mod StreamBack
 pub mod Came
 pub mod Serving
+mod Messages

@@ -77,5 +77,8 @@ worked = record {
   other = λ seed. refl;
   before = λ seed. refl;
   behind = λ seed. refl;
+  cut = λ seed. refl;
+  short = λ seed. refl;
+  over = λ seed. refl;
   elsewhere = λ seed. refl;
 }

@@ -50,7 +50,7 @@ digit_no_cr b e = grind (arith, nat_tests, e)
 number_clean : (n : ℕ) → n < 2 ^ 64 → IsClean (decimal n)
 number_clean n fits = weaker is_ascii_digit no_cr digit_no_cr (decimal n) (digits_pass n fits)
 
-trans_length : (trans : Option (List ℕ)) → IfSome trans (IsId Transaction) → length (unwrap_or trans []) ≤ 64
+pub trans_length : (trans : Option (List ℕ)) → IfSome trans (IsId Transaction) → length (unwrap_or trans []) ≤ 64
 trans_length None h = omega arith
 trans_length (Some id) h = (id_facts Transaction id h).1
 

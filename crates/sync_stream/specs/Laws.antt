@@ -1,19 +1,27 @@
 -- What holds of all streams.
-use Rattle.std.specs.Prelude.{◌≡◌, ◌≤◌, ◌⊎◌, ℕ, Bool, true, false, Option, List, [], ◌∷◌, ◌++◌, map, None, IfSome}
+use Rattle.std.specs.Prelude.{◌≡◌, ◌≤◌, ◌⊎◌, ℕ, Bool, true, false, Option, List, [], ◌∷◌, ◌++◌, length, map, Some}
+use Rattle.std.specs.Prelude.{None, IfSome}
 use Rattle.std.specs.List.{AllByRecursion}
 use Rattle.content.specs.Contents.{IsContent}
 use Rattle.u1_base.specs.Ids.{IsId}
 use Rattle.u1_base.specs.Places.{Place}
 use Rattle.u1_base.specs.declared.ids.Form.TheVariants.{Document}
+use Rattle.u1_base.specs.declared.limits.TheConstants.{GREATEST_COUNT}
 use Rattle.conflicts.specs.State.{State}
+use Rattle.sync_http.specs.Bodies.{IsInfo}
+use Rattle.sync_http.specs.Laws.{CanAsk}
 use Rattle.sync_http.specs.Positions.{IsPosition}
+use Rattle.sync_http.specs.declared.address.Address.{Address}
 use Rattle.sync_stream.specs.Lines.{GoOn}
 use Rattle.sync_stream.specs.Format.{IsBody, IsStream}
 use Rattle.sync_stream.specs.Stream.{Begins, Ends, HasFault, IsFaultyAt, Passes, end_fault}
 use Rattle.sync_stream.specs.Kept.{HasNoMore, Kept, StandsFor}
-use Rattle.sync_stream.specs.Came.{Cut, Ending, Faulty, IsQuiet, SaysBody, ending_of}
+use Rattle.sync_stream.specs.Came.{Cut, Ending, Faulty, IsQuiet, SaysBody, Whole, ending_of}
 use Rattle.sync_stream.specs.Written.{stream_text}
-use Rattle.sync_stream.specs.Messages.{Asks, Exchange}
+use Rattle.sync_stream.specs.Messages.{Asks, Exchange, Hears, ReadsReply, ReadsRequest, Says, SaysInfo, SaysKept}
+use Rattle.sync_stream.specs.Messages.{SaysReturned, Status}
+use Rattle.sync_stream.specs.Replies.{Keeps, Refuses, Reply, Returns, Tells, refusal_status, reply_body, reply_text}
+use Rattle.sync_stream.specs.Requests.{ForInfo, Question, ToExchange, ToKeep, ask_of, request_head, request_text}
 use Rattle.sync_stream.specs.Serving.{serve}
 use Rattle.sync_stream.specs.Worked.{ServesAsWorked}
 use Rattle.sync_stream.specs.declared.line.HeadKind.{HeadKind}
@@ -65,6 +73,43 @@ abbrev pub StreamsReadBack : Type 0
 StreamsReadBack =
     (kind : HeadKind) (head : Place) (docs : List SyncDoc) → IsPosition head → AllByRecursion IsSent docs
     → Ends kind (stream_text kind head docs) (Head head ∷ map Doc docs ++ End ∷ []) None
+
+-- ---- whole messages
+
+-- what a question holds can be sent
+abbrev pub IsAskable : Question → Type 0
+IsAskable ForInfo = Unit {0}
+IsAskable (ToKeep at) = IsPosition at
+IsAskable (ToExchange known docs) = IsPosition known × AllByRecursion IsSent docs
+
+-- what a reply holds can be sent
+abbrev pub IsGiven : Reply → Type 0
+IsGiven (Tells info) = IsInfo info
+IsGiven Keeps = Unit {0}
+IsGiven (Returns at docs) =
+    IsPosition at × AllByRecursion IsSent docs × (length (reply_body (Returns at docs)) ≤ GREATEST_COUNT)
+IsGiven (Refuses refusal) = Unit {0}
+
+-- whatever was asked, these bytes are read as a reply of this status
+pub record IsRefused (bytes : List ℕ) (status : ℕ) : Type 0 where
+  pub info : ReadsReply SaysInfo bytes (Status status)
+  pub kept : ReadsReply SaysKept bytes (Status status)
+  pub returned : ReadsReply SaysReturned bytes (Status status)
+
+-- the bytes are read as this reply
+abbrev pub ReadsBack : List ℕ → Reply → Type 0
+ReadsBack bytes (Tells info) = ReadsReply SaysInfo bytes (Hears (Says info))
+ReadsBack bytes Keeps = ReadsReply SaysKept bytes (Hears (Says tt))
+ReadsBack bytes (Returns at docs) =
+    ReadsReply SaysReturned bytes (Hears (record { head = Some at; docs = docs; ending = Whole }))
+ReadsBack bytes (Refuses refusal) = IsRefused bytes (refusal_status refusal)
+
+-- a request or a reply that was written, head and body, is read as itself, whatever follows
+pub record MessagesReadBack : Type 0 where
+  pub request : (to : Address) (source : List ℕ) (question : Question) (more : List ℕ)
+      → CanAsk to (request_head to source question) → IsAskable question
+      → ReadsRequest (request_text to source question ++ more) (Asks to.db source (ask_of question))
+  pub reply : (reply : Reply) (more : List ℕ) → IsGiven reply → ReadsBack (reply_text reply ++ more) reply
 
 -- ---- what came of a body
 

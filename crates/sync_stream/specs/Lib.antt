@@ -9,6 +9,7 @@ pub mod Came
 pub mod Format
 pub mod Written
 pub mod Messages
+pub mod Requests
 pub mod Replies
 pub mod Serving
 pub mod Early

@@ -1,5 +1,5 @@
 -- What a request and a reply say, as values, as far as their bytes came.
-use Rattle.std.specs.Prelude.{◌≡◌, ◌≢◌, ℕ, ◌≤◌, ◌==◌, nat_lt, Bool, true, false, if◌then◌else◌, List, [], ◌∷◌, length}
+use Rattle.std.specs.Prelude.{◌≡◌, ◌≢◌, ℕ, nat_le, nat_lt, Bool, true, false, if◌then◌else◌, List, [], ◌∷◌, length}
 use Rattle.std.specs.Prelude.{drop, take, Option, Some, None, Ok, Err}
 use Rattle.serde_json.specs.Data.{Data, null, boolean, number, string, array, object}
 use Rattle.content.specs.Faults.{value_of}
@@ -42,11 +42,10 @@ docs_in (Head p ∷ lines) = docs_in lines
 docs_in (Doc doc ∷ lines) = doc ∷ docs_in lines
 docs_in (End ∷ lines) = docs_in lines
 
--- the bytes that came of a body of n bytes say this stream
+-- the bytes that came of a body of n bytes say this stream; bytes behind the body are none of it
 pub record SaysStream (kind : HeadKind) (bytes : List ℕ) (n : ℕ) (stream : Stream) : Type 0 where
-  pub within : length bytes ≤ n
   pub said : List Line
-  pub says : SaysBody kind bytes (length bytes == n) said stream.ending
+  pub says : SaysBody kind (take n bytes) (nat_le n (length bytes)) said stream.ending
   pub head : head_in said ≡ stream.head
   pub docs : docs_in said ≡ stream.docs
 

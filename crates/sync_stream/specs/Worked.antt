@@ -1,4 +1,4 @@
--- Serving at small states: ten examples.
+-- Serving at small states: thirteen examples.
 use Rattle.std.specs.Prelude.{◌≡◌, ℕ, true, List, [], ◌∷◌, codes, ◌++◌, Option, Some, None}
 use Rattle.content.specs.Tree.{Tree, text, field, no_fields, object}
 use Rattle.u1_base.specs.NewId.{new_id_text}
@@ -12,9 +12,9 @@ use Rattle.conflicts.specs.declared.accept.Making.TheVariants.{Edit, Merge}
 use Rattle.conflicts.specs.declared.member.Member.{Member}
 use Rattle.conflicts.specs.declared.moves.PosTable.TheVariants.{Known, Told}
 use Rattle.conflicts.specs.declared.moves.Move.{Move}
-use Rattle.sync_stream.specs.Came.{Ending, Whole, Faulty}
-use Rattle.sync_stream.specs.Messages.{AskInfo, Tell, Exchange, Request, Asks, Says}
-use Rattle.sync_stream.specs.Replies.{NotFound, LogCheck, TooLarge, Returns, Refuses}
+use Rattle.sync_stream.specs.Came.{Ending, Whole, Faulty, Cut}
+use Rattle.sync_stream.specs.Messages.{AskInfo, Tell, Exchange, Request, Asks, Says, Short, Over}
+use Rattle.sync_stream.specs.Replies.{BadRequest, NotFound, LogCheck, TooLarge, Returns, Refuses}
 use Rattle.sync_stream.specs.Serving.{refused, serve}
 use Rattle.sync_stream.specs.declared.fault.LineFault.TheVariants.{TooLong}
 
@@ -148,5 +148,15 @@ pub record ServesAsWorked : Type 0 where
             Accepted d (received (member at_a of_a)) (new_id_text seed Trans 1) (told (place a 1)) ∷ [];
       }
   pub behind : (seed : ℕ) → serve empty seed (exchange_of (place b 1) of_a 1 (Faulty (TooLong 4))) ≡ refused LogCheck
+  -- so is the document before the line within which a body is cut
+  pub cut : (seed : ℕ) → serve empty seed (exchange_of nowhere of_a 1 (Cut 4))
+      ≡ record {
+        reply = Refuses BadRequest;
+        steps =
+            Accepted d (received (member at_a of_a)) (new_id_text seed Trans 1) (told (place a 1)) ∷ [];
+      }
+  -- a told place whose bytes end before its length is refused, and one that is too long otherwise
+  pub short : (seed : ℕ) → serve empty seed (Asks db a (Tell Short)) ≡ refused BadRequest
+  pub over : (seed : ℕ) → serve empty seed (Asks db a (Tell Over)) ≡ refused TooLarge
   -- another database is not found
   pub elsewhere : (seed : ℕ) → serve empty seed (Asks d a AskInfo) ≡ refused NotFound

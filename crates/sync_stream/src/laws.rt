@@ -1,6 +1,7 @@
 //! What holds of all streams, each as the contract of a function that does nothing.
-ghost use Rattle.sync_stream.specs.Laws.{BodiesPass, OneFirstFault, OneReading, OneSaying};
-ghost use Rattle.sync_stream.specs.Laws.{ReadersSay, ServingIs, StreamsReadBack, WholeStreams};
+ghost use Rattle.sync_stream.specs.Laws.{BodiesPass, MessagesReadBack, OneFirstFault, OneReading};
+ghost use Rattle.sync_stream.specs.Laws.{OneSaying, ReadersSay, ServingIs, StreamsReadBack};
+ghost use Rattle.sync_stream.specs.Laws.{WholeStreams};
 
 /// A text says one list of lines, however it is cut.
 pub fn law_one_reading()
@@ -25,6 +26,11 @@ pub fn law_whole_streams()
 /// A stream that was written is whole, and is read as what it was written for.
 pub fn law_streams()
     ensures { StreamsReadBack }
+{}
+
+/// A request or a reply that was written, head and body, is read as itself, whatever follows.
+pub fn law_messages()
+    ensures { MessagesReadBack }
 {}
 
 /// What a reader stands for is what the bytes say that came: cut, faulty or whole.

@@ -2,9 +2,10 @@
 //!
 //! A row is a stream and what is told of it: its lines, and that it is whole or its fault. In a row
 //! `~` stands for CR LF, `$t`, `$n` and `$r` for a tab, LF and CR, and `$h`, `$1` and `$2` for a
-//! head and two documents.
+//! head and two documents; `$g` and `$i` for the names of a reply's head, and `$k` and `$l` for
+//! those of a request's. A row that ends in a backslash goes on in the next line.
 use crate::telling::{tells, tells_cut};
-use crate::{HeadKind, Reader, StreamFault};
+use crate::{HeadKind, Line, Reader, StreamFault};
 use std::alloc::{AllocError, Global};
 use std::test::Fail;
 
@@ -21,6 +22,10 @@ fn meant(alloc: Global, row: &str) -> Result<String, AllocError> {
         ("$h", HEAD),
         ("$1", FIRST),
         ("$2", SECOND),
+        ("$g", r#""new_generation""#),
+        ("$i", r#""new_transaction_id""#),
+        ("$k", r#""last_known_generation""#),
+        ("$l", r#""last_known_trans_id""#),
         ("$t", "\t"),
         ("$n", "\n"),
         ("$r", "\r"),
@@ -38,11 +43,17 @@ fn is_row(alloc: Global, kind: HeadKind, row: &str) -> Result<bool, Fail> {
     tells(alloc, kind, stream.as_bytes(), want)
 }
 
+// The rows, each in one line.
+fn joined(alloc: Global, rows: &str) -> Result<String, AllocError> {
+    String::from_str(alloc, rows)?.replace(alloc, "\\\n", "")
+}
+
 // The first row of which something else is told. An empty line is no row.
-fn first_wrong<'a>(alloc: Global, kind: HeadKind, rows: &'a str) -> Result<Option<&'a str>, Fail> {
-    for row in rows.lines() {
+fn first_wrong(alloc: Global, kind: HeadKind, rows: &str) -> Result<Option<String>, Fail> {
+    let rows = joined(alloc, rows)?;
+    for row in rows.as_str().lines() {
         if !row.is_empty() && !is_row(alloc, kind, row)? {
-            return Ok(Some(row));
+            return Ok(Some(String::from_str(alloc, row)?));
         }
     }
     Ok(None)
@@ -55,10 +66,11 @@ fn is_reply(alloc: Global, row: &str) -> Result<bool, Fail> {
 }
 
 // The same of a document that is the only one of a reply.
-fn first_wrong_doc<'a>(alloc: Global, docs: &'a str) -> Result<Option<&'a str>, Fail> {
-    for row in docs.lines() {
+fn first_wrong_doc(alloc: Global, docs: &str) -> Result<Option<String>, Fail> {
+    let docs = joined(alloc, docs)?;
+    for row in docs.as_str().lines() {
         if !row.is_empty() && !is_reply(alloc, row)? {
-            return Ok(Some(row));
+            return Ok(Some(String::from_str(alloc, row)?));
         }
     }
     Ok(None)
@@ -66,7 +78,8 @@ fn first_wrong_doc<'a>(alloc: Global, docs: &'a str) -> Result<Option<&'a str>, 
 
 pub(crate) const EXCHANGE: &str = "[\r\n\
     {\"ensure\":false,\"last_known_generation\":0,\"last_known_trans_id\":\"\"},\r\n\
-    {\"content\":\"{\\\"v\\\":1}\",\"gen\":1,\"id\":\"d1\",\"rev\":\"a:1\",\"trans_id\":\"T-1\"}\r\n\
+    {\"content\":\"{\\\"v\\\":1}\",\"gen\":1,\"id\":\"d1\",\"rev\":\"a:1\",\
+    \"trans_id\":\"T-1\"}\r\n\
     ]\r\n";
 
 const EXCHANGED: &str = "head 0 -; d1 a:1 {\"v\":1} 1 T-1; end; whole";
@@ -100,11 +113,15 @@ fn one_byte_behind_the_end(rt: HostRuntime) -> Result<(), Fail> {
 
 // Two replicas have each made a document: the request, and the reply to it.
 const SYNC_REQUEST: &str = r#"
-[~{"ensure":false,"last_known_generation":0,"last_known_trans_id":""},~{"content":"{\"v\":\"a\"}","gen":1,"id":"d1","rev":"a:1","trans_id":"T-a1"}~]~ => head 0 -; d1 a:1 {"v":"a"} 1 T-a1; end; whole
+[~{"ensure":false,"last_known_generation":0,"last_known_trans_id":""},\
+~{"content":"{\"v\":\"a\"}","gen":1,"id":"d1","rev":"a:1","trans_id":"T-a1"}~]~\
+ => head 0 -; d1 a:1 {"v":"a"} 1 T-a1; end; whole
 "#;
 
 const SYNC_REPLY: &str = r#"
-[~{"new_generation":1,"new_transaction_id":"T-b1"},~{"content":"{\"v\":\"b\"}","gen":1,"id":"d1","rev":"b:1","trans_id":"T-b1"}~]~ => head 1 T-b1; d1 b:1 {"v":"b"} 1 T-b1; end; whole
+[~{"new_generation":1,"new_transaction_id":"T-b1"},\
+~{"content":"{\"v\":\"b\"}","gen":1,"id":"d1","rev":"b:1","trans_id":"T-b1"}~]~\
+ => head 1 T-b1; d1 b:1 {"v":"b"} 1 T-b1; end; whole
 "#;
 
 #[test]
@@ -114,6 +131,32 @@ fn one_whole_sync(rt: HostRuntime) -> Result<(), Fail> {
         None
     );
     assert_eq!(rt; first_wrong(rt.alloc(), HeadKind::Reply, SYNC_REPLY)?, None);
+    Ok(())
+}
+
+// The second sync of an address book: `laptop` has a new revision of a document, and `server`
+// has deleted another one.
+const BOOK_REQUEST: &str = r#"
+[~{"ensure":false,"last_known_generation":12,"last_known_trans_id":"S-12"},\
+~{"content":"{\"name\":\"Nina Roy\",\"phones\":[\"555-02\"],\"tags\":\"work\"}",\
+"gen":13,"id":"c02","rev":"laptop:2","trans_id":"L-13"}~]~\
+ => head 12 S-12; \
+c02 laptop:2 {"name":"Nina Roy","phones":["555-02"],"tags":"work"} 13 L-13; end; whole
+"#;
+
+const BOOK_REPLY: &str = r#"
+[~{"new_generation":14,"new_transaction_id":"S-14"},\
+~{"content":null,"gen":13,"id":"c12","rev":"laptop:1|server:1","trans_id":"S-13"}~]~\
+ => head 14 S-14; c12 laptop:1|server:1 deleted 13 S-13; end; whole
+"#;
+
+#[test]
+fn one_sync_of_an_address_book(rt: HostRuntime) -> Result<(), Fail> {
+    assert_eq!(rt;
+        first_wrong(rt.alloc(), HeadKind::Request, BOOK_REQUEST)?,
+        None
+    );
+    assert_eq!(rt; first_wrong(rt.alloc(), HeadKind::Reply, BOOK_REPLY)?, None);
     Ok(())
 }
 
@@ -188,33 +231,57 @@ fn ends_and_blanks(rt: HostRuntime) -> Result<(), Fail> {
 
 // A head lies in each member.
 const HEADS: &str = r#"
-[~{"new_generation":0,"new_transaction_id":"no id"}~]~ => head 0 -; end; whole
-[~{"new_generation":9223372036854775807,"new_transaction_id":"T"}~] => head 9223372036854775807 T; whole
-[~{"new_generation":9223372036854775808,"new_transaction_id":"T"}~]~ => At(2)
-[~{"new_generation":-1,"new_transaction_id":"T"}~]~ => At(2)
-[~{"new_generation":"1","new_transaction_id":"T"}~]~ => At(2)
-[~{"new_generation":1,"new_transaction_id":""}~]~ => At(2)
-[~{"new_generation":1,"new_transaction_id":null}~]~ => At(2)
-[~{"new_generation":0,"new_transaction_id":0}~]~ => At(2)
-[~{"new_generation":1}~]~ => At(2)
-[~{"new_transaction_id":"T"}~]~ => At(2)
+[~{$g:0,$i:"no id"}~]~ => head 0 -; end; whole
+[~{$g:9223372036854775807,$i:"T"}~] => head 9223372036854775807 T; whole
+[~{$g:9223372036854775808,$i:"T"}~]~ => At(2)
+[~{$g:-1,$i:"T"}~]~ => At(2)
+[~{$g:"1",$i:"T"}~]~ => At(2)
+[~{$g:1,$i:""}~]~ => At(2)
+[~{$g:1,$i:null}~]~ => At(2)
+[~{$g:0,$i:0}~]~ => At(2)
+[~{$g:1}~]~ => At(2)
+[~{$i:"T"}~]~ => At(2)
 [~{}~]~ => At(2)
+"#;
+
+// The same of the head of a request, in which `ensure` is ignored.
+const KNOWN: &str = r#"
+[~{$k:0,$l:"no id"}~]~ => head 0 -; end; whole
+[~{$k:9223372036854775807,$l:"T"}~] => head 9223372036854775807 T; whole
+[~{$k:9223372036854775808,$l:"T"}~]~ => At(2)
+[~{$k:-1,$l:"T"}~]~ => At(2)
+[~{$k:"1",$l:"T"}~]~ => At(2)
+[~{$k:1,$l:""}~]~ => At(2)
+[~{$k:1,$l:null}~]~ => At(2)
+[~{$k:0,$l:0}~]~ => At(2)
+[~{$k:1}~]~ => At(2)
+[~{$l:"T"}~]~ => At(2)
+[~{}~]~ => At(2)
+[~{"ensure":true,$l:"T",$k:1}~]~ => head 1 T; end; whole
+[~{"ensure":false,$g:1,$i:"T"}~]~ => At(2)
 "#;
 
 #[test]
 fn heads(rt: HostRuntime) -> Result<(), Fail> {
     assert_eq!(rt; first_wrong(rt.alloc(), HeadKind::Reply, HEADS)?, None);
+    assert_eq!(rt; first_wrong(rt.alloc(), HeadKind::Request, KNOWN)?, None);
     Ok(())
 }
 
 // Members come in any order and with others, and the last of a name counts. Texts may be escaped.
 const READ: &str = r#"
-{"trans_id":"T-1","x":1,"rev":"a:1","id":"d","gen":7,"gen":1,"content":"{ }"} => d a:1 {} 1 T-1; end; whole
-$t{"content":"{}",$r"gen":1,$n"id":"d%2F","rev":"a:1","trans_id":"T"}  => d%2F a:1 {} 1 T; end; whole
-{"content":null,"gen":9223372036854775807,"id":"d","rev":"a:1","trans_id":"T"} => d a:1 deleted 9223372036854775807 T; end; whole
-{"x":{"id":"e","y":[1.5,true]},"content":"{}","gen":1,"id":"d","rev":"a:1","trans_id":"T"} => d a:1 {} 1 T; end; whole
-{"id":["e"],"gen":2.5,"content":"{}","gen":1,"id":"d","rev":"a:1","trans_id":"T"} => d a:1 {} 1 T; end; whole
-{"content":"{\u0022v\":7}","gen":1,"\u0069d":"d\u0031","rev":"a\u003a1","trans_id":"T"} => d1 a:1 {"v":7} 1 T; end; whole
+{"trans_id":"T-1","x":1,"rev":"a:1","id":"d","gen":7,"gen":1,"content":"{ }"}\
+ => d a:1 {} 1 T-1; end; whole
+$t{"content":"{}",$r"gen":1,$n"id":"d%2F","rev":"a:1","trans_id":"T"} \
+ => d%2F a:1 {} 1 T; end; whole
+{"content":null,"gen":9223372036854775807,"id":"d","rev":"a:1","trans_id":"T"}\
+ => d a:1 deleted 9223372036854775807 T; end; whole
+{"x":{"id":"e","y":[1.5,true]},"content":"{}","gen":1,"id":"d","rev":"a:1","trans_id":"T"}\
+ => d a:1 {} 1 T; end; whole
+{"id":["e"],"gen":2.5,"content":"{}","gen":1,"id":"d","rev":"a:1","trans_id":"T"}\
+ => d a:1 {} 1 T; end; whole
+{"content":"{\u0022v\":7}","gen":1,"\u0069d":"d\u0031","rev":"a\u003a1","trans_id":"T"}\
+ => d1 a:1 {"v":7} 1 T; end; whole
 "#;
 
 #[test]
@@ -367,6 +434,161 @@ fn reads_the_longest_line(rt: HostRuntime) -> Result<(), Fail> {
     assert!(rt; longest_is_read(rt.alloc())?);
     Ok(())
 }
+
+// A reader of a head, and of a document whose line is filled with blanks to so many bytes. It
+// comes in pieces of 4,096 bytes, and no line is given of it.
+fn filled_in_pieces(alloc: Global, length: usize) -> Result<Reader, Fail> {
+    let mut line = Vec::with_capacity(alloc, length)?;
+    line.extend_from_slice(FIRST.as_bytes())?;
+    line.resize(length, b' ')?;
+    let mut reader = reader_of(alloc, "[~$h,~")?;
+    if !gives_a_line(alloc, &mut reader) {
+        return Err(Fail::new("the head is not given"));
+    }
+    for piece in line.as_slice().chunks(4096) {
+        if reader.next_line(alloc)?.is_some() {
+            return Err(Fail::new("a line is given"));
+        }
+        reader.push(piece)?;
+    }
+    Ok(reader)
+}
+
+fn gives_a_document(alloc: Global, reader: &mut Reader) -> bool {
+    matches!(reader.next_line(alloc), Ok(Some(Line::Doc(_))))
+}
+
+fn longest_document_is_read(alloc: Global) -> Result<bool, Fail> {
+    let mut reader = filled_in_pieces(alloc, LONGEST)?;
+    let waits = gives_none(alloc, &mut reader) && reader.held() == 33_554_432;
+    reader.push(b"\r\n")?;
+    Ok(waits && gives_a_document(alloc, &mut reader) && reader.held() == 0)
+}
+
+#[test]
+fn reads_the_longest_document_in_pieces(rt: HostRuntime) -> Result<(), Fail> {
+    assert!(rt; longest_document_is_read(rt.alloc())?);
+    Ok(())
+}
+
+fn longer_document_is_too_long(alloc: Global) -> Result<bool, Fail> {
+    let mut reader = filled_in_pieces(alloc, LONGEST + 1)?;
+    Ok(gives_the_fault(alloc, &mut reader, StreamFault::TooLong(3)))
+}
+
+#[test]
+fn refuses_a_longer_document_in_pieces(rt: HostRuntime) -> Result<(), Fail> {
+    assert!(rt; longer_document_is_too_long(rt.alloc())?);
+    Ok(())
+}
+
+// ---- the longest texts of a document
+
+fn letters(alloc: Global, count: u32) -> Result<String, AllocError> {
+    let mut text = String::new(alloc);
+    for _ in 0..count {
+        text.push('a')?;
+    }
+    Ok(text)
+}
+
+// A revision of so many entries, each with the greatest counter.
+fn revision(alloc: Global, count: u32) -> Result<String, AllocError> {
+    let mut text = String::new(alloc);
+    for number in 0..count {
+        if number > 0 {
+            text.push('|')?;
+        }
+        text.push_str(format!(in alloc; "r{number:02}:9223372036854775807")?.as_str())?;
+    }
+    Ok(text)
+}
+
+// The texts of a deleted document.
+fn document(alloc: Global, id: &str, rev: &str, trans: &str) -> Result<String, AllocError> {
+    format!(in alloc;
+        "{{\"content\":null,\"gen\":1,\"id\":\"{id}\",\"rev\":\"{rev}\",\
+          \"trans_id\":\"{trans}\"}}"
+    )
+}
+
+fn is_read(alloc: Global, id: &str, rev: &str, trans: &str) -> Result<bool, Fail> {
+    let doc = document(alloc, id, rev, trans)?;
+    let row = format!(in alloc; "{doc} => {id} {rev} deleted 1 {trans}; end; whole")?;
+    is_reply(alloc, row.as_str())
+}
+
+fn is_refused(alloc: Global, id: &str, rev: &str, trans: &str) -> Result<bool, Fail> {
+    let doc = document(alloc, id, rev, trans)?;
+    let row = format!(in alloc; "{doc} => At(3)")?;
+    is_reply(alloc, row.as_str())
+}
+
+fn longest_texts_are_read(alloc: Global) -> Result<bool, Fail> {
+    let id = letters(alloc, 128)?;
+    let rev = revision(alloc, 64)?;
+    let trans = letters(alloc, 64)?;
+    is_read(alloc, id.as_str(), rev.as_str(), trans.as_str())
+}
+
+fn longer_texts_are_refused(alloc: Global) -> Result<bool, Fail> {
+    let id = is_refused(alloc, letters(alloc, 129)?.as_str(), "a:1", "T")?;
+    let rev = is_refused(alloc, "d", revision(alloc, 65)?.as_str(), "T")?;
+    let trans = is_refused(alloc, "d", "a:1", letters(alloc, 65)?.as_str())?;
+    Ok(id && rev && trans)
+}
+
+#[test]
+fn reads_the_longest_texts(rt: HostRuntime) -> Result<(), Fail> {
+    assert!(rt; longest_texts_are_read(rt.alloc())?);
+    assert!(rt; longer_texts_are_refused(rt.alloc())?);
+    Ok(())
+}
+
+const BEFORE_CONTENT: &str = r#"{"content":"{\"a\":\""#;
+
+const BEHIND_CONTENT: &str = r#"\"}","gen":1,"id":"d","rev":"a:1","trans_id":"T"}"#;
+
+// The line of a document whose content has so many bytes: `{"a":"xx..x"}`.
+fn with_content(alloc: Global, length: usize) -> Result<Vec<u8>, AllocError> {
+    let mut line = Vec::new(alloc);
+    line.extend_from_slice(BEFORE_CONTENT.as_bytes())?;
+    let filled = line.len().saturating_add(length.saturating_sub(8));
+    line.resize(filled, b'x')?;
+    line.extend_from_slice(BEHIND_CONTENT.as_bytes())?;
+    line.extend_from_slice(b"\r\n")?;
+    Ok(line)
+}
+
+// A reader of a head, and of such a document.
+fn of_content(alloc: Global, length: usize) -> Result<Reader, Fail> {
+    let line = with_content(alloc, length)?;
+    let mut reader = reader_of(alloc, "[~$h,~")?;
+    if !gives_a_line(alloc, &mut reader) {
+        return Err(Fail::new("the head is not given"));
+    }
+    reader.push(&line)?;
+    Ok(reader)
+}
+
+fn longest_content_is_read(alloc: Global) -> Result<bool, Fail> {
+    let mut reader = of_content(alloc, 4_194_304)?;
+    Ok(gives_a_document(alloc, &mut reader))
+}
+
+fn longer_content_is_refused(alloc: Global) -> Result<bool, Fail> {
+    let mut reader = of_content(alloc, 4_194_305)?;
+    Ok(gives_the_fault(alloc, &mut reader, StreamFault::At(3)))
+}
+
+#[test]
+fn reads_the_longest_content(rt: HostRuntime) -> Result<(), Fail> {
+    assert!(rt; longest_content_is_read(rt.alloc())?);
+    assert!(rt; longer_content_is_refused(rt.alloc())?);
+    Ok(())
+}
+
+// ---- lines that are too long
 
 // Whether a line of one byte more is too long, with these bytes after it.
 fn is_too_long(alloc: Global, behind: &[u8]) -> Result<bool, Fail> {

@@ -1,8 +1,8 @@
 -- Each test of places says what its relation says.
-use Rattle.std.proofs.Common.{◌≡◌, ◌↔◌, ℕ, ◌⊎◌, inl, inr, Bool, true, false, ◌||◌, eqb, ltb, List, length, Option, refl}
+use Rattle.std.proofs.Common.{◌≡◌, ◌↔◌, ℕ, inl, inr, true, false, eqb, ltb, List, length, Option, refl}
 use Rattle.std.proofs.Common.{sym, ◌∙◌, ap, subst, arith, eqb-true, eq-eqb, leb-true, le-leb, ltb-true, lt-ltb}
 use Rattle.std.specs.Prelude.{nat_eq}
-use Rattle.std.proofs.lemmas.Bool.{cases_lt}
+use Rattle.std.proofs.lemmas.Bool.{cases_lt, or_cases, or_left, or_right}
 use Rattle.std.specs.Option.{option_eq}
 use Rattle.std.specs.Cmp.Lexicographic.{pointwise, nat_list_eq_equiv, options_equiv}
 use Rattle.u1_base.specs.Places.{Place}
@@ -15,17 +15,6 @@ use Rattle.translog.specs.Entries.{trans_at}
 use Rattle.translog.specs.Log.{IsEnd, FitsLog, end_of, fits_log}
 use Rattle.translog.specs.Checks.{Checks, is_fits}
 use Rattle.translog.specs.Source.{GoesBack, GoesOn, passes}
-
-either : (a b : Bool) → (a || b) ≡ true → (a ≡ true) ⊎ (b ≡ true)
-either true b h = inl refl
-either false b h = inr h
-
-left_is : (a b : Bool) → a ≡ true → (a || b) ≡ true
-left_is a b h = ap (λ c. c || b) h
-
-right_is : (a b : Bool) → b ≡ true → (a || b) ≡ true
-right_is true b h = refl
-right_is false b h = h
 
 -- two parts are a place
 of_parts : (p q : Place) → p.generation ≡ q.generation → p.trans ≡ q.trans → p ≡ q
@@ -50,14 +39,14 @@ trans_same a b same =
     ((options_equiv nat_list_eq_equiv).refl a)
 
 fits_true : (es : List Entry) (p : Place) → FitsLog es p → fits_log es p ≡ true
-fits_true es p (inl start) = left_is (eqb p.generation 0) _ (eq-eqb p.generation 0 start)
+fits_true es p (inl start) = or_left (eqb p.generation 0) _ (eq-eqb p.generation 0 start)
 fits_true es p (inr at) =
-    right_is (eqb p.generation 0) _
+    or_right (eqb p.generation 0) _
     (both _ _ (le-leb p.generation (length es) at.0) (trans_same (trans_at es p.generation) p.trans at.1))
 
 true_fits : (es : List Entry) (p : Place) → fits_log es p ≡ true → FitsLog es p
 true_fits es p h =
-    elim (either (eqb p.generation 0) _ h) [
+    elim (or_cases (eqb p.generation 0) _ h) [
       | inl start ↦ inl (eqb-true p.generation 0 start)
       | inr at ↦ inr (
         leb-true p.generation (length es) (first _ _ at),
@@ -90,13 +79,13 @@ pub goes_on : (kept to : Place) → GoesOn kept to ↔ (passes kept to ≡ true)
 goes_on kept to = (on_true, true_on)
   where
     on_true : GoesOn kept to → passes kept to ≡ true
-    on_true (inl later) = left_is (ltb kept.generation to.generation) _ (lt-ltb kept.generation to.generation later)
+    on_true (inl later) = or_left (ltb kept.generation to.generation) _ (lt-ltb kept.generation to.generation later)
     on_true (inr here) =
-        right_is (ltb kept.generation to.generation) _ (is_same_place to kept (of_parts to kept here.0 here.1))
+        or_right (ltb kept.generation to.generation) _ (is_same_place to kept (of_parts to kept here.0 here.1))
 
     true_on : passes kept to ≡ true → GoesOn kept to
     true_on h =
-        elim (either (ltb kept.generation to.generation) _ h) [
+        elim (or_cases (ltb kept.generation to.generation) _ h) [
           | inl later ↦ inl (ltb-true kept.generation to.generation later)
           | inr here ↦
               let same : to ≡ kept = same_place_is to kept here in

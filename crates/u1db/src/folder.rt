@@ -1,17 +1,11 @@
 //! The lock of a run that makes a store: before there is a root, nothing of the store itself can be
 //! locked.
-use disk_model::{FileCall, FileFault};
+use disk_model::{FileCall, FileFault, LOCK_TRIES, LOCK_WAIT};
 use std::fs::{self, File, TryLockError};
 use std::io::{self, ErrorKind};
 use std::path::Path;
 use std::thread;
 use std::time::Duration;
-
-/// How often the lock is tried: for about five seconds.
-const LOCK_TRIES: u32 = 50;
-
-/// The time between two tries, in milliseconds.
-const LOCK_WAIT: u64 = 100;
 
 /// Locks the folder in which the folder of a store lies, until what it gives is dropped. So two
 /// runs that would make one store come one after the other, also where its folder is not there yet.

@@ -12,7 +12,7 @@ mod usage;
 
 use crate::files::{Files, disks_of};
 use crate::folder::hold_folder;
-use crate::output::{Output, hold_closed};
+use crate::output::{InPieces, Output, hold_closed};
 use crate::sentence::{damaged, disk_fault, failed, folder_fault, full, say};
 use crate::usage::usage;
 use cli_words::{Command, WordsFault, read_words};
@@ -30,8 +30,9 @@ use std::rt::Stdout;
 use store_commands::finish;
 use u1_base::{Memory, Text, Texts};
 
-/// The standard output. What is printed is handed on in pieces of 8 KiB, and the rest at the end.
-type Printed = StdSink<BufWriter<Output<Stdout>>>;
+/// The standard output. What is printed is handed on in pieces of 4 to 8 KiB, and the rest at the
+/// end.
+type Printed = StdSink<InPieces<BufWriter<Output<Stdout>>>>;
 
 fn main(rt: HostRuntime) -> ExitCode {
     // Held until the end, so that no file of the store takes the number of a standard stream.
@@ -61,7 +62,7 @@ fn prepare(rt: &HostRuntime) -> Result<(Texts, Files, Printed), Memory> {
     let disks = disks_of(rt, words.as_slice())?;
     let output = Output::new(rt, rt.stdout(), "/proc/self/fd/1");
     match BufWriter::new(rt.alloc(), output) {
-        Ok(writer) => Ok((words, disks, StdSink::new(writer))),
+        Ok(writer) => Ok((words, disks, StdSink::new(InPieces::new(writer)))),
         Err(_) => Err(Memory),
     }
 }

@@ -35,6 +35,33 @@ fn hold(rt: &HostRuntime, stream: BorrowedFd<'_>) -> io::Result<Option<File>> {
     Ok(Some(File::open(rt, "/")?))
 }
 
+// So many bytes are taken at a time.
+const PIECE_BYTES: usize = 4096;
+
+/// A writer that takes at most 4 KiB at a time. A buffer of 8 KiB behind it, which is handed on
+/// when the next piece does not fit, is then more than half full.
+#[derive(Drop)]
+pub struct InPieces<W: Write + Drop> {
+    to: W,
+}
+
+impl<W: Write + Drop> InPieces<W> {
+    pub fn new(to: W) -> InPieces<W> {
+        InPieces { to }
+    }
+}
+
+impl<W: Write + Drop> Write for InPieces<W> {
+    fn write(&mut self, buf: &[u8]) -> io::Result<usize> {
+        let most = buf.len().min(PIECE_BYTES);
+        self.to.write(&buf[..most])
+    }
+
+    fn flush(&mut self) -> io::Result<()> {
+        self.to.flush()
+    }
+}
+
 /// A writer to a standard stream. Where that is a file which may not grow so far, a write fails
 /// before the system would end the program by a signal.
 #[derive(Drop)]

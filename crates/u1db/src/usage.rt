@@ -9,7 +9,7 @@ use u1_base::limits::{
 };
 use u1_base::{Memory, Text};
 
-/// The commands, in the order in which they are listed.
+/// The commands that are built, in the order in which they are listed.
 const COMMANDS: [&str; 18] = [
     "init",
     "create",
@@ -31,8 +31,8 @@ const COMMANDS: [&str; 18] = [
     "compact",
 ];
 
-/// The usage of the command that the words name, or of all commands. For a word that is refused,
-/// that word comes first, and what it has to be.
+/// The usage of the command that the words name, one that is not built among them, or of all that
+/// are built. For a word that is refused, that word comes first, and what it has to be.
 pub fn usage(alloc: Global, words: &[Text], kind: UsageKind) -> Result<String, Memory> {
     let mut text = String::new(alloc);
     if let UsageKind::Value(place) = kind {
@@ -47,7 +47,7 @@ pub fn usage(alloc: Global, words: &[Text], kind: UsageKind) -> Result<String, M
 
 fn push_usage(text: &mut String, command: &str) -> Result<(), Memory> {
     match operands_shown(command) {
-        Some(shown) if is_listed(command) => {
+        Some(shown) if !is_of_views(command) => {
             text.push_str("usage: u1db DIR ")?;
             push_line(text, command, shown)
         }
@@ -55,8 +55,9 @@ fn push_usage(text: &mut String, command: &str) -> Result<(), Memory> {
     }
 }
 
-fn is_listed(command: &str) -> bool {
-    COMMANDS.iter().any(|listed| *listed == command)
+// Those are no commands yet, whatever their operands.
+fn is_of_views(command: &str) -> bool {
+    command.starts_with("view-")
 }
 
 fn push_all(text: &mut String) -> Result<(), Memory> {

@@ -21,9 +21,9 @@ use Rattle.u1_base.specs.declared.limits.TheConstants.{GREATEST_COUNT}
 use Rattle.vector_rev.specs.Counts.{Uid, Entries}
 use Rattle.vector_rev.proofs.Truths.{both, first, second, T_true, true_T}
 use Rattle.vector_rev.specs.Clock.{Clock, is_entry, is_limited}
-use Rattle.vector_rev.specs.ClockText.{IsFirstUnsorted, IsTextFault, TakesEntries, OrdersEntries, is_numeral}
+use Rattle.vector_rev.specs.ClockText.{IsFirstUnsorted, IsTextFault, TakesEntries, is_numeral}
 use Rattle.vector_rev.specs.ClockText.{is_counter, is_entry_text, entry_of, entries_text, parts_of}
-use Rattle.vector_rev.specs.Parts.{EntryIs, ReadsEntries}
+use Rattle.vector_rev.specs.Parts.{EntryIs, OrdersEntries, ReadsEntries}
 use Rattle.vector_rev.specs.declared.read.ClockFault.{ClockFault}
 use Rattle.vector_rev.specs.declared.read.ClockFault.TheVariants as fault
 use Rattle.vector_rev.proofs.CountsLaws.{less_is}
@@ -60,12 +60,9 @@ sorted_push (f ∷ front) a b =
     (is_lt (id_cmp f.0 b.0))
     (λ below last. lt_trans f.0 a.0 b.0 (last_below below) last)
   where
-    last_of_two : (x y : Bool) → (x && y) ≡ true → y ≡ true
-    last_of_two true y e = e
-    last_of_two false y e = absurd (true≢false (sym e))
-
     last_below : below_all id_cmp f.0 (front ++ a ∷ []) ≡ true → is_lt (id_cmp f.0 a.0) ≡ true
-    last_below e = last_of_two (below_all id_cmp f.0 front) _ (sym (below_push f.0 front a) ∙ e)
+    last_below e =
+        (and_parts (below_all id_cmp f.0 front) (is_lt (id_cmp f.0 a.0)) (sym (below_push f.0 front a) ∙ e)).1
 
 -- one entry more
 pub sorted_more : (es : Entries) (i : ℕ) (a b : Uid × ℕ) → 1 ≤ i → i < length es → a ≡ get_or es (i - 1) a

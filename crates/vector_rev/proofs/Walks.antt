@@ -7,6 +7,7 @@ use Rattle.std.specs.Cmp.Lexicographic.{pointwise, nat_list_cmp_total, texts_tie
 use Rattle.std.specs.FinMap.Entries.{find, is_sorted, below_all}
 use Rattle.std.proofs.lemmas.List.{at_drop_more, drop_more, drop_all}
 use Rattle.std.proofs.lemmas.Bool.{cases_lt, lt-leb}
+use mathlib.Core.Bool.{and-false}
 use Rattle.u1_base.specs.Ids.{IsId, id_cmp, same_id}
 use Rattle.u1_base.specs.declared.ids.Form.TheVariants as form_of
 use Rattle.u1_base.specs.declared.limits.TheConstants.{GREATEST_COUNT}
@@ -115,10 +116,6 @@ pub from_place : (es : Entries) (i : ℕ) (e : Uid × ℕ) → i < length es →
     → drop i es ≡ e ∷ drop (i + 1) es
 from_place es i e below at = drop_more es i e below ∙ ap (λ (f : Uid × ℕ). f ∷ drop (i + 1) es) (sym at)
 
-and_false : (b : Bool) → (b && false) ≡ false
-and_false true = refl
-and_false false = refl
-
 and_assoc : (a b c : Bool) → (a && (b && c)) ≡ ((a && b) && c)
 and_assoc true b c = refl
 and_assoc false b c = refl
@@ -140,7 +137,7 @@ compared_less xs ys i j f b x y li lj ax ay less k =
           ∙ ap (λ c. f && c) (covers_less x y (drop (i + 1) xs) (drop (j + 1) ys) less h
           ∙ ap (covers_entries (drop (i + 1) xs)) (sym dy));
       right_covers = k.right_covers ∙ ap₂ (λ es fs. b && covers_entries fs es) dx dy
-          ∙ ap (λ c. b && c) (covers_missing x y (drop (i + 1) xs) (drop (j + 1) ys) less g h) ∙ and_false b;
+          ∙ ap (λ c. b && c) (covers_missing x y (drop (i + 1) xs) (drop (j + 1) ys) less g h) ∙ and-false b;
     }
 
 pub compared_greater : (xs ys : Entries) (i j : ℕ) (f b : Bool) (x y : Uid × ℕ) → i < length xs → j < length ys

@@ -97,12 +97,3 @@ IsEntriesFault es Memory = ⊥
 abbrev pub TakesEntries : Entries → Result Clock ClockFault → Type 0
 TakesEntries es (Ok x) = x.entries ≡ es
 TakesEntries es (Err fault) = IsEntriesFault es fault
-
--- private to the reader: entries that keep the limits, as far as their order goes
-abbrev pub OrdersEntries : Entries → Result Clock ClockFault → Type 0
-OrdersEntries es (Ok x) = x.entries ≡ es
-OrdersEntries es (Err (NotSorted i)) = IsFirstUnsorted es i
-OrdersEntries es (Err Empty) = ⊥
-OrdersEntries es (Err TooMany) = ⊥
-OrdersEntries es (Err (BadEntry i)) = ⊥
-OrdersEntries es (Err Memory) = ⊥

@@ -1,5 +1,5 @@
 -- The clocks that are made of others: by counters, and when there is none.
-use Rattle.std.specs.Prelude.{◌≡◌, ◌≢◌, ℕ, ◌+◌, ◌<◌, ◌≤◌, max, ◌⊎◌, length, filter, is_none, List, codes, Result, Ok}
+use Rattle.std.specs.Prelude.{◌≡◌, ◌≢◌, ℕ, ◌+◌, ◌<◌, max, ◌⊎◌, length, filter, is_none, List, codes, Result, Ok}
 use Rattle.std.specs.Prelude.{Err, ◌++◌}
 use Rattle.std.specs.Fmt.{decimal}
 use Rattle.std.specs.FinMap.Entries.{find}
@@ -34,12 +34,6 @@ pub record IsNext (x : Clock) (own : Uid) (z : Clock) : Type 0 where
 -- the own counter cannot be raised: it is the greatest, or its entry would be the 65th
 abbrev pub IsFull : Clock → Uid → Type 0
 IsFull x own = (count_of x own ≡ GREATEST_COUNT) ⊎ ((count_of x own ≡ 0) × (length x.entries ≡ MOST_CLOCK_ENTRIES))
-
--- private to raising: n is the own counter raised by one, and the clock keeps the limits with it
-pub record HasRoom (x : Clock) (own : Uid) (n : ℕ) : Type 0 where
-  pub raised : n ≡ count_of x own + 1
-  pub small : n ≤ GREATEST_COUNT
-  pub room : (1 ≤ count_of x own) ⊎ (length x.entries < MOST_CLOCK_ENTRIES)
 
 -- a clock is raised where it is not full
 abbrev pub Raises : Clock → Uid → Result Clock NextFault → Type 0

@@ -1,7 +1,8 @@
 //! Clocks made of others: the join of two clocks, and a clock with one counter raised.
 ghost use Rattle.std.specs.Prelude.{◌≡◌, IfOk, MatchOption};
 ghost use Rattle.vector_rev.specs.Counts.{join, raised};
-ghost use Rattle.vector_rev.specs.Made.{HasRoom, IsFull, Joins, Raises};
+ghost use Rattle.vector_rev.specs.Made.{IsFull, Joins, Raises};
+ghost use Rattle.vector_rev.specs.Standing.{HasRoom};
 
 use crate::Clock;
 use crate::places::{put_each, put_greater};

@@ -4,13 +4,13 @@ ghost use Rattle.std.specs.Prelude.{count_by, not, position, Some, string_bytes}
 ghost use Rattle.std.specs.Char.{is_ascii_digit};
 ghost use Rattle.std.specs.Str.Parse.{digits_value};
 ghost use Rattle.vector_rev.specs.Clock.{is_entry, is_limited};
-ghost use Rattle.vector_rev.specs.ClockText.{IsFirstUnsorted, OrdersEntries, ReadsClock};
-ghost use Rattle.vector_rev.specs.ClockText.{TakesEntries, clock_text, entry_text, is_counter};
-ghost use Rattle.vector_rev.specs.ClockText.{is_numeral, parts_of};
+ghost use Rattle.vector_rev.specs.ClockText.{IsFirstUnsorted, ReadsClock, TakesEntries};
+ghost use Rattle.vector_rev.specs.ClockText.{clock_text, entry_text, is_counter, is_numeral};
+ghost use Rattle.vector_rev.specs.ClockText.{parts_of};
 ghost use Rattle.std.specs.FinMap.Entries.{is_sorted};
 ghost use Rattle.std.specs.List.{list_all};
 ghost use Rattle.u1_base.specs.Ids.{id_cmp};
-ghost use Rattle.vector_rev.specs.Parts.{EntryIs, ReadsEntries, UidIs, separated};
+ghost use Rattle.vector_rev.specs.Parts.{EntryIs, OrdersEntries, ReadsEntries, UidIs, separated};
 
 use crate::{Clock, ClockEntries, ClockEntry};
 use itoa::Buffer;

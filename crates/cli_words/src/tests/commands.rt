@@ -5,7 +5,7 @@ use std::alloc::Global;
 use std::test::Fail;
 
 // Each command, with its operands at their limits and its option in each way.
-const LINES: [&str; 43] = [
+const LINES: [&str; 45] = [
     "DIR init db",
     "DIR init db a",
     "DIR init db --limit 1024",
@@ -31,6 +31,7 @@ const LINES: [&str; 43] = [
     "DIR query -- i -5 --",
     "DIR range i open open",
     "DIR range i [\"a\"] [\"a\",\"b\"]",
+    "DIR range i [\"1\",\"2\",\"3\",\"4\",\"5\",\"6\",\"7\",\"8\"] open",
     "DIR keys i",
     "DIR keys -",
     "DIR all",
@@ -45,6 +46,7 @@ const LINES: [&str; 43] = [
     "DIR serve-docs 80 2",
     "DIR node 80 http://h/db 1 0",
     "DIR node 80 http://h/db 1000 100",
+    "DIR work 0 0",
     "DIR work 18446744073709551615 100000",
     "DIR view-create v i a* *",
     "DIR view-show v",

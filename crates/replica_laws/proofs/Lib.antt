@@ -1,0 +1,3 @@
+pub mod SameKept
+pub mod SameStates
+pub mod LentAnswers

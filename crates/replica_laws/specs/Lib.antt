@@ -1,0 +1,3 @@
+-- What holds of all states.
+pub mod SameLists
+pub mod IndexAnswers
