@@ -10,8 +10,15 @@
 //! text, a `front` of it or something `other`; and whether a next command finds the store as
 //! `before`, as `after` it, or the `same`, where the command changes nothing. Where a call fails
 //! outside of the command it prints `unprepared`.
+//!
+//! Or it makes one writing call over a replica in memory, where standard input has `call` and its
+//! name, as `put-doc`. It prints `ANSWER STATE`: what the call answered, `ok`, `memory`, `refused`,
+//! `full` or `disk`; and whether the state is the one `before` the call, the one `after` it, or an
+//! `other`. Where memory ran out in the call it is made once more, and the line goes on with
+//! `ANSWER STATE` of that. Where memory ran out outside of the call it prints `unprepared`.
 #![tactic(auto)]
 
+mod calls;
 #[cfg(test)]
 mod checks;
 #[cfg(test)]
@@ -22,13 +29,15 @@ mod harness;
 mod images;
 #[cfg(test)]
 mod order;
+mod readings;
 mod starved;
 #[cfg(test)]
 mod stories;
 mod table;
 
-use crate::starved::line_of;
+use std::alloc::Global;
 use std::process::ExitCode;
+use u1_base::Memory;
 
 fn main(rt: HostRuntime) -> ExitCode {
     let alloc = rt.alloc();
@@ -42,5 +51,14 @@ fn main(rt: HostRuntime) -> ExitCode {
         ExitCode::SUCCESS
     } else {
         ExitCode::from(1)
+    }
+}
+
+// Does what the order says, and tells what came of it.
+fn line_of(alloc: Global, order: &str) -> Result<String, Memory> {
+    match order.trim().split_once(' ') {
+        Some(("call", name)) => calls::line_of(alloc, name),
+        Some((command, spent)) => starved::line_of(alloc, command, spent),
+        None => Ok(String::from_str(alloc, "no order")?),
     }
 }

@@ -6,11 +6,9 @@ use command_lines::outcome_status;
 use std::alloc::Global;
 use u1_base::Memory;
 
-/// Does what the order says, and tells what came of it.
-pub fn line_of(alloc: Global, order: &str) -> Result<String, Memory> {
-    let Some((command, spent)) = order.trim().split_once(' ') else {
-        return Ok(String::from_str(alloc, "no order")?);
-    };
+/// Makes so many calls for memory as the second word says, then runs the command, and tells what
+/// came of it.
+pub fn line_of(alloc: Global, command: &str, spent: &str) -> Result<String, Memory> {
     call_for_memory(alloc, spent.parse().unwrap_or(0))?;
     match command.parse::<usize>() {
         Ok(number) => match COMMANDS.get(number) {

@@ -2,6 +2,6 @@ pub mod Chunks
 pub mod Edits
 pub mod Ends
 pub mod Halves
-pub mod Kept
+pub mod Chunked
 pub mod Looks
 pub mod Sorted

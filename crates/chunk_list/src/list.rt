@@ -39,11 +39,11 @@ pub struct ChunkList<T> {
 }
 
 impl<T> Model for ChunkList<T> {
-    ghost use Rattle.chunk_list.specs.Kept.{Kept, kept_code};
+    ghost use Rattle.chunk_list.specs.Chunked.{Chunked, chunked_code};
 
-    ghost Value = { Kept T };
+    ghost Value = { Chunked T };
 
-    ghost coded = { kept_code T.code };
+    ghost coded = { chunked_code T.code };
 
     ghost use Rattle.chunk_list.specs.Chunks.{joined, IsSound};
 

@@ -7,6 +7,7 @@ use Rattle.conflicts.specs.Lists.{In}
 use Rattle.conflicts.specs.Document.{member_of}
 use Rattle.conflicts.specs.State.{Text, History, accepts_in, indexes_in, state_of}
 use Rattle.conflicts.specs.declared.accept.Accept.{Accept}
+use Rattle.replica_state.specs.Held.{Held, lists_of, meaning}
 use Rattle.compaction.specs.Compaction.{compacted, compaction, is_at, trimmed}
 use Rattle.compaction.specs.Images.{image_of}
 
@@ -21,6 +22,9 @@ pub record CompactionKeeps : Type 0 where
   -- nor of what later steps make of it, whether they fit or not
   pub goes_on : (name : Text) (uid : Uid) (h later : History) →
       state_of name uid (compaction h ++ later) ≡ state_of name uid (h ++ later)
+  -- so a replica that stands for the compaction has the lists of one that stands for the history
+  pub lists : (name : Text) (uid : Uid) (h : History) (x y : Held) → meaning x ≡ state_of name uid (compaction h)
+      → meaning y ≡ state_of name uid h → lists_of x ≡ lists_of y
   -- of each document just the acceptances of its members are left, in their order, and just the current one is marked
   pub members : (name : Text) (uid : Uid) (d : Text) (h : History) →
       map member_of (flat_map (accepts_in d) (compaction h)) ≡ ((state_of name uid h).document d).members

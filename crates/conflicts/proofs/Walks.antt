@@ -19,8 +19,8 @@ use Rattle.conflicts.specs.Decision.{same_content, is_alike, is_unlike, alike, u
 use Rattle.conflicts.specs.Walk.{IsMerging, LooksAt, FoundAt, StepsTo, seen, SomeNewer, SomeSame}
 use Rattle.conflicts.specs.declared.member.Member.{Member}
 use Rattle.conflicts.specs.declared.merges.Merging.{Merging}
-use Rattle.conflicts.specs.declared.merges.Found.{Found}
-use Rattle.conflicts.specs.declared.merges.Found.TheVariants.{Newer, Same, Neither}
+use Rattle.conflicts.specs.declared.merges.Met.{Met}
+use Rattle.conflicts.specs.declared.merges.Met.TheVariants.{Newer, Same, Neither}
 use Rattle.conflicts.proofs.Apart.{same_itself, In-get, ordered_not}
 use Rattle.conflicts.proofs.Loops.{revs-append, seen_current, seen_other, seen_all}
 use Rattle.conflicts.proofs.MadeClocks.{greatest-append}
@@ -163,7 +163,7 @@ same_found k x i m low here other e = record {
 }
 
 -- what a look at another member finds is what the step finds
-pub step_found : {E : Type 0} (r : Result Found E) (k : Kept) (x : Member) (own : Uid) (i : ℕ) (m : Member)
+pub step_found : {E : Type 0} (r : Result Met E) (k : Kept) (x : Member) (own : Uid) (i : ℕ) (m : Member)
     (old new : Merging) → i < length k.members → m ≡ get_or k.members i m → (i ≡ k.place → ⊥)
     → IfOk r (FoundAt x own m old new) → IfOk r (StepsTo k x own i old new)
 step_found (Ok Newer) k x own i m old new low here other h = newer_found k x i m low here other h

@@ -9,8 +9,8 @@ use Rattle.conflicts.specs.Kept.{Kept, current, current_first}
 use Rattle.conflicts.specs.Making.{greatest, revs}
 use Rattle.conflicts.specs.declared.member.Member.{Member}
 use Rattle.conflicts.specs.declared.merges.Merging.{Merging}
-use Rattle.conflicts.specs.declared.merges.Found.{Found}
-use Rattle.conflicts.specs.declared.merges.Found.TheVariants.{Newer, Same, Neither}
+use Rattle.conflicts.specs.declared.merges.Met.{Met}
+use Rattle.conflicts.specs.declared.merges.Met.TheVariants.{Newer, Same, Neither}
 
 -- the merge of x with those of the members ms that are alike; none of ms covers x
 pub record IsMerging (k : Kept) (x : Member) (own : Uid) (ms : List Member) (m : Merging) : Type 0 where
@@ -27,7 +27,7 @@ pub record LooksAt (x : Member) (own : Uid) (n : Member) (old new : Merging) : T
   pub most : new.most ≡ max (greatest own (revs (unlike x (n ∷ [])))) old.most
 
 -- what a look at the member n finds
-abbrev pub FoundAt : Member → Uid → Member → Merging → Merging → Found → Type 0
+abbrev pub FoundAt : Member → Uid → Member → Merging → Merging → Met → Type 0
 FoundAt x own n old new Newer = dominates n.rev x.rev ≡ true
 FoundAt x own n old new Same = n.rev ≡ x.rev
 FoundAt x own n old new Neither = LooksAt x own n old new
@@ -46,14 +46,14 @@ pub record SomeSame (k : Kept) (x : Member) : Type 0 where
   pub same : has_rev (others (current k).rev k.members) x.rev ≡ true
 
 -- what a step of the walk finds at a place
-abbrev pub StepsTo : Kept → Member → Uid → ℕ → Merging → Merging → Found → Type 0
+abbrev pub StepsTo : Kept → Member → Uid → ℕ → Merging → Merging → Met → Type 0
 StepsTo k x own place old new Newer = SomeNewer k x
 StepsTo k x own place old new Same = SomeSame k x
 StepsTo k x own place old new Neither =
     IsMerging k x own (seen k place) old → IsMerging k x own (seen k (place + 1)) new
 
 -- and the whole walk
-abbrev pub WalksTo : Kept → Member → Uid → Merging → Found → Type 0
+abbrev pub WalksTo : Kept → Member → Uid → Merging → Met → Type 0
 WalksTo k x own m Newer = SomeNewer k x
 WalksTo k x own m Same = SomeSame k x
 WalksTo k x own m Neither = IsMerging k x own (current_first k) m

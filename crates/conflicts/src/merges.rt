@@ -19,7 +19,7 @@ use u1_base::{Memory, ReplicaUid};
 use vector_rev::{Clock, Clocks, Order};
 
 // What is found of the revision.
-pub(crate) enum Found {
+pub(crate) enum Met {
     // A member is newer.
     Newer,
     // A member has it.
@@ -63,23 +63,23 @@ pub(crate) fn merging_with(
 }
 
 // Looks at the members that are not the current one.
-pub(crate) fn walk(
+pub(crate) fn look_at_others(
     merging: &mut Merging,
     set: &DocSet,
     incoming: &Member,
     own: &ReplicaUid,
-) -> Result<Found, Memory>
+) -> Result<Met, Memory>
     requires { IsMerging set.now incoming.now own.now (seen set.now 0) merging.old }
     ensures { IfOk result (WalksTo set.now incoming.now own.now merging.new) }
 {
     for place in 0..set.members().len() {
         match step(merging, set, place, incoming, own)? {
-            Found::Newer => return Ok(Found::Newer),
-            Found::Same => return Ok(Found::Same),
-            Found::Neither => {}
+            Met::Newer => return Ok(Met::Newer),
+            Met::Same => return Ok(Met::Same),
+            Met::Neither => {}
         }
     }
-    Ok(Found::Neither)
+    Ok(Met::Neither)
 }
 
 // Looks at the member at the place, unless it is the current one.
@@ -89,12 +89,12 @@ fn step(
     place: usize,
     incoming: &Member,
     own: &ReplicaUid,
-) -> Result<Found, Memory>
+) -> Result<Met, Memory>
     requires { place < length set.now.members }
     ensures { IfOk result (StepsTo set.now incoming.now own.now place merging.old merging.new) }
 {
     if place == set.place() {
-        return Ok(Found::Neither);
+        return Ok(Met::Neither);
     }
     look_at(merging, &set.members()[place], incoming, own)
 }
@@ -105,13 +105,13 @@ fn look_at(
     member: &Member,
     incoming: &Member,
     own: &ReplicaUid,
-) -> Result<Found, Memory>
+) -> Result<Met, Memory>
     ensures { IfOk result (FoundAt incoming.now own.now member.now merging.old merging.new) }
 {
     match incoming.rev.order(&member.rev) {
-        Order::Older => Ok(Found::Newer),
-        Order::Equal => Ok(Found::Same),
-        Order::Newer => Ok(Found::Neither),
+        Order::Older => Ok(Met::Newer),
+        Order::Equal => Ok(Met::Same),
+        Order::Newer => Ok(Met::Neither),
         Order::Apart => look_beside(merging, member, incoming, own),
     }
 }
@@ -122,14 +122,14 @@ fn look_beside(
     member: &Member,
     incoming: &Member,
     own: &ReplicaUid,
-) -> Result<Found, Memory>
+) -> Result<Met, Memory>
     requires not_newer { covers incoming.now.rev member.now.rev ≡ false }
     requires not_older { covers member.now.rev incoming.now.rev ≡ false }
     ensures { IfOk result (FoundAt incoming.now own.now member.now merging.old merging.new) }
 {
     let alike = same_contents(&member.content, &incoming.content);
     note(merging, member, alike, own)?;
-    Ok(Found::Neither)
+    Ok(Met::Neither)
 }
 
 // Notes a member that has the content of the incoming revision, or that has another one.

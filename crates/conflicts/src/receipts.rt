@@ -6,7 +6,7 @@ ghost use Rattle.conflicts.specs.Kept.{current, current_first, document};
 ghost use Rattle.conflicts.specs.Walk.{IsMerging};
 
 use crate::member::copied;
-use crate::merges::{Found, Merging, merged, merging_with, walk};
+use crate::merges::{Merging, Met, look_at_others, merged, merging_with};
 use crate::{Accept, DocSet, Making, Member};
 use std::alloc::Global;
 use u1_base::{Memory, ReplicaUid};
@@ -80,10 +80,10 @@ fn receive_apart(
     ensures { IfOk result (λ t. t ≡ decides (document (Some set.now)) incoming.now save own.now) }
 {
     let mut merging = merging_with(alloc, set, incoming, own)?;
-    match walk(&mut merging, set, incoming, own)? {
-        Found::Newer => Ok(unchanged(Outcome4::Superseded)),
-        Found::Same => conflicted(alloc, incoming, save),
-        Found::Neither => merge(alloc, set, merging, incoming, save, own),
+    match look_at_others(&mut merging, set, incoming, own)? {
+        Met::Newer => Ok(unchanged(Outcome4::Superseded)),
+        Met::Same => conflicted(alloc, incoming, save),
+        Met::Neither => merge(alloc, set, merging, incoming, save, own),
     }
 }
 

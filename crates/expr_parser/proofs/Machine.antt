@@ -6,7 +6,7 @@ use Rattle.std.specs.List.{list_all}
 use Rattle.std.proofs.lemmas.Bool.{and_parts}
 use Rattle.expr_parser.specs.Forms.{Form, field}
 use Rattle.expr_parser.specs.Grammar.{is_white, is_part, IsWhite, IsPart}
-use Rattle.expr_parser.specs.Descent.{front_of, rest_of, Fails}
+use Rattle.expr_parser.specs.Descent.{lead_of, rest_of, Fails}
 use Rattle.expr_parser.specs.Machine.{Open, State, begin, word, dot, behind, done, more, width, spaced, step, run}
 use Rattle.expr_parser.specs.Machine.{onward}
 use Rattle.expr_parser.proofs.Classes.{white_not_part, is_white-comma, is_white-close, is_white-dot, is_part-comma}
@@ -20,10 +20,10 @@ pub stops : (s : State) (c : ℕ) (cs : List ℕ) → step s c ≡ None → run 
 stops s c cs e = ap (λ (o : Option State). onward o (λ u. run u cs) (c ∷ cs)) e
 
 -- the front and the rest of a text
-pub front_rest : (p : ℕ → Bool) (cs : List ℕ) → front_of p cs ++ rest_of p cs ≡ cs
+pub front_rest : (p : ℕ → Bool) (cs : List ℕ) → lead_of p cs ++ rest_of p cs ≡ cs
 front_rest p [] = refl
 front_rest p (c ∷ cs) =
-    elim (p c) as (λ b. cond b (c ∷ front_of p cs) [] ++ cond b (rest_of p cs) (c ∷ cs) ≡ c ∷ cs)
+    elim (p c) as (λ b. cond b (c ∷ lead_of p cs) [] ++ cond b (rest_of p cs) (c ∷ cs) ≡ c ∷ cs)
     [ true ↦ ap (λ (xs : List ℕ). c ∷ xs) (front_rest p cs) | false ↦ refl ]
 
 one_more_passes : (p : ℕ → Bool) (c : ℕ) (front : List ℕ) (b : Bool) → p c ≡ b → list_all p front ≡ true
@@ -31,9 +31,9 @@ one_more_passes : (p : ℕ → Bool) (c : ℕ) (front : List ℕ) (b : Bool) →
 one_more_passes p c front true e h = rw (e, h) refl
 one_more_passes p c front false e h = refl
 
-pub front_passes : (p : ℕ → Bool) (cs : List ℕ) → list_all p (front_of p cs) ≡ true
+pub front_passes : (p : ℕ → Bool) (cs : List ℕ) → list_all p (lead_of p cs) ≡ true
 front_passes p [] = refl
-front_passes p (c ∷ cs) = one_more_passes p c (front_of p cs) (p c) refl (front_passes p cs)
+front_passes p (c ∷ cs) = one_more_passes p c (lead_of p cs) (p c) refl (front_passes p cs)
 
 here_fails : (p : ℕ → Bool) (c : ℕ) (cs rest : List ℕ) (b : Bool) → p c ≡ b → Fails p rest
     → Fails p (cond b rest (c ∷ cs))
@@ -44,7 +44,7 @@ pub rest_fails : (p : ℕ → Bool) (cs : List ℕ) → Fails p (rest_of p cs)
 rest_fails p [] = tt
 rest_fails p (c ∷ cs) = here_fails p c cs (rest_of p cs) (p c) refl (rest_fails p cs)
 
-pub length-rest_of : (p : ℕ → Bool) (cs : List ℕ) → length (front_of p cs) + length (rest_of p cs) ≡ length cs
+pub length-rest_of : (p : ℕ → Bool) (cs : List ℕ) → length (lead_of p cs) + length (rest_of p cs) ≡ length cs
 length-rest_of p cs = sym (simp length-append refl) ∙ ap length (front_rest p cs)
 
 -- where nothing passes, nothing is taken
@@ -65,7 +65,7 @@ white_run s stays (c ∷ w) t e =
 pub rest_run : (s : State) → Stays s → (cs : List ℕ) → run s cs ≡ run s (rest_of is_white cs)
 rest_run s stays cs =
     ap (run s) (sym (front_rest is_white cs))
-    ∙ white_run s stays (front_of is_white cs) (rest_of is_white cs) (front_passes is_white cs)
+    ∙ white_run s stays (lead_of is_white cs) (rest_of is_white cs) (front_passes is_white cs)
 
 pub begin_stays : (K : Open) → Stays (begin K)
 begin_stays K c white = let other = white_not_part c white in rw (other, white) refl

@@ -10,7 +10,7 @@ use Rattle.expr_parser.specs.declared.transform.Transform.{Transform}
 use Rattle.expr_parser.specs.declared.transform.Transform.TheVariants.{Lower, SplitWords, Number, Truth, Combine}
 use Rattle.expr_parser.specs.Forms.{Form, field}
 use Rattle.expr_parser.specs.Grammar.{is_white, is_part, IsPart, ArePartsOfField}
-use Rattle.expr_parser.specs.Descent.{Fails, front_of, rest_of}
+use Rattle.expr_parser.specs.Descent.{Fails, lead_of, rest_of}
 use Rattle.expr_parser.specs.Machine.{Open, State, begin, word, dot, behind, done, step, result_of, at_end, run, named}
 use Rattle.expr_parser.proofs.Classes.{is_white-open}
 use Rattle.expr_parser.proofs.Machine.{goes, stops, front_rest, front_passes, rest_fails, length-rest_of, Stays}
@@ -57,17 +57,17 @@ WantsPart s [] = result_of s ≡ None
 WantsPart s (c ∷ cs) = is_part c ≡ false → step s c ≡ None
 
 pub record PartRead (K : Open) (parts : List (List ℕ)) (text : List ℕ) (f : Form) : Type 0 where
-  pub part : IsPart (front_of is_part text)
-  pub goes_on : run (word K parts (encode_utf8_all (front_of is_part text))) (rest_of is_part text) ≡ Ok f
+  pub part : IsPart (lead_of is_part text)
+  pub goes_on : run (word K parts (encode_utf8_all (lead_of is_part text))) (rest_of is_part text) ≡ Ok f
 
 part_case : (s : State) (K : Open) (parts : List (List ℕ)) → Enters s K parts → (c : ℕ) (cs : List ℕ) (f : Form)
     → WantsPart s (c ∷ cs) → run s (c ∷ cs) ≡ Ok f → (b : Bool) → is_part c ≡ b → PartRead K parts (c ∷ cs) f
 part_case s K parts enters c cs f wants h true e =
-    let some : 1 ≤ length (front_of is_part (c ∷ cs)) = rw e (omega arith) in
-    let part : IsPart (front_of is_part (c ∷ cs)) = record { some = some; allowed = front_passes is_part (c ∷ cs) } in
+    let some : 1 ≤ length (lead_of is_part (c ∷ cs)) = rw e (omega arith) in
+    let part : IsPart (lead_of is_part (c ∷ cs)) = record { some = some; allowed = front_passes is_part (c ∷ cs) } in
     record {
       part = part;
-      goes_on = sym (enter_run s K parts enters (front_of is_part (c ∷ cs)) (rest_of is_part (c ∷ cs)) part)
+      goes_on = sym (enter_run s K parts enters (lead_of is_part (c ∷ cs)) (rest_of is_part (c ∷ cs)) part)
           ∙ (ap (run s) (front_rest is_part (c ∷ cs)) ∙ h);
     }
 part_case s K parts enters c cs f wants h false e = no_form_where_stuck s c cs f (wants e) h
@@ -117,14 +117,14 @@ no_more_parts K parts part text f past h = record {
 
 one_part_more : (K : Open) (parts : List (List ℕ)) (part cs : List ℕ) (f : Form)
     → (r : PartRead K (parts ++ part ∷ []) cs f)
-    → FieldRead K (parts ++ part ∷ []) (encode_utf8_all (front_of is_part cs)) (rest_of is_part cs) f
+    → FieldRead K (parts ++ part ∷ []) (encode_utf8_all (lead_of is_part cs)) (rest_of is_part cs) f
     → FieldRead K parts part (46 ∷ cs) f
 one_part_more K parts part cs f r left = record {
-  names = front_of is_part cs ∷ left.names;
+  names = lead_of is_part cs ∷ left.names;
   rest = left.rest;
   is = ap (λ (x : List ℕ). 46 ∷ x) (sym (front_rest is_part cs)
-      ∙ (ap (λ (x : List ℕ). front_of is_part cs ++ x) left.is
-      ∙ sym (append_assoc (front_of is_part cs) (dotted left.names) left.rest)));
+      ∙ (ap (λ (x : List ℕ). lead_of is_part cs ++ x) left.is
+      ∙ sym (append_assoc (lead_of is_part cs) (dotted left.names) left.rest)));
   are_parts = (r.part, left.are_parts);
   goes_on = left.goes_on;
 }
@@ -146,8 +146,8 @@ words_case n again K parts part c cs f few no_part h true e =
     part_sound (dot K (parts ++ part ∷ [])) K (parts ++ part ∷ []) (dot_enters K (parts ++ part ∷ [])) cs f
     (dot_wants K (parts ++ part ∷ []) cs) at_dot in
     let fewer : length (rest_of is_part cs) < n = omega (arith, length-rest_of is_part cs) in
-    let left : FieldRead K (parts ++ part ∷ []) (encode_utf8_all (front_of is_part cs)) (rest_of is_part cs) f =
-    again K (parts ++ part ∷ []) (encode_utf8_all (front_of is_part cs)) (rest_of is_part cs) f fewer
+    let left : FieldRead K (parts ++ part ∷ []) (encode_utf8_all (lead_of is_part cs)) (rest_of is_part cs) f =
+    again K (parts ++ part ∷ []) (encode_utf8_all (lead_of is_part cs)) (rest_of is_part cs) f fewer
     (rest_fails is_part cs) r.goes_on in
     subst (λ (x : ℕ). FieldRead K parts part (x ∷ cs) f) (sym same) (one_part_more K parts part cs f r left)
 words_case n again K parts part c cs f few no_part h false e = no_more_parts K parts part (c ∷ cs) f (no_part, e) h

@@ -9,7 +9,7 @@ use Rattle.expr_parser.specs.declared.transform.Transform.TheVariants.{Lower, Sp
 use Rattle.expr_parser.specs.Forms.{Form, field, lower, split_words, number, truth, combine, forms_of}
 use Rattle.expr_parser.specs.Grammar.{is_white, is_part, IsWhite, IsPart, SpellsWidth, Around, Call, Pair, Spells}
 use Rattle.expr_parser.specs.Grammar.{SpellsEach}
-use Rattle.expr_parser.specs.Descent.{Fails, front_of, rest_of}
+use Rattle.expr_parser.specs.Descent.{Fails, lead_of, rest_of}
 use Rattle.expr_parser.specs.Machine.{Open, none, within, combined, State, begin, behind, done, width, digits, spaced}
 use Rattle.expr_parser.specs.Machine.{step, result_of, run, named, goes_on}
 use Rattle.expr_parser.proofs.Classes.{is_white-open, is_white-comma, is_white-close, GoesOn, goes_on-parts}
@@ -42,7 +42,7 @@ record Closed (K : Open) (g : Form) (text : List ℕ) (f : Form) : Type 0 where
 
 closed_from : (K : Open) (g : Form) (cs : List ℕ) (f : Form) → run (done K g) cs ≡ Ok f → Closed K g (41 ∷ cs) f
 closed_from K g cs f h = record {
-  gap = front_of is_white cs;
+  gap = lead_of is_white cs;
   rest = rest_of is_white cs;
   is = ap (λ (x : List ℕ). 41 ∷ x) (sym (front_rest is_white cs));
   white = front_passes is_white cs;
@@ -107,7 +107,7 @@ spaced_after : (K : Open) (g : Form) (n : ℕ) (text : List ℕ) (f : Form) → 
 spaced_after K g n text f some few h = record {
   value = n;
   more_digits = [];
-  gap = front_of is_white text;
+  gap = lead_of is_white text;
   rest = rest_of is_white text;
   is = sym (front_rest is_white text);
   white = front_passes is_white text;
@@ -230,7 +230,7 @@ width_at K g before (c ∷ cs) f white black h = width_case K g before c cs f wh
 width_sound : (K : Open) (g : Form) (text : List ℕ) (f : Form) → run (width K g) text ≡ Ok f → WidthRead K g text f
 width_sound K g text f h =
     subst (λ (x : List ℕ). WidthRead K g x f) (front_rest is_white text)
-    (width_at K g (front_of is_white text) (rest_of is_white text) f (front_passes is_white text)
+    (width_at K g (lead_of is_white text) (rest_of is_white text) f (front_passes is_white text)
     (rest_fails is_white text) (sym (rest_run (width K g) (width_stays K g) text) ∙ h))
 
 -- the arguments of `combine` behind the first
@@ -555,25 +555,25 @@ begun_split n exprs args K text f names (c ∷ cs) few b =
 
 begun : (K : Open) (text : List ℕ) (f : Form) (left : List ℕ) → left ≡ rest_of is_white text
     → (r : PartRead K [] left f)
-    → (w : FieldRead K [] (encode_utf8_all (front_of is_part left)) (rest_of is_part left) f)
+    → (w : FieldRead K [] (encode_utf8_all (lead_of is_part left)) (rest_of is_part left) f)
     → Begun K text f w.names (rest_of is_white w.rest)
 begun K text f left is_left r w = record {
-  before = front_of is_white text;
-  part = front_of is_part left;
-  gap = front_of is_white w.rest;
+  before = lead_of is_white text;
+  part = lead_of is_part left;
+  gap = lead_of is_white w.rest;
   is = sym (front_rest is_white text)
-      ∙ ap (λ (x : List ℕ). front_of is_white text ++ x)
+      ∙ ap (λ (x : List ℕ). lead_of is_white text ++ x)
       (sym is_left ∙ (sym (front_rest is_part left)
-      ∙ (ap (λ (x : List ℕ). front_of is_part left ++ x)
+      ∙ (ap (λ (x : List ℕ). lead_of is_part left ++ x)
       (w.is ∙ ap (λ (x : List ℕ). dotted w.names ++ x) (sym (front_rest is_white w.rest)))
-      ∙ sym (append_assoc (front_of is_part left) (dotted w.names)
-      (front_of is_white w.rest ++ rest_of is_white w.rest)))));
+      ∙ sym (append_assoc (lead_of is_part left) (dotted w.names)
+      (lead_of is_white w.rest ++ rest_of is_white w.rest)))));
   white_before = front_passes is_white text;
   white_gap = front_passes is_white w.rest;
   is_part = r.part;
   are_parts = w.are_parts;
-  goes_on = sym (rest_run (behind_all K [] (encode_utf8_all (front_of is_part left)) w.names)
-      (behind_all_stays K [] (encode_utf8_all (front_of is_part left)) w.names) w.rest) ∙ w.goes_on;
+  goes_on = sym (rest_run (behind_all K [] (encode_utf8_all (lead_of is_part left)) w.names)
+      (behind_all_stays K [] (encode_utf8_all (lead_of is_part left)) w.names) w.rest) ∙ w.goes_on;
   past = rest_fails is_white w.rest;
 }
 
@@ -582,8 +582,8 @@ expr_step n exprs args K text f few h =
     let left : List ℕ = rest_of is_white text in
     let r : PartRead K [] left f = part_sound (begin K) K [] (begin_enters K) left f
     (begin_wants K left (rest_fails is_white text)) (sym (rest_run (begin K) (begin_stays K) text) ∙ h) in
-    let w : FieldRead K [] (encode_utf8_all (front_of is_part left)) (rest_of is_part left) f =
-    words_sound (suc (length (rest_of is_part left))) K [] (encode_utf8_all (front_of is_part left))
+    let w : FieldRead K [] (encode_utf8_all (lead_of is_part left)) (rest_of is_part left) f =
+    words_sound (suc (length (rest_of is_part left))) K [] (encode_utf8_all (lead_of is_part left))
     (rest_of is_part left) f (omega arith) (rest_fails is_part left) r.goes_on in
     let fewer : length (rest_of is_white w.rest) < suc n =
     omega (

@@ -10,7 +10,7 @@ use Rattle.expr_parser.specs.declared.transform.Transform.TheVariants.{Lower, Sp
 use Rattle.expr_parser.specs.Forms.{Form, lower, split_words, number, truth, combine, forms_of}
 use Rattle.expr_parser.specs.FormOf.{form_of}
 use Rattle.expr_parser.specs.Grammar.{is_white, is_part, IsPart}
-use Rattle.expr_parser.specs.Descent.{Fails, Goes, Parses, ReadsPart, StartsPart, front_of, rest_of}
+use Rattle.expr_parser.specs.Descent.{Fails, Goes, Parses, ReadsPart, StartsPart, lead_of, rest_of}
 use Rattle.expr_parser.specs.Machine.{Open, none, within, combined, State, begin, word, dot, behind, done, more, width}
 use Rattle.expr_parser.specs.Machine.{digits, spaced, ready, step, run, goes_on}
 use Rattle.expr_parser.proofs.Classes.{is_part-dot, is_white-comma, digit_not_white, goes_on-parts}
@@ -27,41 +27,41 @@ stops_behind from mid g to to' old middle new Here first later = λ K. first K �
 stops_behind from mid g to to' old middle new Memory first later = tt
 
 -- a part
-no_part_case : (c : ℕ) (cs : List ℕ) (b : Bool) → is_part c ≡ b → length (front_of is_part (c ∷ cs)) ≡ 0
+no_part_case : (c : ℕ) (cs : List ℕ) (b : Bool) → is_part c ≡ b → length (lead_of is_part (c ∷ cs)) ≡ 0
     → is_part c ≡ false
 no_part_case c cs true e none_taken =
-    let some : 1 ≤ length (front_of is_part (c ∷ cs)) = rw e (omega arith) in absurd (omega arith)
+    let some : 1 ≤ length (lead_of is_part (c ∷ cs)) = rw e (omega arith) in absurd (omega arith)
 no_part_case c cs false e none_taken = e
 
-no_part_here : (cs : List ℕ) → length (front_of is_part cs) ≡ 0 → (rest_of is_part cs ≡ cs) × Fails is_part cs
+no_part_here : (cs : List ℕ) → length (lead_of is_part cs) ≡ 0 → (rest_of is_part cs ≡ cs) × Fails is_part cs
 no_part_here [] none_taken = (refl, tt)
 no_part_here (c ∷ cs) none_taken =
     let here = no_part_case c cs (is_part c) refl none_taken in (rw here refl, here)
 
-pub no_part : (cs part : List ℕ) → part ≡ encode_utf8_all (front_of is_part cs) → length part ≡ 0
+pub no_part : (cs part : List ℕ) → part ≡ encode_utf8_all (lead_of is_part cs) → length part ≡ 0
     → (rest_of is_part cs ≡ cs) × Fails is_part cs
 no_part cs part is empty =
-    no_part_here cs (omega (arith, length-le-encodes (front_of is_part cs), ap length is))
+    no_part_here cs (omega (arith, length-le-encodes (lead_of is_part cs), ap length is))
 
 starts_case : (c : ℕ) (cs part : List ℕ) (b : Bool) → is_part c ≡ b
-    → part ≡ encode_utf8_all (front_of is_part (c ∷ cs)) → 0 < length part → is_part c ≡ true
+    → part ≡ encode_utf8_all (lead_of is_part (c ∷ cs)) → 0 < length part → is_part c ≡ true
 starts_case c cs part true e is some = e
 starts_case c cs part false e is some =
-    let nothing : encode_utf8_all (front_of is_part (c ∷ cs)) ≡ [] = rw e refl in
+    let nothing : encode_utf8_all (lead_of is_part (c ∷ cs)) ≡ [] = rw e refl in
     absurd (omega (arith, ap length (is ∙ nothing)))
 
-pub starts_part : (cs part : List ℕ) → part ≡ encode_utf8_all (front_of is_part cs) → 0 < length part → StartsPart cs
+pub starts_part : (cs part : List ℕ) → part ≡ encode_utf8_all (lead_of is_part cs) → 0 < length part → StartsPart cs
 starts_part [] part is some = absurd (omega (arith, ap length is))
 starts_part (c ∷ cs) part is some = starts_case c cs part (is_part c) refl is some
 
 pub part_enters : (s : State) (K : Open) (parts : List (List ℕ)) → Enters s K parts → (cs : List ℕ) → StartsPart cs
-    → run s cs ≡ run (word K parts (encode_utf8_all (front_of is_part cs))) (rest_of is_part cs)
+    → run s cs ≡ run (word K parts (encode_utf8_all (lead_of is_part cs))) (rest_of is_part cs)
 part_enters s K parts enters [] starts = absurd starts
 part_enters s K parts enters (c ∷ cs) starts =
-    let some : 1 ≤ length (front_of is_part (c ∷ cs)) = rw starts (omega arith) in
-    let part : IsPart (front_of is_part (c ∷ cs)) = record { some = some; allowed = front_passes is_part (c ∷ cs) } in
+    let some : 1 ≤ length (lead_of is_part (c ∷ cs)) = rw starts (omega arith) in
+    let part : IsPart (lead_of is_part (c ∷ cs)) = record { some = some; allowed = front_passes is_part (c ∷ cs) } in
     ap (run s) (sym (front_rest is_part (c ∷ cs)))
-    ∙ enter_run s K parts enters (front_of is_part (c ∷ cs)) (rest_of is_part (c ∷ cs)) part
+    ∙ enter_run s K parts enters (lead_of is_part (c ∷ cs)) (rest_of is_part (c ∷ cs)) part
 
 rest_shorter_case : (c : ℕ) (cs : List ℕ) → is_part c ≡ true → length (rest_of is_part (c ∷ cs)) < length (c ∷ cs)
 rest_shorter_case c cs starts = rw starts (omega (arith, length-rest_of is_part cs))
@@ -90,7 +90,7 @@ dot_run K parts part old cs e =
     ap (run (word K parts part)) e ∙ goes (word K parts part) (dot K (parts ++ part ∷ [])) 46 cs (dot_step K parts part)
 
 pub next_part : (K : Open) (parts : List (List ℕ)) (part old cs : List ℕ) → old ≡ 46 ∷ cs → StartsPart cs
-    → run (word K parts part) old ≡ run (word K (parts ++ part ∷ []) (encode_utf8_all (front_of is_part cs)))
+    → run (word K parts part) old ≡ run (word K (parts ++ part ∷ []) (encode_utf8_all (lead_of is_part cs)))
     (rest_of is_part cs)
 next_part K parts part old cs e starts =
     dot_run K parts part old cs e
@@ -237,7 +237,7 @@ fails_rest : (cs left : List ℕ) → left ≡ rest_of is_part cs → Fails is_p
 fails_rest cs left e = subst (Fails is_part) (sym e) (rest_fails is_part cs)
 
 pub words_first : (old mid left : List ℕ) (parts : List (List ℕ)) (last : List ℕ) → mid ≡ rest_of is_white old
-    → parts ≡ [] → last ≡ encode_utf8_all (front_of is_part mid) → left ≡ rest_of is_part mid → StartsPart mid
+    → parts ≡ [] → last ≡ encode_utf8_all (lead_of is_part mid) → left ≡ rest_of is_part mid → StartsPart mid
     → SeenWords old parts last left
 words_first old mid left parts last mid_is no_parts last_is left_is starts = (
   λ K. rest_run (begin K) (begin_stays K) old
@@ -252,7 +252,7 @@ words_first old mid left parts last mid_is no_parts last_is left_is starts = (
 
 pub words_next : (old cur mid left : List ℕ) (parts parts' : List (List ℕ)) (last last' : List ℕ)
     → SeenWords old parts last cur → cur ≡ 46 ∷ mid → parts' ≡ parts ++ last ∷ []
-    → last' ≡ encode_utf8_all (front_of is_part mid) → left ≡ rest_of is_part mid → StartsPart mid
+    → last' ≡ encode_utf8_all (lead_of is_part mid) → left ≡ rest_of is_part mid → StartsPart mid
     → SeenWords old parts' last' left
 words_next old cur mid left parts parts' last last' seen dot_is parts_is last_is left_is starts = (
   λ K. seen.0 K

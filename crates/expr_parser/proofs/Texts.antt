@@ -9,7 +9,7 @@ use Rattle.std.proofs.lemmas.Str.{chars-encodes, chars-nil, encodes-append, enco
 use Rattle.std.proofs.lemmas.Str.{IsCharBoundary-at_seam, chars_past_char, length-encode, len_utf8_bounds}
 use Rattle.std.proofs.lemmas.List.{nil_from_length}
 use Rattle.expr_parser.specs.Grammar.{is_white, is_part}
-use Rattle.expr_parser.specs.Descent.{front_of, rest_of}
+use Rattle.expr_parser.specs.Descent.{lead_of, rest_of}
 use Rattle.expr_parser.proofs.Machine.{front_rest}
 
 skip_white : (cs : List ℕ) → skip_leading_whitespace cs ≡ rest_of is_white cs
@@ -39,12 +39,12 @@ chars_trimmed text rest utf8 e =
 
 -- the bytes before the rest
 pub front_bytes : (text rest : List ℕ) → IsUtf8 text → IsUtf8 rest → chars rest ≡ rest_of is_part (chars text)
-    → text ≡ encode_utf8_all (front_of is_part (chars text)) ++ rest
+    → text ≡ encode_utf8_all (lead_of is_part (chars text)) ++ rest
 front_bytes text rest utf8 rest_utf8 e =
     sym (encodes-chars text utf8)
     ∙ (ap encode_utf8_all (sym (front_rest is_part (chars text)))
-    ∙ (encodes-append (front_of is_part (chars text)) (rest_of is_part (chars text))
-    ∙ ap (λ (x : List ℕ). encode_utf8_all (front_of is_part (chars text)) ++ x)
+    ∙ (encodes-append (lead_of is_part (chars text)) (rest_of is_part (chars text))
+    ∙ ap (λ (x : List ℕ). encode_utf8_all (lead_of is_part (chars text)) ++ x)
     (ap encode_utf8_all (sym e) ∙ encodes-chars rest rest_utf8)))
 
 pub front_length : (text front rest : List ℕ) → text ≡ front ++ rest → length front + length rest ≡ length text

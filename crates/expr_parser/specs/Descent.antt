@@ -10,9 +10,9 @@ use Rattle.expr_parser.specs.Grammar.{is_part}
 use Rattle.expr_parser.specs.Machine.{Open, none, State, begin, run}
 
 -- the front of a text whose characters pass the test, and what follows it
-abbrev pub front_of : (ℕ → Bool) → List ℕ → List ℕ
-front_of test [] = []
-front_of test (c ∷ cs) = cond (test c) (c ∷ front_of test cs) []
+abbrev pub lead_of : (ℕ → Bool) → List ℕ → List ℕ
+lead_of test [] = []
+lead_of test (c ∷ cs) = cond (test c) (c ∷ lead_of test cs) []
 
 abbrev pub rest_of : (ℕ → Bool) → List ℕ → List ℕ
 rest_of test [] = []
@@ -43,6 +43,6 @@ StartsPart (c ∷ cs) = is_part c ≡ true
 -- the characters of a part were passed, of which there is one at least
 abbrev pub ReadsPart : List ℕ → List ℕ → Result (Bor (List ℕ)) Stop → Type 0
 ReadsPart old new (Ok part) =
-    (part.now ≡ encode_utf8_all (front_of is_part old)) × (new ≡ rest_of is_part old) × StartsPart old × IsUtf8 part.now
+    (part.now ≡ encode_utf8_all (lead_of is_part old)) × (new ≡ rest_of is_part old) × StartsPart old × IsUtf8 part.now
 ReadsPart old new (Err Here) = (new ≡ old) × Fails is_part old
 ReadsPart old new (Err Memory) = ⊥

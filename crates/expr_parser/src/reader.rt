@@ -3,7 +3,7 @@ ghost use Rattle.std.specs.Prelude.{◌≡◌, ℕ, ◌+◌, ◌-◌, ◌*◌, �
 ghost use Rattle.std.specs.Prelude.{MatchBool, MatchOption, length, encode_utf8_all};
 ghost use Rattle.std.specs.Str.{chars};
 ghost use Rattle.expr_parser.specs.Grammar.{is_part, is_white};
-ghost use Rattle.expr_parser.specs.Descent.{Fails, front_of, rest_of};
+ghost use Rattle.expr_parser.specs.Descent.{Fails, lead_of, rest_of};
 ghost use Rattle.expr_parser.specs.Machine.{goes_on};
 ghost use Rattle.expr_parser.specs.declared.reader.TheConstants.{GREATEST_WIDTH};
 
@@ -73,7 +73,7 @@ impl<'t> Reader<'t> {
 
     /// Passes the characters of a part, and lends them. There may be none.
     pub fn part(&mut self) -> &'t str
-        ensures value { result.now ≡ encode_utf8_all (front_of is_part self.old) }
+        ensures value { result.now ≡ encode_utf8_all (lead_of is_part self.old) }
         ensures rest { self.new ≡ rest_of is_part self.old }
     {
         let rest = after_part(self.rest);
@@ -171,7 +171,7 @@ fn after_part(text: &str) -> &str
 // What stands before the rest.
 fn front<'t>(text: &'t str, rest: &str) -> &'t str
     requires { chars rest.now ≡ rest_of is_part (chars text.now) }
-    ensures { result.now ≡ encode_utf8_all (front_of is_part (chars text.now)) }
+    ensures { result.now ≡ encode_utf8_all (lead_of is_part (chars text.now)) }
 {
     let (front, _) = text.split_at(text.len() - rest.len());
     front

@@ -2,7 +2,7 @@
 ghost use Rattle.std.specs.Prelude.{◌≡◌, ◌≢◌, ◌<◌, true};
 ghost use Rattle.std.specs.List.{All, AllPairs};
 
-use crate::{IndexTable, compare_keys};
+use crate::{IndexTable, Pairs, compare_keys};
 use std::alloc::Global;
 use std::cmp::Ordering;
 use std::marker::Brand;
@@ -213,6 +213,35 @@ fn orders_keys(rt: HostRuntime) -> Result<(), Fail> {
     for (place, key) in IN_ORDER.iter().enumerate() {
         assert!(rt; is_in_order(rt.alloc(), place, key)?, "{key}");
     }
+    Ok(())
+}
+
+// The pairs of a document, gathered from none.
+fn gathered(alloc: Global, id: &DocId, set: KeySet) -> Result<Pairs, Memory> {
+    Pairs::new(alloc).with(id, set.keys)
+}
+
+// Puts gathered pairs into a table that has none.
+fn table_with(alloc: Global, pairs: Pairs) -> Result<IndexTable, Memory> {
+    let mut table = IndexTable::new(alloc);
+    table.reserve(pairs.len() as u64)?;
+    table.put_pairs(pairs);
+    Ok(table)
+}
+
+fn gathers(alloc: Global) -> Result<bool, Fail> {
+    let none = Pairs::new(alloc);
+    let pairs = gathered(alloc, &document(alloc, 1)?, set_of(alloc, &["b", "a"])?)?;
+    if none.len() != 0 || !none.is_empty() || pairs.len() != 2 || pairs.is_empty() {
+        return Ok(false);
+    }
+    let table = table_with(alloc, pairs)?;
+    are_spelled(alloc, &table, &["a|w01", "b|w01", ""])
+}
+
+#[test]
+fn gathers_pairs(rt: HostRuntime) -> Result<(), Fail> {
+    assert!(rt; gathers(rt.alloc())?);
     Ok(())
 }
 

@@ -10,9 +10,9 @@ use Rattle.link.specs.Pieces.{AddsNext}
 use Rattle.link.specs.Streams.{Gives, Input, IsFront, Takes}
 
 -- the first bytes of a text that begins with `read`, which is no longer than they are
-front_of : (most : ℕ) (read rest : List ℕ) → length read ≤ most
+taken_of : (most : ℕ) (read rest : List ℕ) → length read ≤ most
     → take most (read ++ rest) ≡ read ++ take (most - length read) rest
-front_of most read rest within =
+taken_of most read rest within =
     let split : most ≡ length read + (most - length read) = omega (arith, within) in
     ap (λ n. take n (read ++ rest)) split ∙ take-append-add read rest (most - length read)
 
@@ -23,7 +23,7 @@ front_given : (most : ℕ) (before after : Option (List ℕ)) (read : List ℕ) 
 front_given most None after read within gone = (read, tt, within, ([], sym (append-nil read)))
 front_given most (Some xs) None read within gone = absurd gone
 front_given most (Some xs) (Some ys) read within gone =
-    let front : IsFront read (take most xs) = (take (most - length read) ys, rw gone (front_of most read ys within)) in
+    let front : IsFront read (take most xs) = (take (most - length read) ys, rw gone (taken_of most read ys within)) in
     (take most xs, refl, omega (arith, length-take most xs), front)
 
 -- all that the input gives is gone

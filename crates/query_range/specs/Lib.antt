@@ -3,4 +3,4 @@ pub mod Faults
 pub mod Floor
 pub mod Patterns
 pub mod Wanted
-pub mod Found
+pub mod SeenIds

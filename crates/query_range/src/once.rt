@@ -2,7 +2,7 @@
 ghost use Rattle.std.specs.Prelude.{◌≡◌, ◌<◌, ◌≤◌, ◌%◌, false, not, IfOk, OnOk, length, map};
 ghost use Rattle.u1_base.specs.Ids.{id_cmp};
 ghost use Rattle.query_range.specs.Answers.{firsts};
-ghost use Rattle.query_range.specs.Found.{AreBehind, HoldsOneMore, holds, mark};
+ghost use Rattle.query_range.specs.SeenIds.{AreBehind, SeesOneMore, holds, mark};
 
 use std::alloc::Global;
 use std::collections::BTreeSet;
@@ -13,7 +13,7 @@ use u1_base::{DocId, Ids, Memory};
 // stands in a tree beside them. So most ids are found by one look, and ids that are chosen to share
 // a place cost a search in the tree each.
 #[derive(Drop)]
-struct Found<'a> {
+struct SeenIds<'a> {
     places: Vec<Option<&'a str>>,
     others: BTreeSet<&'a str>,
     ghost some: { 0 < length places.items },
@@ -36,17 +36,17 @@ fn place_of(id: &str, count: usize) -> usize
     (mark(id) % count as u64) as usize
 }
 
-impl<'a> Found<'a> {
-    ghost use Rattle.query_range.specs.Found.{AreBehind, holds};
+impl<'a> SeenIds<'a> {
+    ghost use Rattle.query_range.specs.SeenIds.{AreBehind, holds};
 
     // None, with places for so many ids.
-    fn new(alloc: Global, ids: usize) -> Result<Found<'a>, Memory>
+    fn new(alloc: Global, ids: usize) -> Result<SeenIds<'a>, Memory>
         ensures { IfOk result (λ found. (id : _)
             → holds found.places.items found.others id ≡ false) }
     {
         let mut places = Vec::new(alloc);
         places.resize(ids.saturating_mul(2).max(1), None)?;
-        Ok(Found {
+        Ok(SeenIds {
             places,
             others: BTreeSet::new(alloc),
         })
@@ -57,7 +57,7 @@ impl<'a> Found<'a> {
         ensures fresh { IfOk result
             (λ fresh. fresh ≡ not (holds self.old.places.items self.old.others id.entry)) }
         ensures kept { OnOk result
-            (HoldsOneMore self.old.places.items self.old.others id.entry self.new.places.items
+            (SeesOneMore self.old.places.items self.old.others id.entry self.new.places.items
             self.new.others) }
     {
         let place = place_of(id, self.places.len());
@@ -81,7 +81,7 @@ pub(crate) fn each_once(alloc: Global, found: &[&DocId]) -> Result<Ids, Memory>
     ensures { IfOk result (λ ids. ids ≡ firsts id_cmp (map (λ id. id.now) found.now)) }
 {
     let mut ids = Ids::new(alloc);
-    let mut seen = Found::new(alloc, found.len())?;
+    let mut seen = SeenIds::new(alloc, found.len())?;
     for id in found {
         if seen.insert(id.as_str())? {
             ids.push(id.copy()?)?;

@@ -29,8 +29,8 @@ use Rattle.store_commands.specs.declared.store.CompactFault.{CompactFault}
 use Rattle.store_commands.specs.declared.store.CompactFault.TheVariants as fault
 use Rattle.store_commands.specs.declared.store.Sizes.{Sizes}
 use Rattle.volume.specs.Crashes.{OnlyLooks}
-use Rattle.volume.specs.Store.{Found as FoundImages, found_of}
-use Rattle.volume.specs.Store.Found.{Blank as NoImages, Damaged as BrokenImage, Stands as StandingImage}
+use Rattle.volume.specs.Store.{FoundImages, found_of}
+use Rattle.volume.specs.Store.FoundImages.{Blank as NoImages, Damaged as BrokenImage, Stands as StandingImage}
 use Rattle.volume.proofs.Standing.{store_stands}
 use Rattle.replica_cli.specs.Faults.{compact_fault}
 use Rattle.replica_cli.specs.Store.{image_of, image_with, volume_image}

@@ -23,8 +23,8 @@ use Rattle.replica_volume.specs.declared.replica.Volume.{Volume}
 use Rattle.store_commands.specs.Changes.{HasLimit, IsNow, limit_of as limit_left}
 use Rattle.store_commands.specs.Found.{Blank, Damaged, Found, IsTold, Stands, in_short, standing_in}
 use Rattle.store_commands.specs.Store.{is_blank}
-use Rattle.volume.specs.Store.{Found as FoundImages, chosen, found_by, found_in as image_found, found_of}
-use Rattle.volume.specs.Store.Found.{Blank as NoImages, Damaged as BrokenImage, Stands as StandingImage}
+use Rattle.volume.specs.Store.{FoundImages, chosen, found_by, found_in as image_found, found_of}
+use Rattle.volume.specs.Store.FoundImages.{Blank as NoImages, Damaged as BrokenImage, Stands as StandingImage}
 use Rattle.volume.proofs.Finding.{found_blank}
 use Rattle.volume.proofs.Standing.{store_stands}
 use Rattle.replica_cli.specs.Store.{found_in, image_as, image_of, image_with, images_as}

@@ -24,7 +24,7 @@ use Rattle.std.specs.Result.{IsErrOf}
 use Rattle.u1_base.specs.Causes.{HasCauseOf, Rose}
 use Rattle.vector_rev.specs.Counts.{Uid}
 use Rattle.volume.specs.Crashes.{IsBlankOrEmpty, OnlyLooks}
-use Rattle.volume.specs.Store.{Found as FoundImages, found_of}
+use Rattle.volume.specs.Store.{FoundImages, found_of}
 use Rattle.volume.specs.declared.making.InitFault.{InitFault}
 use Rattle.volume.specs.declared.making.InitFault.TheVariants as init
 use Rattle.replica_cli.specs.Faults.{make_fault}

@@ -18,8 +18,8 @@ use Rattle.replica_volume.specs.Volume.{devices, moments}
 use Rattle.replica_volume.specs.declared.replica.Volume.{Volume}
 use Rattle.store_commands.specs.Compacting.{Image}
 use Rattle.store_commands.specs.Found.{Blank, Damaged, Found, Standing, Stands, Store}
-use Rattle.volume.specs.Store.{Found as FoundImages, found_of}
-use Rattle.volume.specs.Store.Found.{Blank as NoImages, Damaged as BrokenImage, Stands as StandingImage}
+use Rattle.volume.specs.Store.{FoundImages, found_of}
+use Rattle.volume.specs.Store.FoundImages.{Blank as NoImages, Damaged as BrokenImage, Stands as StandingImage}
 use Rattle.replica_cli.specs.declared.store.StoreOnDisks.{StoreOnDisks}
 
 -- An image as opening it leaves it: its bodies, and the uids that have numbers after them. One of the first format is

@@ -13,8 +13,8 @@ use Rattle.replica_volume.specs.Steps.{Chronicle, steps_of}
 use Rattle.replica_volume.specs.Store.{MayOpenAs, holds_steps, opened_as, with_steps}
 use Rattle.store_commands.specs.Found.{in_short}
 use Rattle.store_commands.specs.Store.{MayStay as Stays}
-use Rattle.volume.specs.Store.{Found as FoundImages, found_of}
-use Rattle.volume.specs.Store.Found.{Blank as NoImages, Damaged as BrokenImage, Stands as StandingImage}
+use Rattle.volume.specs.Store.{FoundImages, found_of}
+use Rattle.volume.specs.Store.FoundImages.{Blank as NoImages, Damaged as BrokenImage, Stands as StandingImage}
 use Rattle.replica_cli.specs.Store.{found_in, image_as, images_as, store_known}
 use Rattle.replica_cli.specs.declared.store.StoreOnDisks.{StoreOnDisks}
 

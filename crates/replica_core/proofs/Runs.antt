@@ -15,9 +15,9 @@ use Rattle.replica_core.specs.Replica.{AddsOnly, Found, HasFailed, HasStep, IsLe
 use Rattle.replica_core.specs.Replica.{after_step, state_in}
 use Rattle.replica_core.specs.Calls.{Decided, Answers, Refuses, IfFailed, IsDone, is_disk_failure, may_have_written}
 use Rattle.replica_core.specs.Calls.{step_in}
-use Rattle.replica_core.specs.Runs.{AllKept, Continues, Ends, GoesOn, HaveEnded, HaveRun, IsOpenIf, StandsAfterFirst}
-use Rattle.replica_core.specs.Runs.{after_call, bare, bare_end, call_decides, call_failure, call_fault, stays_open}
-use Rattle.replica_core.specs.Runs.{step_of_call, steps_made, steps_written}
+use Rattle.replica_core.specs.Runs.{AllKept, AreMade, Continues, Ends, GoesOn, HaveEnded, HaveRun, IsOpenIf}
+use Rattle.replica_core.specs.Runs.{StandsAfterFirst, after_call, bare, bare_end, call_decides, call_failure}
+use Rattle.replica_core.specs.Runs.{call_fault, stays_open, step_of_call, steps_made, steps_written}
 use Rattle.replica_core.specs.declared.fault.CommitFault.{CommitFault}
 use Rattle.replica_core.specs.declared.fault.CommitFault.TheVariants as commit
 use Rattle.replica_core.specs.declared.list.Call.{Call}
@@ -309,6 +309,8 @@ module _ {R : Type 0} (known : R → Known) (is_open : R → Type 0) (crash : R 
     pub ready : is_open now
     pub limit : (known now).limit ≡ (known first).limit
     pub faults : (known first).faults ≤ (known now).faults
+    pub made : (final : R) (more : Ends) → AreMade known is_open crash now final left more
+        → AreMade known is_open crash first final all (ends ++ more)
     pub ended : (final : Known) (more : Ends) → HaveEnded (known first) final (state_in (known now)) left more
         → HaveEnded (known first) final (state_in (known first)) all (ends ++ more)
     pub state : (more : Ends) → after_all (state_in (known now)) (steps_made (state_in (known now)) left more)
@@ -325,6 +327,7 @@ module _ {R : Type 0} (known : R → Known) (is_open : R → Type 0) (crash : R 
     ready = ready;
     limit = refl;
     faults = omega arith;
+    made = λ final more h. subst (λ (es : Ends). AreMade known is_open crash r final all (es ++ more)) (sym e) h;
     ended = λ final more h. subst (λ (es : Ends). HaveEnded (known r) final (state_in (known r)) all (es ++ more))
         (sym e) h;
     state = λ more. ap (λ (es : Ends). after_all (state_in (known r))
@@ -345,6 +348,8 @@ module _ {R : Type 0} (known : R → Known) (is_open : R → Type 0) (crash : R 
     ready = is_open_after known is_open crash old new c end made ready;
     limit = made.limit ∙ before.limit;
     faults = omega (arith, before.faults, made.later);
+    made = λ final more h. subst (λ (es : Ends). AreMade known is_open crash first final all es)
+        (sym (append_assoc ends (end ∷ []) more)) (before.made final (end ∷ more) (new, made, h));
     ended = λ final more h. subst (λ (es : Ends). HaveEnded (known first) final (state_in (known first)) all es)
         (sym (append_assoc ends (end ∷ []) more))
         (before.ended final (end ∷ more)
@@ -367,6 +372,7 @@ module _ {R : Type 0} (known : R → Known) (is_open : R → Type 0) (crash : R 
       Made known is_open crash old new c end → stays_open end ≡ false
       → HaveRun known is_open crash first new all (ends ++ end ∷ [])
   the_last first old new all c cs ends end before made closed = record {
+    made = before.made new (end ∷ []) (new, made, refl);
     ended = before.ended (known new) (end ∷ [])
         (last_ends known is_open crash (known first) old new c cs end before.faults made closed);
     state = ap (after_all (state_in (known new))) (sym (none_made (state_in (known new)) cs))
@@ -384,6 +390,8 @@ module _ {R : Type 0} (known : R → Known) (is_open : R → Type 0) (crash : R 
   no_more first now all left ends e before =
       let so : SoFar first now all [] ends = subst (λ (cs : List Call). SoFar first now all cs ends) e before in
       record {
+        made = subst (λ (es : Ends). AreMade known is_open crash first now all es) (append-nil ends)
+            (so.made now [] refl);
         ended = subst (λ (es : Ends). HaveEnded (known first) (known now) (state_in (known first)) all es)
             (append-nil ends) (so.ended (known now) [] refl);
         state = so.state [] ∙ ap

@@ -10,7 +10,7 @@ use Rattle.conflicts.specs.State.{History, State, Step, Text, accepts_in, after_
 use Rattle.conflicts.specs.declared.accept.Accept.{Accept}
 use Rattle.conflicts.specs.declared.member.Member.{Member}
 use Rattle.replica_core.specs.Replica.{AddsOnly, Found, HasStep, Known, Stands, after_step, state_in}
-use Rattle.replica_core.specs.Calls.{Decided, Answers, Refuses, IsAnswer, IsRefusal, may_have_written, step_in}
+use Rattle.replica_core.specs.Calls.{Decided, Answers, Refuses, IsAnswer, IsDone, IsRefusal, may_have_written, step_in}
 use Rattle.replica_core.specs.CallsDecide.{create_decides, delete_decides, delete_index_decides, move_decides}
 use Rattle.replica_core.specs.CallsDecide.{put_decides, resolve_decides, take_decides}
 use Rattle.replica_core.specs.CallsFaults.{commit_fault_text}
@@ -142,8 +142,18 @@ IsOpenIf true is_open new = is_open
 IsOpenIf false is_open new = new.opened ≡ false
 
 module _ {R : Type 0} (known : R → Known) (is_open : R → Type 0) (crash : R → ℕ → Found State → Type 0) where
+  -- the calls were made in turn, each as a call by itself is made, over the replica that the calls before it leave: so
+  -- `Full` has what the step needs there. None is made after a disk failed
+  abbrev pub AreMade : R → R → List Call → Ends → Type 0
+  AreMade old new calls [] = new ≡ old
+  AreMade old new [] (end ∷ ends) = ⊥
+  AreMade old new (c ∷ cs) (end ∷ ends) = (next : R)
+      × IsDone known is_open crash call_failure (call_decides c (state_in (known old))) old next end
+      × AreMade next new cs ends
+
   -- the calls were made, and ended so
   pub record HaveRun (old new : R) (calls : List Call) (ends : Ends) : Type 0 where
+    pub made : AreMade old new calls ends
     -- each as it was decided
     pub ended : HaveEnded (known old) (known new) (state_in (known old)) calls ends
     -- the state is the one after the steps that were made

@@ -271,14 +271,7 @@ fn taken(
     save: bool,
     place: u64,
 ) -> Result<Asked, Fail> {
-    let (kind, table) = (kind_of(save), table_of(save));
-    let content = content_of(alloc, edit.value.unwrap_or(0))?;
-    let words = format!(in alloc;
-        "{kind} d{} p:{} {} {table}/p/{place}/T{place}",
-        edit.doc,
-        edit.peer,
-        content.as_str()
-    )?;
+    let words = take_words(alloc, edit, save, place)?;
     let kept = kept_place(accepted, save);
     if place < kept {
         return log_check(alloc, words, kept, place);
@@ -288,6 +281,17 @@ fn taken(
         words,
         want: receipt(alloc, accepted, edit, save)?,
     })
+}
+
+fn take_words(alloc: Global, edit: Edit, save: bool, place: u64) -> Result<String, Fail> {
+    let (kind, table) = (kind_of(save), table_of(save));
+    let content = content_of(alloc, edit.value.unwrap_or(0))?;
+    Ok(format!(in alloc;
+        "{kind} d{} p:{} {} {table}/p/{place}/T{place}",
+        edit.doc,
+        edit.peer,
+        content.as_str()
+    )?)
 }
 
 fn kind_of(save: bool) -> &'static str {
@@ -523,12 +527,17 @@ fn push_member(alloc: Global, words: &mut String, edit: Edit) -> Result<(), Fail
 
 // Whether the state tells the documents and changes that the revisions leave.
 fn is_left(alloc: Global, state: &State, edits: &[Edit]) -> Result<bool, Fail> {
+    Ok(are_live(alloc, state, edits)? && are_changed(alloc, state, edits)?)
+}
+
+fn are_live(alloc: Global, state: &State, edits: &[Edit]) -> Result<bool, Fail> {
     let all = live(alloc, edits, None)?;
+    is_told(alloc, state, "all", "live", all.as_str())
+}
+
+fn are_changed(alloc: Global, state: &State, edits: &[Edit]) -> Result<bool, Fail> {
     let changes = changes(alloc, edits)?;
-    Ok(
-        is_told(alloc, state, "all", "live", all.as_str())?
-            && is_told(alloc, state, "changes", "0", changes.as_str())?,
-    )
+    is_told(alloc, state, "changes", "0", changes.as_str())
 }
 
 // Whether the state tells the members of each document that is in conflict.
@@ -545,12 +554,15 @@ fn are_in_conflict(alloc: Global, state: &State, edits: &[Edit]) -> Result<bool,
 
 // Whether the state tells the places to which the positions were moved.
 fn are_kept(alloc: Global, state: &State, accepted: &Accepted) -> Result<bool, Fail> {
-    let known = place_told(alloc, place_in(accepted.known.as_slice()))?;
-    let told = place_told(alloc, place_in(accepted.told.as_slice()))?;
     Ok(
-        is_told(alloc, state, "position", "known p", known.as_str())?
-            && is_told(alloc, state, "position", "told p", told.as_str())?,
+        is_kept(alloc, state, "known p", accepted.known.as_slice())?
+            && is_kept(alloc, state, "told p", accepted.told.as_slice())?,
     )
+}
+
+fn is_kept(alloc: Global, state: &State, position: &str, places: &[u64]) -> Result<bool, Fail> {
+    let place = place_told(alloc, place_in(places))?;
+    is_told(alloc, state, "position", position, place.as_str())
 }
 
 // Whether the index answers each value by the documents that have it; or there is none.

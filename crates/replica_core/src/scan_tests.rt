@@ -67,10 +67,14 @@ fn put(alloc: Global, replica: &mut MemReplica, doc: u64, key: u64) -> Result<()
 
 // Where memory runs out the call is made again.
 fn put_words(alloc: Global, replica: &mut MemReplica, words: &str) -> Result<(), Fail> {
-    if made(alloc, replica, words)?.is_none() && made(alloc, replica, words)?.is_none() {
+    if !is_made(alloc, replica, words)? && !is_made(alloc, replica, words)? {
         return Err(Fail::new("out of memory again"));
     }
     Ok(())
+}
+
+fn is_made(alloc: Global, replica: &mut MemReplica, words: &str) -> Result<bool, Fail> {
+    Ok(made(alloc, replica, words)?.is_some())
 }
 
 // ---- a scan

@@ -160,28 +160,32 @@ fn called_once(
     answer_of(alloc, replica, &call)
 }
 
-const OF_A_STATE: [(&str, &str); 12] = [
-    ("all", "deleted"),
-    ("changes", "0"),
-    ("get-deleted", "d1"),
-    ("get-deleted", "d2"),
-    ("conflicts", "d1"),
-    ("conflicts", "d2"),
-    ("kept", "known 0"),
-    ("kept", "known 1"),
-    ("kept", "told 0"),
-    ("index", "0"),
-    ("index", "1"),
-    ("keys", "i"),
-];
+const OF_A_STATE: &str = "all deleted
+changes 0
+get-deleted d1
+get-deleted d2
+conflicts d1
+conflicts d2
+kept known 0
+kept known 1
+kept told 0
+index 0
+index 1
+keys i";
 
 // What a state answers to these questions.
 fn told(alloc: Global, state: &State) -> Result<String, Fail> {
     let mut words = String::new(alloc);
-    for (kind, operands) in OF_A_STATE {
-        let answer = asked(alloc, state, kind, operands)?;
-        words.push_str(answer.as_str())?;
-        words.push('\n')?;
+    for line in OF_A_STATE.lines() {
+        push_answer(alloc, state, &mut words, line)?;
     }
     Ok(words)
+}
+
+fn push_answer(alloc: Global, state: &State, words: &mut String, line: &str) -> Result<(), Fail> {
+    let (kind, operands) = line.split_once(' ').ok_or("no operands")?;
+    let answer = asked(alloc, state, kind, operands)?;
+    words.push_str(answer.as_str())?;
+    words.push('\n')?;
+    Ok(())
 }

@@ -323,80 +323,41 @@ range? i open;a|b => wrong width
 range? j open;open => unknown
 "#;
 
-// An address book: the documents in the order in which `laptop` puts them.
-const BOOK: [(&str, &str); 12] = [
-    (
-        "c01",
-        r#"{"name":"Ann Lee","phones":["555-01"],"tags":"friend work"}"#,
-    ),
-    (
-        "c02",
-        r#"{"name":"Anna Roy","phones":["555-02"],"tags":"work"}"#,
-    ),
-    (
-        "c03",
-        r#"{"name":"Bob Kay","phones":["555-03"],"tags":"friend"}"#,
-    ),
-    (
-        "c04",
-        r#"{"name":"Carl Poe","phones":["555-04"],"tags":"club"}"#,
-    ),
-    (
-        "c05",
-        r#"{"name":"ANN Diaz","phones":["555-05"],"tags":"club friend"}"#,
-    ),
-    (
-        "c06",
-        r#"{"name":"Dora Ek","phones":["555-06"],"tags":"family"}"#,
-    ),
-    (
-        "c07",
-        r#"{"name":"Evan Ito","phones":["555-07"],"tags":"work"}"#,
-    ),
-    (
-        "c08",
-        r#"{"name":"annika Holm","phones":["555-08"],"tags":"family club"}"#,
-    ),
-    (
-        "c09",
-        r#"{"name":"Finn Orr","phones":["555-09"],"tags":""}"#,
-    ),
-    (
-        "c10",
-        r#"{"name":"Gus Ash","phones":["555-10"],"tags":"friend friend"}"#,
-    ),
-    (
-        "c11",
-        r#"{"name":"Hal Ann","phones":["555-11"],"tags":"work"}"#,
-    ),
-    (
-        "c12",
-        r#"{"name":"Ida Foy","phones":["555-12"],"tags":"club"}"#,
-    ),
-];
+// An address book: the documents, each a line `ID CONTENT`, in the order in which `laptop` puts
+// them.
+const BOOK: &str = r#"c01 {"name":"Ann Lee","phones":["555-01"],"tags":"friend work"}
+c02 {"name":"Anna Roy","phones":["555-02"],"tags":"work"}
+c03 {"name":"Bob Kay","phones":["555-03"],"tags":"friend"}
+c04 {"name":"Carl Poe","phones":["555-04"],"tags":"club"}
+c05 {"name":"ANN Diaz","phones":["555-05"],"tags":"club friend"}
+c06 {"name":"Dora Ek","phones":["555-06"],"tags":"family"}
+c07 {"name":"Evan Ito","phones":["555-07"],"tags":"work"}
+c08 {"name":"annika Holm","phones":["555-08"],"tags":"family club"}
+c09 {"name":"Finn Orr","phones":["555-09"],"tags":""}
+c10 {"name":"Gus Ash","phones":["555-10"],"tags":"friend friend"}
+c11 {"name":"Hal Ann","phones":["555-11"],"tags":"work"}
+c12 {"name":"Ida Foy","phones":["555-12"],"tags":"club"}"#;
 
 // How `server` takes what `laptop` put later.
 const RENAMED_IS_SENT: &str =
     r#"sent c02 laptop:2 {"name":"Nina Roy","phones":["555-02"],"tags":"work"} told/laptop/13/#13"#;
 
-// The keys of the address book: the name and a tag. The document without a tag has none, and a tag
-// that stands twice gives one.
-const KEYS: [(&str, &str); 14] = [
-    ("ann diaz", "club"),
-    ("ann diaz", "friend"),
-    ("ann lee", "friend"),
-    ("ann lee", "work"),
-    ("anna roy", "work"),
-    ("annika holm", "club"),
-    ("annika holm", "family"),
-    ("bob kay", "friend"),
-    ("carl poe", "club"),
-    ("dora ek", "family"),
-    ("evan ito", "work"),
-    ("gus ash", "friend"),
-    ("hal ann", "work"),
-    ("ida foy", "club"),
-];
+// The keys of the address book, each a line `NAME|TAG`. The document without a tag has none, and a
+// tag that stands twice gives one.
+const KEYS: &str = "ann diaz|club
+ann diaz|friend
+ann lee|friend
+ann lee|work
+anna roy|work
+annika holm|club
+annika holm|family
+bob kay|friend
+carl poe|club
+dora ek|family
+evan ito|work
+gus ash|friend
+hal ann|work
+ida foy|club";
 
 const BOOK_IS_ASKED: &str = "create names lower(name)+split_words(tags) => done
 query? names ann*|* => c05 c01 c02 c08
@@ -426,36 +387,57 @@ all? live => c01 c02 c03 c04 c05 c06 c07 c08 c09 c10 c11";
 
 // Whether `laptop` puts the documents.
 fn is_put(alloc: Global, replica: &mut MemReplica) -> Result<bool, Fail> {
-    for (id, content) in BOOK {
-        let words = format!(in alloc; "put {id} - {content}")?;
-        if !is_answered(alloc, replica, words.as_str(), "laptop:1")? {
+    for line in BOOK.lines() {
+        if !is_line_put(alloc, replica, line)? {
             return Ok(false);
         }
     }
     Ok(true)
+}
+
+fn is_line_put(alloc: Global, replica: &mut MemReplica, line: &str) -> Result<bool, Fail> {
+    let (id, content) = line.split_once(' ').ok_or("no content")?;
+    let words = format!(in alloc; "put {id} - {content}")?;
+    is_answered(alloc, replica, words.as_str(), "laptop:1")
 }
 
 // Whether `server` takes them from `laptop`.
 fn is_taken(alloc: Global, replica: &mut MemReplica) -> Result<bool, Fail> {
     let mut place: u64 = 0;
-    for (id, content) in BOOK {
+    for line in BOOK.lines() {
         place = place.saturating_add(1);
-        let words = format!(in alloc; "sent {id} laptop:1 {content} told/laptop/{place}/#{place}")?;
-        if !is_answered(alloc, replica, words.as_str(), "Inserted laptop:1")? {
+        if !is_line_taken(alloc, replica, line, place)? {
             return Ok(false);
         }
     }
     Ok(true)
 }
 
+fn is_line_taken(
+    alloc: Global,
+    replica: &mut MemReplica,
+    line: &str,
+    place: u64,
+) -> Result<bool, Fail> {
+    let (id, content) = line.split_once(' ').ok_or("no content")?;
+    let words = format!(in alloc; "sent {id} laptop:1 {content} told/laptop/{place}/#{place}")?;
+    is_answered(alloc, replica, words.as_str(), "Inserted laptop:1")
+}
+
 // Whether the index has these keys.
 fn are_keys(alloc: Global, state: &State) -> Result<bool, Fail> {
     let mut keys = String::new(alloc);
-    for (name, tag) in KEYS {
-        let key = format!(in alloc; "|{name}|{tag},")?;
-        keys.push_str(key.as_str())?;
+    for line in KEYS.lines() {
+        push_key(&mut keys, line)?;
     }
     is_told(alloc, state, "keys", "names", keys.as_str())
+}
+
+fn push_key(keys: &mut String, line: &str) -> Result<(), Fail> {
+    keys.push('|')?;
+    keys.push_str(line)?;
+    keys.push(',')?;
+    Ok(())
 }
 
 #[test]

@@ -40,7 +40,7 @@ pub record Collected : Type 0 where
   pub docs : Listed Kept
   pub indexes : List Heading
   pub sorted : T (is_sorted id_cmp (named indexes))
-  pub spare : ℕ
+  pub vacant : ℕ
 
 -- ---- the state
 
@@ -109,16 +109,16 @@ heading_code =
     (λ x. (x.name, (x.exprs, x.room))) (λ p. record { name = p.0; exprs = p.1.0; room = p.1.1 }) (λ _. refl)
 
 pub same_collected : (x y : Collected)
-    → ◌≡◌ {A = Listed Kept × (List Heading × ℕ)} (x.docs, (x.indexes, x.spare)) (y.docs, (y.indexes, y.spare)) → x ≡ y
+    → ◌≡◌ {A = Listed Kept × (List Heading × ℕ)} (x.docs, (x.indexes, x.vacant)) (y.docs, (y.indexes, y.vacant)) → x ≡ y
 same_collected x y e =
     let sorted : ◌≡◌ {A = (hs : List Heading) × T (is_sorted id_cmp (named hs))} (x.indexes, x.sorted)
     (y.indexes, y.sorted) = Σ_prop_path (λ hs. T_prop _) (λ i. (e i).1.0) in
-    λ i. record { docs = (e i).0; indexes = (sorted i).0; sorted = (sorted i).1; spare = (e i).1.1 }
+    λ i. record { docs = (e i).0; indexes = (sorted i).0; sorted = (sorted i).1; vacant = (e i).1.1 }
 
 abbrev pub collected_code : Coded Collected
 collected_code =
     coded_via (coded× (listed_code kept_code) (coded× (coded_list heading_code) coded_ℕ))
-    (λ c. (c.docs, (c.indexes, c.spare))) same_collected
+    (λ c. (c.docs, (c.indexes, c.vacant))) same_collected
 
 abbrev pub entry_code : Coded Entry
 entry_code =

@@ -79,13 +79,13 @@ pub record TakesDocument (docs : Listed Kept) (indexes : List Heading) (id : Tex
 -- documents and indexes, with so many places for further ones, can take what is to be replaced. The table of a new
 -- index is that of these documents
 abbrev pub Takes : Listed Kept → List Heading → ℕ → Replacement → Type 0
-Takes docs indexes spare Nothing = Unit {0}
-Takes docs indexes spare (Document id set changes) = TakesDocument docs indexes id set changes.items
-Takes docs indexes spare (NewIndex index) = (1 ≤ spare) × IsTable docs.pairs index
-Takes docs indexes spare (NoIndex name) = Unit {0}
+Takes docs indexes vacant Nothing = Unit {0}
+Takes docs indexes vacant (Document id set changes) = TakesDocument docs indexes id set changes.items
+Takes docs indexes vacant (NewIndex index) = (1 ≤ vacant) × IsTable docs.pairs index
+Takes docs indexes vacant (NoIndex name) = Unit {0}
 
 -- THE STATE IS READY for the parts: it has room for them, and they are of its documents
 pub record IsReady (s : Held) (p : Prepared) : Type 0 where
-  pub collection : Takes s.collection.docs s.collection.indexes s.collection.spare p.replacement
+  pub collection : Takes s.collection.docs s.collection.indexes s.collection.vacant p.replacement
   pub log : IfSome p.entry (λ _. 1 ≤ s.log.room)
   pub moved : IfSome p.moved (λ m. 1 ≤ (chosen m.table s.known s.told).room)

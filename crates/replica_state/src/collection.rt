@@ -37,7 +37,7 @@ impl Model for Collection {
       indexes = map heading s.indexes.items;
       sorted =
           s.named;
-      spare = vec_capacity s.indexes - vec_len s.indexes;
+      vacant = vec_capacity s.indexes - vec_len s.indexes;
     } };
 }
 
@@ -80,7 +80,7 @@ impl Collection {
         ensures docs { self.new.docs.pairs ≡ self.old.docs.pairs }
         ensures indexes { named self.new.indexes ≡ named self.old.indexes }
         ensures after { IfOk result (IsDocumentAfter self.new.docs.pairs doc.now accept) }
-        ensures ready { IfOk result (Takes self.new.docs self.new.indexes self.new.spare) }
+        ensures ready { IfOk result (Takes self.new.docs self.new.indexes self.new.vacant) }
     {
         let alloc = *self.indexes.allocator();
         new_document(alloc, &mut self.docs, &mut self.indexes, doc, accept)
@@ -95,7 +95,7 @@ impl Collection {
         ensures docs { self.new.docs.pairs ≡ self.old.docs.pairs }
         ensures indexes { named self.new.indexes ≡ named self.old.indexes }
         ensures after { IfOk result (IsIndexAfter name exprs.texts) }
-        ensures ready { IfOk result (Takes self.new.docs self.new.indexes self.new.spare) }
+        ensures ready { IfOk result (Takes self.new.docs self.new.indexes self.new.vacant) }
     {
         let alloc = *self.indexes.allocator();
         new_index(alloc, &self.docs, &mut self.indexes, name, exprs)
@@ -103,7 +103,7 @@ impl Collection {
 
     /// Puts the replacement in.
     pub(crate) fn replace(&mut self, replacement: Replacement)
-        requires { Takes self.old.docs self.old.indexes self.old.spare replacement }
+        requires { Takes self.old.docs self.old.indexes self.old.vacant replacement }
         ensures docs { self.new.docs.pairs ≡ docs_with replacement self.old.docs.pairs }
         ensures indexes { named self.new.indexes ≡ names_with replacement (named self.old.indexes) }
     {

@@ -11,8 +11,8 @@ use Rattle.disks.specs.Moments.{LeavesTogether}
 use Rattle.disks.proofs.Runs.{at_moment, begins, earlier, weaker}
 use Rattle.journal.specs.Image.{Head}
 use Rattle.replica_state.specs.Held.{meaning}
-use Rattle.volume.specs.Store.{Found as FoundImages, IsStore, found_of}
-use Rattle.volume.specs.Store.Found.{Stands as StandingImage}
+use Rattle.volume.specs.Store.{FoundImages, IsStore, found_of}
+use Rattle.volume.specs.Store.FoundImages.{Stands as StandingImage}
 use Rattle.volume.specs.Crashes.{LeavesOldOrOneMore, StandsOneMore}
 use Rattle.volume.proofs.Standing.{store_stands}
 use Rattle.record_codec.specs.Bodies.{step_in}

@@ -40,7 +40,7 @@ use Rattle.volume.specs.Opening.{OpensStore}
 use Rattle.volume.specs.declared.opening.StoreFault.{StoreFault}
 use Rattle.volume.specs.declared.opening.StoreFault.TheVariants as store
 use Rattle.volume.specs.Store.{IsStore, found_of}
-use Rattle.volume.specs.Store.Found.{Stands as StandingImage}
+use Rattle.volume.specs.Store.FoundImages.{Stands as StandingImage}
 use Rattle.volume.proofs.Opens.{still_stands}
 use Rattle.volume.proofs.Standing.{store_stands}
 use Rattle.replica_volume.specs.Compacting.{AreKept, AreThose, Compacts, HoldOldOrCompacted, IsCompacted, KeepsSteps}
@@ -54,7 +54,7 @@ use Rattle.replica_volume.specs.Store.{holds_steps, opened_as, opens_as, store_o
 use Rattle.replica_volume.specs.Store.StoreFound.{Holds}
 use Rattle.replica_volume.specs.Volume.{KeepsHistory, devices, limit_in, volume_known}
 use Rattle.replica_volume.specs.declared.compact_fault.Sizes.{Sizes}
-use Rattle.replica_volume.specs.declared.compacting.Kept.{Kept}
+use Rattle.replica_volume.specs.declared.compacting.KeptSteps.{KeptSteps}
 use Rattle.replica_volume.specs.declared.placing.PlaceFault.{PlaceFault}
 use Rattle.replica_volume.specs.declared.placing.PlaceFault.TheVariants as place
 use Rattle.replica_volume.specs.declared.placing.Standing.{Standing}
@@ -65,14 +65,14 @@ use Rattle.replica_volume.proofs.Read.{bad_in, one_said}
 -- ---- reading
 
 -- the first bodies of the image say a history, and of each of its steps there is what the state alone leaves of it
-pub record AreKeptSoFar (s : State) (image : StoredImage) (bodies : List (List ℕ)) (k : Kept) : Type 0 where
+pub record AreKeptSoFar (s : State) (image : StoredImage) (bodies : List (List ℕ)) (k : KeptSteps) : Type 0 where
   pub history : History
   pub says : steps_of image.format image.header bodies ≡ Ok (record { steps = history; uids = k.uids.uids })
   pub kept : map step_of k.steps ≡ trimmed s history
   pub spelled : image.format ≢ 1 → AreThose image.header.uid history bodies k.uids.uids
 
 -- no body yet
-pub kept_none : (s : State) (image : StoredImage) (k : Kept) → k.steps ≡ [] → k.uids.uids ≡ image.header.uid ∷ []
+pub kept_none : (s : State) (image : StoredImage) (k : KeptSteps) → k.steps ≡ [] → k.uids.uids ≡ image.header.uid ∷ []
     → AreKeptSoFar s image [] k
 kept_none s image k steps uids = record {
   history = [];
@@ -101,7 +101,7 @@ those_more own h x bodies body uids added are spelled names = record {
 }
 
 -- one body more
-pub kept_more : (s : State) (image : StoredImage) (bodies : List (List ℕ)) (body : List ℕ) (old new : Kept)
+pub kept_more : (s : State) (image : StoredImage) (bodies : List (List ℕ)) (body : List ℕ) (old new : KeptSteps)
     (d : Decoded) → AreKeptSoFar s image bodies old
     → body_in image.format old.uids.uids body ≡ Ok (recorded d)
     → (image.format ≢ 1 → Says old.uids.uids body (recorded d)) → new.uids.uids ≡ old.uids.uids ++ d.added
@@ -124,14 +124,14 @@ kept_more s image bodies body old new d k said spelled uids steps = record {
 }
 
 -- all bodies
-pub kept_all : (s : State) (image : StoredImage) (bodies : List (List ℕ)) (k : Kept) → image.bodies ≡ bodies
+pub kept_all : (s : State) (image : StoredImage) (bodies : List (List ℕ)) (k : KeptSteps) → image.bodies ≡ bodies
     → AreKeptSoFar s image bodies k → AreKept s image k.steps
 kept_all s image bodies k e is =
     let all = subst (λ (l : List (List ℕ)). AreKeptSoFar s image l k) (sym e) is in
     record { history = all.history; uids = k.uids.uids; says = all.says; kept = all.kept; spelled = all.spelled }
 
 -- what reading the next body answered, where it has no reading or memory ran out
-pub kept_err : (s : State) (image : StoredImage) (bodies : List (List ℕ)) (body : List ℕ) (old : Kept)
+pub kept_err : (s : State) (image : StoredImage) (bodies : List (List ℕ)) (body : List ℕ) (old : KeptSteps)
     (place next start format : ℕ) (why : RecordFault)
     → HasPassed image bodies place → HasPassed image (bodies ++ body ∷ []) next → AreKeptSoFar s image bodies old
     → format ≡ image.format

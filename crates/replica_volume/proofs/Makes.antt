@@ -9,7 +9,7 @@ use Rattle.disks.proofs.Runs.{begins, weaker}
 use Rattle.journal.specs.Image.{Head}
 use Rattle.replica_core.specs.Replica.Found.{Stands}
 use Rattle.replica_state.specs.Held.{meaning}
-use Rattle.volume.specs.Store.{Found as FoundImages, IsStore, found_of}
+use Rattle.volume.specs.Store.{FoundImages, IsStore, found_of}
 use Rattle.volume.specs.Crashes.{IsBlankOrEmpty, IsEmptyStore, LeavesOldOrEmpty, MayFind, OnlyLooks}
 use Rattle.volume.proofs.Finding.{found_blank}
 use Rattle.replica_volume.specs.Making.{LeavesAsBeforeOrNew}

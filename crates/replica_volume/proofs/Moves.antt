@@ -20,8 +20,8 @@ use Rattle.journal.specs.Passing.{HasPassed}
 use Rattle.journal.specs.Stored.{StoredImage}
 use Rattle.record_codec.specs.Bodies.{first_step_in}
 use Rattle.volume.specs.Crashes.{MayFind, OnlyLooks}
-use Rattle.volume.specs.Store.{Found as FoundImages, IsStore, found_of}
-use Rattle.volume.specs.Store.Found.{Blank as NoImages, Damaged as BrokenImage, Stands as StandingImage}
+use Rattle.volume.specs.Store.{FoundImages, IsStore, found_of}
+use Rattle.volume.specs.Store.FoundImages.{Blank as NoImages, Damaged as BrokenImage, Stands as StandingImage}
 use Rattle.volume.proofs.Standing.{store_stands}
 use Rattle.replica_volume.specs.Opening.{IsLeft, LeavesAsBefore, LeavesOldOrMoved, LeavesSameOrMoved}
 use Rattle.record_fields.specs.Table.{Numbers}

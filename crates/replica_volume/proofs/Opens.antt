@@ -13,7 +13,7 @@ use Rattle.replica_state.specs.Held.{meaning}
 use Rattle.replica_state.specs.Replayed.{replayed}
 use Rattle.volume.specs.Opening.{OpensStore}
 use Rattle.volume.specs.Store.{IsStore, found_of}
-use Rattle.volume.specs.Store.Found.{Stands as StandingImage}
+use Rattle.volume.specs.Store.FoundImages.{Stands as StandingImage}
 use Rattle.volume.specs.declared.opening.StoreFault.{StoreFault}
 use Rattle.volume.specs.declared.opening.StoreFault.TheVariants as store
 use Rattle.replica_volume.specs.Faults.{fault_of, fault_placing}

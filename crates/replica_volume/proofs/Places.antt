@@ -16,7 +16,7 @@ use Rattle.journal.specs.Spelled.{Spelled as NewImage, Spells, extent_of}
 use Rattle.record_codec.specs.Bodies.{Recorded, added_of, body_of}
 use Rattle.volume.specs.Crashes.{LeavesOldOrNew}
 use Rattle.volume.specs.Store.{IsStore, StandsSpelled, found_of}
-use Rattle.volume.specs.Store.Found.{Stands as StandingImage}
+use Rattle.volume.specs.Store.FoundImages.{Stands as StandingImage}
 use Rattle.volume.proofs.Standing.{store_stands}
 use Rattle.replica_volume.specs.Placing.{IsSpelled, LeavesOldOrSpelled, StandsWith}
 use Rattle.replica_volume.specs.Steps.{after_body, steps_in, with_step}

@@ -13,7 +13,7 @@ use Rattle.journal.specs.Journal.{Extent}
 use Rattle.journal.specs.Stored.{StoredImage}
 use Rattle.journal.specs.declared.layout.TheConstants.{SECOND_FORMAT}
 use Rattle.volume.specs.Store.{IsStore, found_of}
-use Rattle.volume.specs.Store.Found.{Stands as StandingImage}
+use Rattle.volume.specs.Store.FoundImages.{Stands as StandingImage}
 use Rattle.replica_volume.specs.Steps.{steps_of}
 use Rattle.replica_volume.specs.declared.placing.Standing.{Standing}
 

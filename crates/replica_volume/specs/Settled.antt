@@ -7,7 +7,7 @@ use Rattle.disks.specs.declared.trio.Trio.{Trio}
 use Rattle.disks.specs.Joint.{AreCrashImages, Devices, JointMoment, moment_at, now_of}
 use Rattle.disks.proofs.Runs.{last_moment}
 use Rattle.replica_state.specs.Held.{meaning}
-use Rattle.volume.specs.Store.{Found as FoundImages}
+use Rattle.volume.specs.Store.{FoundImages}
 use Rattle.volume.proofs.Standing.{store_stands}
 use Rattle.replica_core.specs.Replica.{Found, state_in}
 use Rattle.replica_core.specs.Replica.Found.{Stands}

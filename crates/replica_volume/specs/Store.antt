@@ -7,8 +7,8 @@ use Rattle.disks.specs.declared.trio.Trio.{Trio}
 use Rattle.disks.specs.Joint.{JointMoment, AreCrashImages}
 use Rattle.journal.specs.Image.{Head, header_bytes}
 use Rattle.journal.specs.declared.layout.TheConstants.{FIRST_FORMAT, SECOND_FORMAT}
-use Rattle.volume.specs.Store.{Found as FoundImages, found_of}
-use Rattle.volume.specs.Store.Found.{Blank as NoImages, Damaged as BrokenImage, Stands as StandingImage}
+use Rattle.volume.specs.Store.{FoundImages, found_of}
+use Rattle.volume.specs.Store.FoundImages.{Blank as NoImages, Damaged as BrokenImage, Stands as StandingImage}
 use Rattle.replica_core.specs.Replica.{Found}
 use Rattle.replica_core.specs.Replica.Found.{Blank as Nothing, Damaged as Broken, Stands}
 use Rattle.replica_volume.specs.Steps.{Chronicle, steps_of, state_at}

@@ -10,8 +10,8 @@ use Rattle.disks.specs.Disks.{disks_known}
 use Rattle.journal.specs.Image.{Head}
 use Rattle.journal.specs.Journal.{need}
 use Rattle.journal.specs.declared.layout.TheConstants.{SECOND_FORMAT}
-use Rattle.volume.specs.Store.{Found as FoundImages, IsStore, found_of}
-use Rattle.volume.specs.Store.Found.{Blank, Damaged, Stands}
+use Rattle.volume.specs.Store.{FoundImages, IsStore, found_of}
+use Rattle.volume.specs.Store.FoundImages.{Blank, Damaged, Stands}
 use Rattle.record_codec.specs.Bodies.{body_of}
 use Rattle.replica_state.specs.Held.{meaning}
 use Rattle.replica_core.specs.Replica.{Found, Known}

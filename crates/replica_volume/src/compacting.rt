@@ -32,7 +32,7 @@ use volume::{OpenedImages, open_images, other_side};
 
 // The steps of an image as far as they may be left, and the uids that have numbers in it.
 #[derive(Drop)]
-struct Kept {
+struct KeptSteps {
     steps: Steps,
     uids: Uids,
 }
@@ -158,22 +158,22 @@ fn kept_steps(alloc: Global, state: &State, image: &Stored) -> Result<Steps, Rec
         keep(&mut kept, state, decoded)?;
         place = entry.next;
     }
-    let Kept { steps, .. } = kept;
+    let KeptSteps { steps, .. } = kept;
     Ok(steps)
 }
 
 // Of no step yet, at the replica of this image.
-fn nothing_kept(alloc: Global, image: &Stored) -> Result<Kept, Memory>
+fn nothing_kept(alloc: Global, image: &Stored) -> Result<KeptSteps, Memory>
     ensures steps { IfOk result (λ k. k.steps ≡ []) }
     ensures uids { IfOk result (λ k. k.uids.uids ≡ image.now.header.uid ∷ []) }
 {
     let steps = Steps::new(alloc);
     let uids = Uids::new(alloc, &image.header().uid)?;
-    Ok(Kept { steps, uids })
+    Ok(KeptSteps { steps, uids })
 }
 
 // Keeps what may be left of the step, and gives numbers to the uids that its body adds.
-fn keep(kept: &mut Kept, state: &State, decoded: Decoded) -> Result<(), Memory>
+fn keep(kept: &mut KeptSteps, state: &State, decoded: Decoded) -> Result<(), Memory>
     requires { AreNumbered (kept.old.uids.uids ++ decoded.added) }
     ensures steps { OnOk result (map step_of kept.new.steps ≡ map step_of kept.old.steps
         ++ left (meaning state.now) nothing_later (step_of decoded.step)) }

@@ -25,6 +25,8 @@ mod opening;
 #[cfg(test)]
 mod opening_tests;
 mod placing;
+#[cfg(test)]
+mod plain_tests;
 mod replaying;
 mod replica;
 #[cfg(test)]

@@ -1,8 +1,9 @@
 //! Opening: worked damage, each byte of the root, cuts and changed bytes, each call that fails.
 use crate::VolumeFault;
+use crate::plain_tests::plain;
 use crate::tests::{
     CREATED, CREATED_FIRST, EMPTY, Found, NOTHING, ONE, Three, calls, changed, damaged, disks_of,
-    find, hold, is_found, leave, look,
+    hold, is_found, leave, look,
 };
 use disks::DiskName;
 use std::alloc::Global;
@@ -45,34 +46,6 @@ fn reads_what_is_not_damaged(rt: HostRuntime) {
     assert!(rt; finds(rt.alloc(), CREATED, 23, &[2], NOTHING));
 }
 
-// What is found of the image that is cut to this length.
-fn where_cut(length: usize) -> Found {
-    let place = match length {
-        0..8 => 0,
-        8..12 => 8,
-        12..15 => 12,
-        15..23 => 15,
-        23 => 23,
-        24..109 => 24,
-        _ => 109,
-    };
-    damaged(DiskName::Left, place)
-}
-
-fn finds_cut(alloc: Global, length: usize) -> bool {
-    match CREATED.get(..length) {
-        Some(left) => is_found(alloc, (&[0], left, CREATED), where_cut(length)),
-        None => false,
-    }
-}
-
-#[test]
-fn finds_what_is_cut(rt: HostRuntime) {
-    for length in 0..110usize {
-        assert!(rt; finds_cut(rt.alloc(), length), "{length}");
-    }
-}
-
 // ---- the root
 
 #[test]
@@ -105,46 +78,111 @@ fn tells_a_root_that_is_too_long(rt: HostRuntime) {
     }
 }
 
-// ---- each byte
+// ---- each cut and each byte
 
-// Where the fields of the image begin.
-const FIELDS: &[usize] = &[
-    0, 8, 12, 15, 23, 24, 28, 29, 33, 46, 47, 51, 52, 53, 72, 108, 109,
+// An image with each kind of body: 216 bytes. The first body names two replicas and a parent, and
+// moves a position. The second is of another document, and has no content.
+const EACH_KIND: &[u8] = b"U1DBVOL\x02\0\x02db\0\x01a\0\0\x01\0\0\0\0\0\
+    \x01\0\0\0\x4d\x01\0\x01d\x02\0\0\0\0\0\0\0\0\0\0\0\x01\0\0\0\x01\0\x01b\0\0\0\0\0\0\0\x01\x03\
+    \0\0\0\x01\x01\0\0\0\0\0\0\0\0\0\0\0\x01\x01\x01\0\0\0\x02{}\0\x01T\x02\0\0\0\x01\
+    \0\0\0\0\0\0\0\x01\0\x01T\
+    \x01\0\0\0\x1c\x01\0\x01e\x01\0\0\0\0\0\0\0\0\0\0\0\x02\0\0\0\0\0\0\0\0\x01U\0\
+    \x01\0\0\0\x16\x02\0\x01d\0\x01V\x01\0\0\0\x01\0\0\0\0\0\0\0\0\0\0\
+    \x01\0\0\0\x14\x03\x01\0\0\0\x02\0\x01c\0\0\0\0\0\0\0\x02\0\x01T\
+    \x01\0\0\0\x0b\x04\0\x01i\x02\0\x01a\0\x01b\
+    \x01\0\0\0\x04\x05\0\x01i\
+    \0";
+
+// The same in format 1: 175 bytes.
+const EACH_KIND_FIRST: &[u8] = b"U1DBVOL\x01\0\x02db\0\x01a\0\0\x01\0\0\0\0\0\
+    \x01\0\0\0\x31\x01\0\x01d\0\x07a:1|b:1\x03\0\0\0\x01\0\x03a:1\x01\x01\0\0\0\x02{}\0\x01T\
+    \x02\0\x01b\0\0\0\0\0\0\0\x01\0\x01T\
+    \x01\0\0\0\x14\x01\0\x01e\0\x03a:2\0\0\0\0\0\0\0\0\x01U\0\
+    \x01\0\0\0\x15\x02\0\x01d\0\x01V\x01\0\x01b\0\0\0\0\0\0\0\0\0\0\
+    \x01\0\0\0\x10\x03\x01\0\x01c\0\0\0\0\0\0\0\x02\0\x01T\
+    \x01\0\0\0\x0b\x04\0\x01i\x02\0\x01a\0\x01b\
+    \x01\0\0\0\x04\x05\0\x01i\
+    \0";
+
+const STORES: [Three; 4] = [
+    (&[0], CREATED, EMPTY),
+    (&[0], EACH_KIND, EMPTY),
+    (&[1], EMPTY, CREATED_FIRST),
+    (&[1], EMPTY, EACH_KIND_FIRST),
 ];
 
-fn field_of(place: usize) -> usize {
-    let mut field = 0;
-    for start in FIELDS {
-        if *start <= place {
-            field = *start;
-        }
-    }
-    field
-}
+const NAMES: [DiskName; 3] = [DiskName::Root, DiskName::Left, DiskName::Right];
 
-// A changed byte shows in its own field or behind it, if at all.
-fn may_be(found: Found, place: usize) -> bool {
-    match found {
-        Ok(_) => true,
-        Err(VolumeFault::Damaged { disk, place: at }) => {
-            disk == DiskName::Left && at as usize >= field_of(place) && at as usize <= CREATED.len()
-        }
-        Err(_) => false,
+fn file_of<'a>(files: Three<'a>, name: DiskName) -> &'a [u8] {
+    match name {
+        DiskName::Root => files.0,
+        DiskName::Left => files.1,
+        DiskName::Right => files.2,
     }
 }
 
-fn is_found_with(alloc: Global, place: usize, byte: u8) -> bool {
-    match changed(alloc, CREATED, place, &[byte]) {
-        Ok(left) => may_be(find(alloc, (&[0], &left, EMPTY)), place),
-        Err(_) => false,
+// The files with another one of this name.
+fn replaced<'a>(files: Three<'a>, name: DiskName, file: &'a [u8]) -> Three<'a> {
+    match name {
+        DiskName::Root => (file, files.1, files.2),
+        DiskName::Left => (files.0, file, files.2),
+        DiskName::Right => (files.0, files.1, file),
+    }
+}
+
+// Whether opening finds of these files what the plain reading finds.
+fn finds_plain(alloc: Global, files: Three) -> bool {
+    is_found(alloc, files, plain(alloc, files))
+}
+
+fn finds_cut(alloc: Global, files: Three, name: DiskName, length: usize) -> bool {
+    match file_of(files, name).get(..length) {
+        Some(file) => finds_plain(alloc, replaced(files, name, file)),
+        None => false,
     }
 }
 
 #[test]
+fn finds_what_is_cut(rt: HostRuntime) {
+    for files in STORES {
+        for name in NAMES {
+            for length in 0..file_of(files, name).len() {
+                assert!(rt;
+                    finds_cut(rt.alloc(), files, name, length),
+                    "{name:?} {length}"
+                );
+            }
+        }
+    }
+}
+
+fn finds_changed(alloc: Global, files: Three, name: DiskName, place: usize, byte: u8) -> bool {
+    match changed(alloc, file_of(files, name), place, &[byte]) {
+        Ok(file) => finds_plain(alloc, replaced(files, name, &file)),
+        Err(_) => false,
+    }
+}
+
+// The same of each value of the byte at this place.
+fn finds_each_value(alloc: Global, files: Three, name: DiskName, place: usize) -> bool {
+    for byte in 0..=255u8 {
+        if !finds_changed(alloc, files, name, place, byte) {
+            return false;
+        }
+    }
+    true
+}
+
+#[test]
 fn finds_what_is_changed(rt: HostRuntime) {
-    for place in 0..CREATED.len() {
-        for byte in [0, 1, 2, 3, 5, 48, 97, 127, 128, 254, 255u8] {
-            assert!(rt; is_found_with(rt.alloc(), place, byte), "{place} {byte}");
+    for files in STORES {
+        for name in NAMES {
+            for place in 0..file_of(files, name).len() {
+                assert!(rt;
+                    finds_each_value(rt.alloc(), files, name, place),
+                    "{name:?} {place}"
+                );
+            }
         }
     }
 }

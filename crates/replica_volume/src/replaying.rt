@@ -24,8 +24,8 @@ pub(crate) struct Made {
     pub(crate) uids: Uids,
 }
 
-/// Makes the steps that the image's bodies say, one after the other. No body and no step is kept
-/// when it has been made. The indexes are still to be built.
+/// Makes the steps that the image's bodies say, one after the other. No body is copied, and no
+/// step is kept when it has been made. The indexes are still to be built.
 ///
 /// The place of `Bad` is that of a byte of the file.
 pub(crate) fn replay(alloc: Global, image: &Stored) -> Result<Made, RecordFault>

@@ -58,7 +58,8 @@ fn add_revisions(alloc: Global, steps: &mut Vec<Step>, size: u32) -> Result<(), 
     Ok(())
 }
 
-fn first_revision(alloc: Global, own: &ReplicaUid, number: u32) -> Result<Step, Fault> {
+/// The step that accepts the first revision of the document of this number.
+pub fn first_revision(alloc: Global, own: &ReplicaUid, number: u32) -> Result<Step, Fault> {
     Ok(Step::Accept {
         doc: id_of(alloc, number)?,
         accept: acceptance(alloc, own, number)?,

@@ -12,6 +12,7 @@ mod compact;
 mod contents;
 mod distinct;
 mod documents;
+mod first;
 mod heads;
 mod image;
 mod index;
@@ -40,8 +41,8 @@ use std::process::ExitCode;
 
 /// What is said where the words name no workload.
 const USAGE: &str = "usage: speed alone|answers|changes|commit|compact|contents|distinct|\
-    few|heads|image|index|indexed|keys|lanes|large|lines|open|open_indexed|pairs|\
-    prefix|receipts|state|stream|table SIZE";
+    few|first|heads|image|index|indexed|keys|lanes|large|lines|open|open_indexed|\
+    pairs|prefix|receipts|state|stream|table SIZE";
 
 fn main(rt: HostRuntime) -> ExitCode {
     match measured(&rt) {
@@ -80,6 +81,7 @@ fn workload(rt: &HostRuntime, name: &str, size: u32) -> Result<Report, Fault> {
         "contents" => contents::measure(rt, size),
         "distinct" => distinct::measure(rt, size),
         "few" => prefix::measure_few(rt, size),
+        "first" => first::measure(rt, size),
         "heads" => heads::measure(rt, size),
         "image" => image::measure(rt, size),
         "index" => indexed::measure_index(rt, size),

@@ -7,9 +7,9 @@ use Rattle.httparse.specs.declared.spans.Span.{Span}
 use Rattle.httparse.specs.declared.spans.HeaderSpan.{HeaderSpan}
 use Rattle.httparse.specs.Spans.{IsWithin, span_bytes, header_bytes}
 use Rattle.sync_http.specs.Fields.{Pair, values_named}
-use Rattle.sync_http.specs.Found.{AreFound, one_more}
-use Rattle.sync_http.specs.declared.fields.Found.{Found}
-use Rattle.sync_http.specs.declared.fields.Found.TheVariants.{Missing, Once, Often}
+use Rattle.sync_http.specs.Occurrence.{AreFound, one_more}
+use Rattle.sync_http.specs.declared.fields.Occurrence.{Occurrence}
+use Rattle.sync_http.specs.declared.fields.Occurrence.TheVariants.{Missing, Once, Often}
 
 -- the value of a field, if it has the name
 abbrev value_if : Bool → List ℕ → List (List ℕ)
@@ -27,7 +27,7 @@ values-push name (q ∷ ps) p =
       | false ↦ values-push name ps p
     ]
 
-more_found : (bytes : List ℕ) (vs : List (List ℕ)) (f : Found) (s : Span) → IsWithin (length bytes) s
+more_found : (bytes : List ℕ) (vs : List (List ℕ)) (f : Occurrence) (s : Span) → IsWithin (length bytes) s
     → AreFound bytes vs f → AreFound bytes (vs ++ span_bytes bytes s ∷ []) (one_more f s)
 more_found bytes vs Missing s within h = (within, ap (λ us. us ++ span_bytes bytes s ∷ []) h)
 more_found bytes vs (Once t) s within h =
@@ -47,7 +47,7 @@ one_further bytes name headers i d less =
     ap (values_named name) (map_more (header_bytes bytes) headers i d less)
     ∙ values-push name (map (header_bytes bytes) (take i headers)) (header_bytes bytes (get_or headers i d))
 
-pub found_named : (bytes name : List ℕ) (headers : List HeaderSpan) (i : ℕ) (d : HeaderSpan) (f : Found)
+pub found_named : (bytes name : List ℕ) (headers : List HeaderSpan) (i : ℕ) (d : HeaderSpan) (f : Occurrence)
     → i < length headers → IsWithin (length bytes) (get_or headers i d).value →
     str_eq_ignore_ascii_case (span_bytes bytes (get_or headers i d).name) name ≡ true
     → AreFound bytes (so_far bytes name headers i) f
@@ -58,7 +58,7 @@ found_named bytes name headers i d f less within named so =
     ∙ ap (λ b. so_far bytes name headers i ++ value_if b (span_bytes bytes (get_or headers i d).value)) named))
     (more_found bytes (so_far bytes name headers i) f (get_or headers i d).value within so)
 
-pub found_other : (bytes name : List ℕ) (headers : List HeaderSpan) (i : ℕ) (d : HeaderSpan) (f : Found)
+pub found_other : (bytes name : List ℕ) (headers : List HeaderSpan) (i : ℕ) (d : HeaderSpan) (f : Occurrence)
     → i < length headers →
     str_eq_ignore_ascii_case (span_bytes bytes (get_or headers i d).name) name ≡ false
     → AreFound bytes (so_far bytes name headers i) f → AreFound bytes (so_far bytes name headers (i + 1)) f

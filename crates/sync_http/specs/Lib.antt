@@ -1,7 +1,7 @@
 pub mod Slashes
 pub mod Addresses
 pub mod Fields
-pub mod Found
+pub mod Occurrence
 pub mod Heads
 pub mod Hearing
 pub mod Parts

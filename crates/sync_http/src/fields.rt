@@ -7,7 +7,7 @@ ghost use Rattle.std.specs.Str.Parse.{digits_value};
 ghost use Rattle.httparse.specs.Spans.{IsHeaderWithin, header_bytes, span_bytes};
 ghost use Rattle.sync_http.specs.Fields.{content_length, is_encoded, is_length, is_numeral};
 ghost use Rattle.sync_http.specs.Fields.{length_of, number_in, values_named};
-ghost use Rattle.sync_http.specs.Found.{AreFound, one_more};
+ghost use Rattle.sync_http.specs.Occurrence.{AreFound, one_more};
 
 use httparse::spans::{HeaderSpan, Span};
 use std::str;
@@ -18,7 +18,7 @@ const MOST_DIGITS: usize = 19;
 
 /// The fields of one name: where the value of a single one lies.
 #[derive(Clone, Copy, Debug, PartialEq, Eq)]
-pub enum Found {
+pub enum Occurrence {
     Missing,
     Once(Span),
     Often,
@@ -31,12 +31,12 @@ pub(crate) fn content_length(bytes: &[u8], headers: &[HeaderSpan]) -> Option<Opt
     ensures { result ≡ content_length (map (header_bytes bytes.now) headers.now) }
 {
     match find_named(bytes, headers, b"Content-Length") {
-        Found::Missing => Some(None),
-        Found::Once(value) => match number_of(value.of(bytes)) {
+        Occurrence::Missing => Some(None),
+        Occurrence::Once(value) => match number_of(value.of(bytes)) {
             Some(number) => Some(Some(number)),
             None => None,
         },
-        Found::Often => None,
+        Occurrence::Often => None,
     }
 }
 
@@ -46,18 +46,18 @@ pub(crate) fn is_encoded(bytes: &[u8], headers: &[HeaderSpan]) -> bool
     ensures { result ≡ is_encoded (map (header_bytes bytes.now) headers.now) }
 {
     match find_named(bytes, headers, b"Transfer-Encoding") {
-        Found::Missing => false,
-        Found::Once(_) => true,
-        Found::Often => true,
+        Occurrence::Missing => false,
+        Occurrence::Once(_) => true,
+        Occurrence::Often => true,
     }
 }
 
-fn find_named(bytes: &[u8], headers: &[HeaderSpan], name: &[u8]) -> Found
+fn find_named(bytes: &[u8], headers: &[HeaderSpan], name: &[u8]) -> Occurrence
     requires { All (IsHeaderWithin (length bytes.now)) headers.now }
     ensures { AreFound bytes.now
         (values_named name.now (map (header_bytes bytes.now) headers.now)) result }
 {
-    let mut found = Found::Missing;
+    let mut found = Occurrence::Missing;
     for header in headers {
         if is_named(bytes, *header, name) {
             found = one_more(found, header.value);
@@ -66,13 +66,13 @@ fn find_named(bytes: &[u8], headers: &[HeaderSpan], name: &[u8]) -> Found
     found
 }
 
-fn one_more(found: Found, value: Span) -> Found
+fn one_more(found: Occurrence, value: Span) -> Occurrence
     ensures { result ≡ one_more found value }
 {
     match found {
-        Found::Missing => Found::Once(value),
-        Found::Once(_) => Found::Often,
-        Found::Often => Found::Often,
+        Occurrence::Missing => Occurrence::Once(value),
+        Occurrence::Once(_) => Occurrence::Often,
+        Occurrence::Often => Occurrence::Often,
     }
 }
 

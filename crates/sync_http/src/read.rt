@@ -26,7 +26,7 @@ pub fn read_request(alloc: Global, bytes: &[u8]) -> Result<Heard<RequestHead>, W
     ensures whole { (said : Said RequestHeadValue) (n : ℕ) → SaysRequest bytes.now said n
         → (result ≡ heard said n) ⊎ (result ≡ Err Memory) }
 {
-    let front = front_of(bytes);
+    let front = head_in(bytes);
     let mut headers = [EMPTY_HEADER_SPAN; MOST_HEADERS];
     match parse_request(front, &mut headers) {
         Ok(Status::Complete(spans)) => {
@@ -60,7 +60,7 @@ fn unfinished<T>(bytes: &[u8]) -> Result<Heard<T>, WireFault>
 }
 
 // The part in which a head is looked for.
-fn front_of(bytes: &[u8]) -> &[u8]
+fn head_in(bytes: &[u8]) -> &[u8]
     ensures { result.now ≡ front bytes.now }
 {
     &bytes[..bytes.len().min(MOST_HEAD_BYTES)]
@@ -134,7 +134,7 @@ pub fn read_reply(bytes: &[u8]) -> Result<Heard<ReplyHead>, WireFault>
         → result ≡ heard said n }
     ensures kinds { IfErr result IsReplyFault }
 {
-    let front = front_of(bytes);
+    let front = head_in(bytes);
     let mut headers = [EMPTY_HEADER_SPAN; MOST_HEADERS];
     match parse_response(front, &mut headers) {
         Ok(Status::Complete(spans)) => {

@@ -6,7 +6,7 @@ use Rattle.std.proofs.lemmas.List.{append-nil}
 use Rattle.sync_stream.specs.Lines.{ended, IsUnbroken}
 use Rattle.sync_stream.specs.Stream.{IsFaultyAt, IsGood, Passes, counted, end_fault}
 use Rattle.sync_stream.specs.Stream.IsFaultyAt.{whole_line, long_rest, after_end}
-use Rattle.sync_stream.specs.Kept.{HasNoMore, Kept, StandsFor}
+use Rattle.sync_stream.specs.HeldText.{HasNoMore, HeldText, StandsFor}
 use Rattle.sync_stream.specs.Came.{Cut, Ending, EndsSo, Faulty, IsQuiet, SaysBody, ending_of}
 use Rattle.sync_stream.specs.Came.EndsSo.{at_cut, at_end, at_fault}
 use Rattle.sync_stream.specs.declared.line.HeadKind.{HeadKind}
@@ -21,7 +21,7 @@ use Rattle.sync_stream.proofs.Unique.{passes_on}
 -- ---- readers
 
 -- the source ended, and the reader has no more to give: the body is cut at its next line
-pub says_cut : (reader : Kept) (text : List ℕ) (given : List Line) → StandsFor reader text given → HasNoMore reader
+pub says_cut : (reader : HeldText) (text : List ℕ) (given : List Line) → StandsFor reader text given → HasNoMore reader
     → SaysBody reader.kind text false given (Cut reader.number)
 says_cut reader text given s quiet =
     record {
@@ -33,7 +33,7 @@ says_cut reader text given s quiet =
     }
 
 -- a fault was found, whatever was still to come
-pub says_faulty : (reader : Kept) (text : List ℕ) (given : List Line) (all : Bool) (fault : LineFault)
+pub says_faulty : (reader : HeldText) (text : List ℕ) (given : List Line) (all : Bool) (fault : LineFault)
     → StandsFor reader text given
     → IsFaultyAt reader.kind reader.number reader.place reader.rest fault
     → SaysBody reader.kind text all given (Faulty fault)
@@ -47,7 +47,7 @@ says_faulty reader text given all fault s faulty =
     }
 
 -- the body is over
-pub says_end : (reader : Kept) (text : List ℕ) (given : List Line) (ending : Option LineFault)
+pub says_end : (reader : HeldText) (text : List ℕ) (given : List Line) (ending : Option LineFault)
     → StandsFor reader text given → IsQuiet reader.place reader.rest
     → end_fault reader.kind reader.number reader.place reader.rest ≡ ending
     → SaysBody reader.kind text true given (ending_of ending)

@@ -12,3 +12,4 @@ pub mod StreamBack
 pub mod Came
 pub mod Serving
 mod Messages
+mod Lengths

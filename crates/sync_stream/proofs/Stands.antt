@@ -10,7 +10,7 @@ use Rattle.std.proofs.lemmas.Option.{cond_some}
 use Rattle.sync_stream.specs.Lines.{ended, IsUnbroken}
 use Rattle.sync_stream.specs.Says.{says}
 use Rattle.sync_stream.specs.Stream.{counted, said_by, IsGood, Passes, IsFaultyAt}
-use Rattle.sync_stream.specs.Kept.{Kept, StandsFor, PassesOne}
+use Rattle.sync_stream.specs.HeldText.{HeldText, StandsFor, PassesOne}
 use Rattle.sync_stream.specs.declared.line.HeadKind.{HeadKind}
 use Rattle.sync_stream.specs.declared.line.Line.{Line}
 use Rattle.sync_stream.specs.declared.line.Next.{Next}
@@ -26,7 +26,7 @@ use Rattle.sync_stream.specs.declared.fault.LineFault.TheVariants.{At, TooLong}
 use Rattle.sync_stream.specs.declared.fault.StreamFault.{StreamFault}
 use Rattle.sync_stream.specs.declared.fault.StreamFault.TheVariants as fault
 use Rattle.sync_stream.specs.Stream.{answered, fault_of, end_fault, Ends, is_closed}
-use Rattle.sync_stream.specs.Kept.{IsReadUp, lines_passed, Answers}
+use Rattle.sync_stream.specs.HeldText.{IsReadUp, lines_passed, Answers}
 use Rattle.sync_stream.specs.declared.line.Next.TheVariants.{Opening, Heading, After, Closed}
 use Rattle.sync_stream.specs.declared.line.Line.TheVariants.{Head, Doc, End}
 
@@ -101,7 +101,7 @@ all_more P (y ∷ xs) x h p = (h.0, all_more P xs x h.1 p)
 counted_more : (n : ℕ) → counted (counted n + 1) ≡ counted (n + 1)
 counted_more n = omega arith
 
-stands_at : (old : Kept) (rest : List ℕ) (text : List ℕ) (given : List Line) (line : List ℕ) (passed : Passed)
+stands_at : (old : HeldText) (rest : List ℕ) (text : List ℕ) (given : List Line) (line : List ℕ) (passed : Passed)
     → StandsFor old text given → old.fault ≡ None → old.rest ≡ ended line ++ rest → IsUnbroken line
     → IsGood old.kind old.place line passed
     → StandsFor (record old { number = counted (old.number + 1); place = passed.place; rest = rest }) text
@@ -124,14 +124,14 @@ stands_at old rest text given line passed s no_fault bytes unbroken good =
           ⊎ (end_fault old.kind (counted (old.number + 1)) passed.place rest ≡ Some g))) (sym no_fault) tt;
     }
 
-pub stands_passed : (old new : Kept) (text : List ℕ) (given : List Line) (passed : Passed) → old.fault ≡ None
+pub stands_passed : (old new : HeldText) (text : List ℕ) (given : List Line) (passed : Passed) → old.fault ≡ None
     → PassesOne old new (Ok (Some passed))
     → StandsFor old text given → StandsFor new text (given ++ said_by passed.line)
 stands_passed old new text given passed no_fault h s =
     subst (λ k. StandsFor k text (given ++ said_by passed.line)) (sym h.4)
     (stands_at old new.rest text given h.0 passed s no_fault h.1 h.2 h.3)
 
-pub stands_fault : (old new : Kept) (text : List ℕ) (given : List Line) (fault : LineFault)
+pub stands_fault : (old new : HeldText) (text : List ℕ) (given : List Line) (fault : LineFault)
     → PassesOne old new (Err fault)
     → StandsFor old text given → StandsFor new text (given ++ [])
 stands_fault old new text given fault h s =
@@ -139,7 +139,7 @@ stands_fault old new text given fault h s =
     (subst (λ l. StandsFor (record old { fault = Some fault }) text l) (sym (append-nil given))
     (record { lines = s.lines; begins = s.begins; number = s.number; fault = inl h.1 }))
 
-pub stands_after : (old new : Kept) (text : List ℕ) (given : List Line) (result : Result (Option Passed) LineFault)
+pub stands_after : (old new : HeldText) (text : List ℕ) (given : List Line) (result : Result (Option Passed) LineFault)
     → old.fault ≡ None → PassesOne old new result
     → StandsFor old text given → StandsFor new text (given ++ lines_passed result)
 stands_after old new text given (Ok None) no_fault h s =
@@ -173,7 +173,7 @@ opened (After true) passed h none = absurd (none_some (sym none ∙ ap (λ p. p.
 opened (After false) passed h none = absurd (none_some (sym none ∙ ap (λ p. p.line) h))
 opened Closed passed h none = absurd h
 
-answer_is : (old new : Kept) (line : Line) → new.fault ≡ None → (line ≡ End → new.place ≡ Closed)
+answer_is : (old new : HeldText) (line : Line) → new.fault ≡ None → (line ≡ End → new.place ≡ Closed)
     → Answers old new (Ok (Some line))
 answer_is old new (Head x) no_fault closed = no_fault
 answer_is old new (Doc x) no_fault closed = no_fault
@@ -186,25 +186,25 @@ ended_is (After true) passed h is = absurd (doc_end (some_inj (sym (ap (λ p. p.
 ended_is (After false) passed h is = ap (λ p. p.place) h
 ended_is Closed passed h is = absurd h
 
-pub answers_said : (old new : Kept) (passed : Passed) (line : Line) → old.fault ≡ None → IsShape old.place passed
+pub answers_said : (old new : HeldText) (passed : Passed) (line : Line) → old.fault ≡ None → IsShape old.place passed
     → PassesOne old new (Ok (Some passed)) → passed.line ≡ Some line → Answers old new (Ok (Some line))
 answers_said old new passed line no_fault shape h is =
     answer_is old new line (ap (λ k. k.fault) h.4 ∙ no_fault)
     (λ e. ap (λ k. k.place) h.4 ∙ ended_is old.place passed shape (is ∙ ap Some e))
 
-pub heading_after : (old new : Kept) (passed : Passed) → IsShape old.place passed
+pub heading_after : (old new : HeldText) (passed : Passed) → IsShape old.place passed
     → PassesOne old new (Ok (Some passed)) → passed.line ≡ None → new.place ≡ Heading
 heading_after old new passed shape h none = ap (λ k. k.place) h.4 ∙ opened old.place passed shape none
 
 -- after the line `[` a line is there
-pub answers_head : (old new : Kept) (passed : Passed) → old.fault ≡ None → old.place ≡ Heading
+pub answers_head : (old new : HeldText) (passed : Passed) → old.fault ≡ None → old.place ≡ Heading
     → IsShape old.place passed → PassesOne old new (Ok (Some passed)) → Answers old new (Ok passed.line)
 answers_head old new passed no_fault heading shape h =
     let head : IsShape Heading passed = subst (λ p. IsShape p passed) heading shape in
     let is : passed.line ≡ Some (Head head.0) = ap (λ p. p.line) head.2 in
     subst (λ o. Answers old new (Ok o)) (sym is) (answers_said old new passed (Head head.0) no_fault shape h is)
 
-pub ends_of : (reader : Kept) (text : List ℕ) (given : List Line) (fault : Option LineFault)
+pub ends_of : (reader : HeldText) (text : List ℕ) (given : List Line) (fault : Option LineFault)
     → StandsFor reader text given → IsReadUp reader
     → end_fault reader.kind reader.number reader.place reader.rest ≡ fault → Ends reader.kind text given fault
 ends_of reader text given fault s up is =
@@ -218,17 +218,17 @@ ends_of reader text given fault s up is =
           subst (λ n. end_fault reader.kind n reader.place reader.rest ≡ fault) s.number is;
     }
 
-answers_fault : (old new : Kept) (f : LineFault) → new.fault ≡ Some f
+answers_fault : (old new : HeldText) (f : LineFault) → new.fault ≡ Some f
     → IsFaultyAt new.kind new.number new.place new.rest f → Answers old new (Err (answered f))
 answers_fault old new (At n) is faulty = (is, λ _. faulty)
 answers_fault old new (TooLong n) is faulty = (is, λ _. faulty)
 
-pub faulty_after : (old new : Kept) (f : LineFault) → PassesOne old new (Err f) → Answers old new (Err (answered f))
+pub faulty_after : (old new : HeldText) (f : LineFault) → PassesOne old new (Err f) → Answers old new (Err (answered f))
 faulty_after old new f h =
     answers_fault old new f (ap (λ k. k.fault) h.0)
     (subst (λ k. IsFaultyAt k.kind k.number k.place k.rest f) (sym h.0) h.1)
 
-pub answers_from : (old between new : Kept) (result : Result (Option Line) StreamFault) → between.fault ≡ None
+pub answers_from : (old between new : HeldText) (result : Result (Option Line) StreamFault) → between.fault ≡ None
     → Answers between new result → Answers old new result
 answers_from old between new (Ok None) no_fault h = h
 answers_from old between new (Ok (Some End)) no_fault h = h

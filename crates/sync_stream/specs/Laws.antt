@@ -1,6 +1,6 @@
 -- What holds of all streams.
-use Rattle.std.specs.Prelude.{◌≡◌, ◌≤◌, ◌⊎◌, ℕ, Bool, true, false, Option, List, [], ◌∷◌, ◌++◌, length, map, Some}
-use Rattle.std.specs.Prelude.{None, IfSome}
+use Rattle.std.specs.Prelude.{◌≡◌, ◌≢◌, ◌<◌, ◌≤◌, ◌⊎◌, ℕ, Bool, true, false, Option, List, [], ◌∷◌, ◌++◌, length, map}
+use Rattle.std.specs.Prelude.{Some, None, IfSome}
 use Rattle.std.specs.List.{AllByRecursion}
 use Rattle.content.specs.Contents.{IsContent}
 use Rattle.u1_base.specs.Ids.{IsId}
@@ -8,18 +8,20 @@ use Rattle.u1_base.specs.Places.{Place}
 use Rattle.u1_base.specs.declared.ids.Form.TheVariants.{Document}
 use Rattle.u1_base.specs.declared.limits.TheConstants.{GREATEST_COUNT}
 use Rattle.conflicts.specs.State.{State}
-use Rattle.sync_http.specs.Bodies.{IsInfo}
+use Rattle.sync_http.specs.Bodies.{IsInfo, info_in, told_in}
 use Rattle.sync_http.specs.Laws.{CanAsk}
 use Rattle.sync_http.specs.Positions.{IsPosition}
 use Rattle.sync_http.specs.declared.address.Address.{Address}
+use Rattle.sync_http.specs.declared.info.Info.{Info}
 use Rattle.sync_stream.specs.Lines.{GoOn}
 use Rattle.sync_stream.specs.Format.{IsBody, IsStream}
 use Rattle.sync_stream.specs.Stream.{Begins, Ends, HasFault, IsFaultyAt, Passes, end_fault}
-use Rattle.sync_stream.specs.Kept.{HasNoMore, Kept, StandsFor}
+use Rattle.sync_stream.specs.HeldText.{HasNoMore, HeldText, StandsFor}
 use Rattle.sync_stream.specs.Came.{Cut, Ending, Faulty, IsQuiet, SaysBody, Whole, ending_of}
 use Rattle.sync_stream.specs.Written.{stream_text}
 use Rattle.sync_stream.specs.Messages.{Asks, Exchange, Hears, ReadsReply, ReadsRequest, Says, SaysInfo, SaysKept}
-use Rattle.sync_stream.specs.Messages.{SaysReturned, Status}
+use Rattle.sync_stream.specs.Messages.{Over, SaysReturned, SaysStream, Short, Status, Stream, kept_in, most_small}
+use Rattle.sync_stream.specs.Messages.{small_if, small_of}
 use Rattle.sync_stream.specs.Replies.{Keeps, Refuses, Reply, Returns, Tells, refusal_status, reply_body, reply_text}
 use Rattle.sync_stream.specs.Requests.{ForInfo, Question, ToExchange, ToKeep, ask_of, request_head, request_text}
 use Rattle.sync_stream.specs.Serving.{serve}
@@ -111,18 +113,37 @@ pub record MessagesReadBack : Type 0 where
       → ReadsRequest (request_text to source question ++ more) (Asks to.db source (ask_of question))
   pub reply : (reply : Reply) (more : List ℕ) → IsGiven reply → ReadsBack (reply_text reply ++ more) reply
 
+-- ---- bodies beside the length that their head says
+
+-- a small body is read up to its length, whatever follows, unless its bytes end before that or it is too long
+pub record SmallByLength (A : Type 0) (reads : List ℕ → Option A) : Type 0 where
+  pub over : (n : ℕ) (bytes : List ℕ) → most_small < n → small_of reads n bytes ≡ Over
+  pub short : (n : ℕ) (bytes : List ℕ) → n ≤ most_small → length bytes < n → small_of reads n bytes ≡ Short
+  pub read : (body more : List ℕ) → length body ≤ most_small
+      → small_of reads (length body) (body ++ more) ≡ small_if (reads body)
+
+-- and so is a stream, which is not whole where its bytes end early
+pub record BodiesByLength : Type 0 where
+  pub told : SmallByLength Place told_in
+  pub info : SmallByLength Info info_in
+  pub kept : SmallByLength (Unit {0}) kept_in
+  pub short : (kind : HeadKind) (n : ℕ) (bytes : List ℕ) (stream : Stream) → length bytes < n
+      → SaysStream kind bytes n stream → stream.ending ≢ Whole
+  pub behind : (kind : HeadKind) (body more : List ℕ) (stream : Stream)
+      → SaysStream kind (body ++ more) (length body) stream → SaysStream kind body (length body) stream
+
 -- ---- what came of a body
 
 -- what a reader stands for is what the bytes say that came: where the source ended, where a fault was found, and where
 -- the body is over
 pub record ReadersSay : Type 0 where
-  pub cut : (reader : Kept) (text : List ℕ) (given : List Line) → StandsFor reader text given → HasNoMore reader
+  pub cut : (reader : HeldText) (text : List ℕ) (given : List Line) → StandsFor reader text given → HasNoMore reader
       → SaysBody reader.kind text false given (Cut reader.number)
-  pub faulty : (reader : Kept) (text : List ℕ) (given : List Line) (all : Bool) (fault : LineFault)
+  pub faulty : (reader : HeldText) (text : List ℕ) (given : List Line) (all : Bool) (fault : LineFault)
       → StandsFor reader text given
       → IsFaultyAt reader.kind reader.number reader.place reader.rest fault
       → SaysBody reader.kind text all given (Faulty fault)
-  pub over : (reader : Kept) (text : List ℕ) (given : List Line) (ending : Option LineFault)
+  pub over : (reader : HeldText) (text : List ℕ) (given : List Line) (ending : Option LineFault)
       → StandsFor reader text given
       → IsQuiet reader.place reader.rest → end_fault reader.kind reader.number reader.place reader.rest ≡ ending
       → SaysBody reader.kind text true given (ending_of ending)

@@ -4,7 +4,7 @@ pub mod Objects
 pub mod Fields
 pub mod Says
 pub mod Stream
-pub mod Kept
+pub mod HeldText
 pub mod Came
 pub mod Format
 pub mod Written

@@ -1,7 +1,7 @@
 //! What holds of all streams, each as the contract of a function that does nothing.
-ghost use Rattle.sync_stream.specs.Laws.{BodiesPass, MessagesReadBack, OneFirstFault, OneReading};
-ghost use Rattle.sync_stream.specs.Laws.{OneSaying, ReadersSay, ServingIs, StreamsReadBack};
-ghost use Rattle.sync_stream.specs.Laws.{WholeStreams};
+ghost use Rattle.sync_stream.specs.Laws.{BodiesByLength, BodiesPass, MessagesReadBack};
+ghost use Rattle.sync_stream.specs.Laws.{OneFirstFault, OneReading, OneSaying, ReadersSay};
+ghost use Rattle.sync_stream.specs.Laws.{ServingIs, StreamsReadBack, WholeStreams};
 
 /// A text says one list of lines, however it is cut.
 pub fn law_one_reading()
@@ -31,6 +31,12 @@ pub fn law_streams()
 /// A request or a reply that was written, head and body, is read as itself, whatever follows.
 pub fn law_messages()
     ensures { MessagesReadBack }
+{}
+
+/// A body is read up to the length that its head says, whatever follows. One whose bytes end before
+/// that is not whole, and a small one that is longer than may be read is not read.
+pub fn law_lengths()
+    ensures { BodiesByLength }
 {}
 
 /// What a reader stands for is what the bytes say that came: cut, faulty or whole.

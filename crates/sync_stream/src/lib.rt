@@ -27,8 +27,8 @@ mod write_tests;
 
 pub use fault::{LineFault, StreamFault};
 pub use laws::{
-    law_bodies, law_first_fault, law_messages, law_one_reading, law_one_saying, law_readers,
-    law_serving, law_streams, law_whole_streams,
+    law_bodies, law_first_fault, law_lengths, law_messages, law_one_reading, law_one_saying,
+    law_readers, law_serving, law_streams, law_whole_streams,
 };
 pub use line::{HeadKind, Line, SyncDoc};
 pub use reader::Reader;

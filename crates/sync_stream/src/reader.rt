@@ -1,8 +1,8 @@
 //! Reads a stream that comes in pieces.
 ghost use Rattle.std.specs.Prelude.{◌≡◌, ◌≢◌, ◌++◌, ◌⊎◌, ◌<◌, ◌≤◌, false, Err, None, Some, ℕ, List};
 ghost use Rattle.std.specs.Prelude.{[], IfErr, IfOk, IfSome, OnErr, OnOk, length};
-ghost use Rattle.sync_stream.specs.Kept.{Answers, Finishes, IsReadUp, Kept, PassesOne, StandsFor};
-ghost use Rattle.sync_stream.specs.Kept.{fresh, line_in, lines_given, lines_passed};
+ghost use Rattle.sync_stream.specs.HeldText.{Answers, Finishes, HeldText, IsReadUp, PassesOne};
+ghost use Rattle.sync_stream.specs.HeldText.{StandsFor, fresh, line_in, lines_given, lines_passed};
 ghost use Rattle.sync_stream.specs.Says.{IsShape};
 ghost use Rattle.sync_stream.specs.Stream.{Ends, IsGood, answered, end_fault, fault_of, is_closed};
 ghost use Rattle.sync_stream.specs.Stream.{is_long_rest};
@@ -36,9 +36,9 @@ pub struct Reader {
 }
 
 impl Model for Reader {
-    ghost use Rattle.sync_stream.specs.Kept.{Kept};
+    ghost use Rattle.sync_stream.specs.HeldText.{HeldText};
 
-    ghost Value = { Kept };
+    ghost Value = { HeldText };
 
     ghost view = { λ r. record {
       kind = r.kind;

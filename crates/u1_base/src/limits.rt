@@ -1,4 +1,4 @@
-//! The limits of the product, each in one place.
+//! The limits that several crates share, each in one place.
 
 /// The longest content that is read, in bytes.
 pub const MOST_CONTENT_BYTES: u64 = 4_194_304;

@@ -3,6 +3,7 @@ pub mod CountsLaws
 pub mod ClockLaws
 pub mod Walks
 pub mod Putting
+pub mod Halves
 pub mod Reading
 pub mod Spelling
 pub mod RoundTrip

@@ -25,7 +25,7 @@ above_at u [] q d h lt = absurd (omega arith)
 above_at u (e ∷ es) zero d h lt = less_is _ (first _ _ h)
 above_at u (e ∷ es) (suc q) d h lt = above_at u es q d (second (is_lt (id_cmp u e.0)) _ h) (omega arith)
 
-greater : (u v : Uid) → id_cmp v u ≡ Less → id_cmp u v ≡ Greater
+pub greater : (u v : Uid) → id_cmp v u ≡ Less → id_cmp u v ≡ Greater
 greater u v less = nat_list_cmp_total.antisymm u v ∙ ap ordering_reverse less
 
 -- what is put behind the first entry
@@ -150,7 +150,7 @@ sorted_drop zero es s = s
 sorted_drop (suc i) [] s = tt
 sorted_drop (suc i) (e ∷ es) s = sorted_drop i es (second (below_all id_cmp e.0 es) _ s)
 
-next_above : (es : Entries) (i : ℕ) (d f : Uid × ℕ) → T (is_sorted id_cmp es) → suc i < length es
+pub next_above : (es : Entries) (i : ℕ) (d f : Uid × ℕ) → T (is_sorted id_cmp es) → suc i < length es
     → id_cmp (get_or es i d).0 (get_or es (suc i) f).0 ≡ Less
 next_above [] i d f s lt = absurd (omega arith)
 next_above (e ∷ es) zero d f s lt = above_at e.0 es 0 f (first _ _ s) (omega arith)

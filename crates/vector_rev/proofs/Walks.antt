@@ -1,14 +1,14 @@
--- Steps of the loops over entries: along one list, and along two lists in order.
+-- Steps of the loops over entries, along two lists in order.
 use Rattle.std.proofs.Common.{◌≡◌, ℕ, ◌+◌, ◌<◌, ◌≤◌, ◌^◌, Bool, true, false, cond, ◌&&◌, T, [], ◌∷◌, length, get_or}
-use Rattle.std.proofs.Common.{drop, refl, Some, unwrap_or, sym, ◌∙◌, ap, ap₂, subst, arith, leb, ltb, nat_eq, le-leb}
+use Rattle.std.proofs.Common.{drop, refl, Some, unwrap_or, sym, ◌∙◌, ap, ap₂, subst, arith, leb, ltb, le-leb}
 use Rattle.std.proofs.Common.{ltb-true, eqb, eq-eqb, ne_eqb, inl, inr, ◌⊎◌, Ordering, Less, Equal, Greater}
 use Rattle.std.specs.Ordering.{is_lt, is_eq, ordering_reverse}
-use Rattle.std.specs.Cmp.Lexicographic.{pointwise, nat_list_cmp_total, texts_ties}
+use Rattle.std.specs.Cmp.Lexicographic.{nat_list_cmp_total}
 use Rattle.std.specs.FinMap.Entries.{find, is_sorted, below_all}
-use Rattle.std.proofs.lemmas.List.{at_drop_more, drop_more, drop_all}
+use Rattle.std.proofs.lemmas.List.{drop_more, drop_all}
 use Rattle.std.proofs.lemmas.Bool.{cases_lt, lt-leb}
 use mathlib.Core.Bool.{and-false}
-use Rattle.u1_base.specs.Ids.{IsId, id_cmp, same_id}
+use Rattle.u1_base.specs.Ids.{IsId, id_cmp}
 use Rattle.u1_base.specs.declared.ids.Form.TheVariants as form_of
 use Rattle.u1_base.specs.declared.limits.TheConstants.{GREATEST_COUNT}
 use Rattle.vector_rev.specs.Counts.{Uid, Entries, count_in}
@@ -22,25 +22,6 @@ pub is_entry-IsId : (u : Uid) (n : ℕ) → IsId form_of.Replica u → 1 ≤ n �
 is_entry-IsId u n id low high =
     both _ _ (both _ _ (true_T _ id) (true_T _ (le-leb 1 n low)))
     (true_T _ (le-leb n GREATEST_COUNT (omega (arith, high))))
-
--- the code's `==` of uids is the definition's
-pub same_id-eq : (u v : Uid) (b : Bool) → b ≡ pointwise nat_eq u v → same_id v u ≡ b
-same_id-eq u v b e = same_id-comm v u ∙ sym (texts_ties u v) ∙ sym e
-
--- the search for a uid has found it, or goes on
-pub count_found : (es : Entries) (u : Uid) (i : ℕ) (e : Uid × ℕ) → i < length es → e ≡ get_or es i e
-    → same_id u e.0 ≡ true → count_in (drop i es) u ≡ e.1
-count_found es u i e below at same =
-    at_drop_more (λ xs. count_in xs u) es i e below
-    ∙ ap (λ (f : Uid × ℕ). count_in (f ∷ drop (i + 1) es) u) (sym at)
-    ∙ ap (λ b. unwrap_or (cond b (Some e.1) (find id_cmp u (drop (i + 1) es))) 0) same
-
-pub count_past : (es : Entries) (u : Uid) (i : ℕ) (e : Uid × ℕ) → i < length es → e ≡ get_or es i e
-    → same_id u e.0 ≡ false → count_in (drop i es) u ≡ count_in (drop (i + 1) es) u
-count_past es u i e below at other =
-    at_drop_more (λ xs. count_in xs u) es i e below
-    ∙ ap (λ (f : Uid × ℕ). count_in (f ∷ drop (i + 1) es) u) (sym at)
-    ∙ ap (λ b. unwrap_or (cond b (Some e.1) (find id_cmp u (drop (i + 1) es))) 0) other
 
 -- ---- along two lists in order
 

@@ -70,16 +70,14 @@ impl Clock {
         self.entries.as_slice()
     }
 
-    /// The counter of the uid, 0 where it has no entry.
+    /// The counter of the uid, 0 where it has no entry. The entries are searched by halves.
     pub fn count(&self, uid: &ReplicaUid) -> u64
         ensures { result ≡ count_of self.now uid.now }
     {
-        let entries = self.entries.as_slice();
-        for entry in entries {
-            if entry.uid() == uid {
-                return entry.counter();
-            }
+        let entries = self.entries();
+        match entries.binary_search_by(|entry| entry.uid().cmp(uid)) {
+            Ok(place) => entries[place].counter(),
+            Err(_) => 0,
         }
-        0
     }
 }

@@ -319,23 +319,70 @@ fn covers_and_equals(rt: HostRuntime) -> Result<(), Fail> {
     Ok(())
 }
 
-// What this clock counts of a uid.
-fn count(alloc: Global, text: &str) -> Result<u64, Fail> {
-    let read = clock(alloc, "a:1|b:2|d:9223372036854775807")?;
-    Ok(read.count(&uid(alloc, text)?))
+// A clock, a uid and what the clock counts of it.
+const COUNTED: &str = "\
+b:1 a 0
+b:1 b 1
+b:1 c 0
+b:1|d:2 a 0
+b:1|d:2 b 1
+b:1|d:2 c 0
+b:1|d:2 d 2
+b:1|d:2 e 0
+b:1|d:2|f:9223372036854775807 a 0
+b:1|d:2|f:9223372036854775807 b 1
+b:1|d:2|f:9223372036854775807 c 0
+b:1|d:2|f:9223372036854775807 d 2
+b:1|d:2|f:9223372036854775807 e 0
+b:1|d:2|f:9223372036854775807 f 9223372036854775807
+b:1|d:2|f:9223372036854775807 g 0
+b:1|d:2|f:9223372036854775807 F 0
+b:1|d:2|f:9223372036854775807 ff 0
+";
+
+// Whether the clock counts so many of the uid.
+fn is_counted(alloc: Global, text: &str, name: &str, count: &str) -> Result<bool, Fail> {
+    let count = count.parse::<u64>()?;
+    Ok(clock(alloc, text)?.count(&uid(alloc, name)?) == count)
 }
 
 #[test]
 fn counts(rt: HostRuntime) -> Result<(), Fail> {
-    for (text, want) in [
-        ("a", 1),
-        ("b", 2),
-        ("c", 0),
-        ("d", 9_223_372_036_854_775_807),
-        ("e", 0),
-        ("A", 0),
-    ] {
-        assert_eq!(rt; count(rt.alloc(), text)?, want, "{text:?}");
+    for line in COUNTED.lines() {
+        let (text, name, count) = three(line)?;
+        assert!(rt; is_counted(rt.alloc(), text, name, count)?, "{line:?}");
+    }
+    Ok(())
+}
+
+// The clock of 64 entries from u01:1 to u64:64.
+fn numbered(alloc: Global) -> Result<Clock, Fail> {
+    let mut entries = ClockEntries::new(alloc);
+    for n in 1..65 {
+        entries.push(ClockEntry::new(numbered_uid(alloc, n, "")?, n))?;
+    }
+    Ok(Clock::of_entries(entries)?)
+}
+
+// The uid of that number, with an ending.
+fn numbered_uid(alloc: Global, number: u64, ending: &str) -> Result<ReplicaUid, Fail> {
+    uid(alloc, format!(in alloc; "u{number:02}{ending}")?.as_str())
+}
+
+// What the clock counts of that uid.
+fn count_of(clock: &Clock, alloc: Global, number: u64, ending: &str) -> Result<u64, Fail> {
+    Ok(clock.count(&numbered_uid(alloc, number, ending)?))
+}
+
+// Each of the 64 uids, a uid right behind each, and u00 before them all.
+#[test]
+fn counts_in_64_entries(rt: HostRuntime) -> Result<(), Fail> {
+    let alloc = rt.alloc();
+    let full = numbered(alloc)?;
+    assert_eq!(rt; count_of(&full, alloc, 0, "")?, 0);
+    for n in 1..65 {
+        assert_eq!(rt; count_of(&full, alloc, n, "")?, n, "{n}");
+        assert_eq!(rt; count_of(&full, alloc, n, "a")?, 0, "{n}");
     }
     Ok(())
 }

@@ -12,7 +12,7 @@ use Rattle.disks.proofs.Runs.{weaker}
 use Rattle.journal.specs.Image.{Head, ReadsWithOrWithout}
 use Rattle.journal.specs.Journal.{Extent, Holds, HoldsOneMore}
 use Rattle.volume.specs.Store.{IsStore, found_of}
-use Rattle.volume.specs.Store.Found.{Stands}
+use Rattle.volume.specs.Store.FoundImages.{Stands}
 use Rattle.volume.specs.Crashes.{StandsOneMore}
 use Rattle.volume.proofs.Finding.{found_standing}
 use Rattle.volume.proofs.Standing.{root_left, still_names, not_root}

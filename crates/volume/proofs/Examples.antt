@@ -6,7 +6,7 @@ use Rattle.disks.specs.declared.trio.Trio.{Trio}
 use Rattle.journal.specs.Image.{Head, first_field, body_field}
 use Rattle.journal.specs.Reader.{read_image, read_entries}
 use Rattle.volume.specs.Store.{found_of}
-use Rattle.volume.specs.Store.Found.{Blank, Damaged, Stands}
+use Rattle.volume.specs.Store.FoundImages.{Blank, Damaged, Stands}
 
 files : List ℕ → List ℕ → List ℕ → Trio (List ℕ)
 files root left right = record { root = root; left = left; right = right }

@@ -10,8 +10,8 @@ use Rattle.journal.specs.Opening.{Finds}
 use Rattle.journal.specs.Reader.{Reading, read_image}
 use Rattle.journal.specs.Reader.Reading.{Damaged as Broken, Stands as Reads}
 use Rattle.journal.proofs.Readings.{found, reads_found, damaged_found}
-use Rattle.volume.specs.Store.{chosen, Found, found_in, found_by, found_of}
-use Rattle.volume.specs.Store.Found.{Blank, Damaged, Stands}
+use Rattle.volume.specs.Store.{chosen, FoundImages, found_in, found_by, found_of}
+use Rattle.volume.specs.Store.FoundImages.{Blank, Damaged, Stands}
 use Rattle.volume.specs.Laws.{IsFound}
 
 -- an empty root
@@ -54,11 +54,11 @@ by_bytes files (byte ∷ []) e = by_reading files byte (read_image (pick (chosen
 by_bytes files (byte ∷ second ∷ rest) e = inl (refl, refl, (byte, second, rest, e))
 
 -- what is found says what the files are
-pub found_is : (files : Trio (List ℕ)) (what : Found) → found_of files ≡ what → IsFound files what
+pub found_is : (files : Trio (List ℕ)) (what : FoundImages) → found_of files ≡ what → IsFound files what
 found_is files what e = subst (IsFound files) e (by_bytes files files.root refl)
 
 -- and what the files are says what is found
-pub is_found : (files : Trio (List ℕ)) (what : Found) → IsFound files what → found_of files ≡ what
+pub is_found : (files : Trio (List ℕ)) (what : FoundImages) → IsFound files what → found_of files ≡ what
 is_found files Blank e = found_blank files e
 is_found files (Damaged disk place) i =
     ⊎_elim

@@ -13,7 +13,7 @@ use Rattle.disks.specs.Moments.{LeavesTogether, ChangedOnly, SameElsewhere}
 use Rattle.disks.proofs.Runs.{begins, goes_on, reads_may_stay, weaker}
 use Rattle.journal.specs.Image.{Head, ReadsAs}
 use Rattle.volume.specs.Store.{Names, found_of}
-use Rattle.volume.specs.Store.Found.{Blank}
+use Rattle.volume.specs.Store.FoundImages.{Blank}
 use Rattle.volume.specs.Crashes.{MayFind, IsBlankOrEmpty, IsEmptyStore, OnlyLooks}
 use Rattle.volume.specs.Steps.{IsBlank, IsWhole, IsMade}
 use Rattle.volume.proofs.Finding.{found_blank}

@@ -12,7 +12,7 @@ use Rattle.disk_model.specs.Device.{File, IsSettled}
 use Rattle.journal.specs.Image.{Head}
 use Rattle.journal.specs.Journal.{Extent, Holds}
 use Rattle.volume.specs.Store.{Names, IsStore, StandsOnOther, found_of}
-use Rattle.volume.specs.Store.Found.{Stands}
+use Rattle.volume.specs.Store.FoundImages.{Stands}
 use Rattle.volume.proofs.Finding.{found_standing}
 use Rattle.volume.proofs.Standing.{root_left, side_left, still_holds, still_names, not_root}
 use Rattle.volume.proofs.Roots.{torn_byte, either_found, never_root}

@@ -16,7 +16,7 @@ use Rattle.disks.proofs.Runs.{narrows}
 use Rattle.journal.specs.Image.{Head, ReadsAs}
 use Rattle.journal.specs.Journal.{Extent, Holds}
 use Rattle.volume.specs.Store.{chosen, Names, IsStore}
-use Rattle.volume.specs.Store.Found.{Damaged}
+use Rattle.volume.specs.Store.FoundImages.{Damaged}
 use Rattle.volume.specs.Crashes.{OnlyLooks}
 use Rattle.volume.specs.Opening.{OpensStore, RootNames}
 use Rattle.volume.specs.declared.opening.StoreFault.{StoreFault}

@@ -9,7 +9,7 @@ use Rattle.disks.specs.declared.trio.Trio.{Trio}
 use Rattle.disks.specs.Trio.{pick}
 use Rattle.journal.specs.Image.{Head, ReadsAs}
 use Rattle.volume.specs.Store.{chosen, Names, found_of}
-use Rattle.volume.specs.Store.Found.{Stands}
+use Rattle.volume.specs.Store.FoundImages.{Stands}
 use Rattle.volume.proofs.Finding.{found_standing}
 
 -- a list of one item, and one of at most one

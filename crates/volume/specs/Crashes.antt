@@ -11,8 +11,8 @@ use Rattle.journal.specs.Image.{Head}
 use Rattle.journal.specs.Journal.{Extent}
 use Rattle.journal.specs.Spelled.{Spelled, Spells}
 use Rattle.journal.specs.declared.layout.TheConstants.{SECOND_FORMAT}
-use Rattle.volume.specs.Store.{Found, found_of, IsStore}
-use Rattle.volume.specs.Store.Found.{Blank, Stands}
+use Rattle.volume.specs.Store.{FoundImages, found_of, IsStore}
+use Rattle.volume.specs.Store.FoundImages.{Blank, Stands}
 
 -- Nothing was written: the reads give what they gave, a crash on the way leaves no more than one at the start might,
 -- and each file that was settled still is.
@@ -22,16 +22,16 @@ pub record OnlyLooks (old new : Devices) : Type 0 where
   pub settled : (name : DiskName) → StaysSettled (pick name old.files) (pick name new.files)
 
 -- this might be found after a crash at this moment
-abbrev pub MayFind : JointMoment → Found → Type 0
+abbrev pub MayFind : JointMoment → FoundImages → Type 0
 MayFind moment found = (files : Trio (List ℕ)) × AreCrashImages moment files × (found ≡ found_of files)
 
 -- the empty store of this head, in the format that is written, on either side
-abbrev pub IsEmptyStore : Head → Found → Type 0
+abbrev pub IsEmptyStore : Head → FoundImages → Type 0
 IsEmptyStore head found =
     (found ≡ Stands Left SECOND_FORMAT head []) ⊎ (found ≡ Stands Right SECOND_FORMAT head [])
 
 -- there is no database, or the empty store of this head
-abbrev pub IsBlankOrEmpty : Head → Found → Type 0
+abbrev pub IsBlankOrEmpty : Head → FoundImages → Type 0
 IsBlankOrEmpty head found = (found ≡ Blank) ⊎ IsEmptyStore head found
 
 -- a crash on the way leaves what a crash at the start might leave, or the empty store of this head

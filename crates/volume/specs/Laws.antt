@@ -9,8 +9,8 @@ use Rattle.disks.specs.Joint.{AreCrashImages, seen_of, now_of}
 use Rattle.journal.specs.Image.{Head, ReadsAs}
 use Rattle.journal.specs.Journal.{Extent}
 use Rattle.journal.specs.Damage.{DamagedAt}
-use Rattle.volume.specs.Store.{chosen, Found, found_of, IsStore}
-use Rattle.volume.specs.Store.Found.{Blank, Damaged, Stands}
+use Rattle.volume.specs.Store.{chosen, FoundImages, found_of, IsStore}
+use Rattle.volume.specs.Store.FoundImages.{Blank, Damaged, Stands}
 
 -- what stands is found, by the reads and after a crash, whatever the other image holds
 pub record StoreStands (journal : Extent) (side : DiskName) (format : ℕ) (head : Head) (bodies : List (List ℕ))
@@ -25,7 +25,7 @@ StoresStand =
     → IsStore journal side format head bodies files → StoreStands journal side format head bodies files
 
 -- what was found says this of the files
-abbrev pub IsFound : Trio (List ℕ) → Found → Type 0
+abbrev pub IsFound : Trio (List ℕ) → FoundImages → Type 0
 IsFound files Blank = files.root ≡ []
 IsFound files (Damaged disk place) =
     ((disk ≡ Root) × (place ≡ 1) × ((byte : ℕ) × (second : ℕ) × (rest : List ℕ) × (files.root ≡ byte ∷ second ∷ rest)))
@@ -35,4 +35,4 @@ IsFound files (Stands side format head bodies) =
 
 -- this is found where the files are so, and nowhere else
 abbrev pub FoundIsExact : Type 0
-FoundIsExact = (files : Trio (List ℕ)) (found : Found) → (found_of files ≡ found) ↔ IsFound files found
+FoundIsExact = (files : Trio (List ℕ)) (found : FoundImages) → (found_of files ≡ found) ↔ IsFound files found

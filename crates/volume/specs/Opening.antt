@@ -5,7 +5,7 @@ use Rattle.disks.specs.declared.name.DiskName.TheVariants.{Root}
 use Rattle.disks.specs.declared.trio.Trio.{Trio}
 use Rattle.journal.specs.Journal.{IsExtent}
 use Rattle.volume.specs.Store.{chosen, found_of}
-use Rattle.volume.specs.Store.Found.{Blank, Damaged, Stands}
+use Rattle.volume.specs.Store.FoundImages.{Blank, Damaged, Stands}
 use Rattle.volume.specs.declared.opening.OpenedImages.{OpenedImages}
 use Rattle.volume.specs.declared.opening.StoreFault.{StoreFault}
 use Rattle.volume.specs.declared.opening.StoreFault.TheVariants as fault

@@ -7,7 +7,7 @@ use Rattle.disks.specs.Moments.{LeavesTogether}
 use Rattle.journal.specs.Image.{Head, ReadsAs}
 use Rattle.journal.specs.declared.layout.TheConstants.{SECOND_FORMAT}
 use Rattle.volume.specs.Store.{found_of, Names}
-use Rattle.volume.specs.Store.Found.{Blank}
+use Rattle.volume.specs.Store.FoundImages.{Blank}
 use Rattle.volume.specs.Crashes.{IsEmptyStore}
 use Rattle.disks.specs.declared.name.DiskName.TheVariants.{Left}
 

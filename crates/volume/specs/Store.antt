@@ -18,24 +18,24 @@ chosen byte = if byte % 2 == 0 then Left else Right
 
 -- What is found of a store: no database; damage of one of the files, at a place; or an image that stands, with its
 -- side, its format, its head and its bodies.
-pub data Found : Type 0 where
-  Blank : Found
-  Damaged : DiskName → ℕ → Found
-  Stands : DiskName → ℕ → Head → List (List ℕ) → Found
+pub data FoundImages : Type 0 where
+  Blank : FoundImages
+  Damaged : DiskName → ℕ → FoundImages
+  Stands : DiskName → ℕ → Head → List (List ℕ) → FoundImages
 
 -- what is found where this image is the one that counts, and reads so
-abbrev pub found_in : DiskName → Reading → Found
+abbrev pub found_in : DiskName → Reading → FoundImages
 found_in side (Broken place) = Damaged side place
 found_in side (Reads format head bodies) = Stands side format head bodies
 
 -- An empty root means that there is no database. One byte names the image that counts. A second byte is damage.
-abbrev pub found_by : List ℕ → Trio (List ℕ) → Found
+abbrev pub found_by : List ℕ → Trio (List ℕ) → FoundImages
 found_by [] files = Blank
 found_by (byte ∷ []) files = found_in (chosen byte) (read_image (pick (chosen byte) files))
 found_by (byte ∷ second ∷ rest) files = Damaged Root 1
 
 -- what is found of three files
-abbrev pub found_of : Trio (List ℕ) → Found
+abbrev pub found_of : Trio (List ℕ) → FoundImages
 found_of files = found_by files.root files
 
 -- the root has one byte, which names this image, and a crash leaves it so

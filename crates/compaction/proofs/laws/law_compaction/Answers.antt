@@ -5,6 +5,7 @@ use Rattle.conflicts.specs.Document.{member_of}
 use Rattle.conflicts.specs.Lists.{In}
 use Rattle.conflicts.specs.State.{accepts_in, state_of, after_all}
 use Rattle.conflicts.proofs.States.{goes_on}
+use Rattle.replica_laws.proofs.SameStates.{same_lists}
 use Rattle.compaction.specs.Compaction.{compaction}
 use Rattle.compaction.proofs.Kept.{from_kept, kept_are_members}
 use Rattle.compaction.proofs.Parts.{accepts_left, index_created}
@@ -20,6 +21,7 @@ returns c = record {
       goes_on.steps name uid (compaction h) later
       ∙ ap (λ s. after_all s later) (state_of-compaction name uid h)
       ∙ sym (goes_on.steps name uid h later);
+  lists = λ name uid h x y e f. same_lists x y (e ∙ state_of-compaction name uid h ∙ sym f);
   members = λ name uid d h.
       let s = state_of [] [] h in
       ap (map member_of) (accepts_left s d h) ∙ kept_are_members (s.document d).current (flat_map (accepts_in d) h);

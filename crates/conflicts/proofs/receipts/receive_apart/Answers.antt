@@ -9,18 +9,18 @@ returns-in-Newer c =
     c.unchanged.ensures
     ∙ kept_superseded c.args.set.now c.args.incoming.now c.args.save c.args.own.now c.requires.not_newer
     c.requires.not_older
-    (subst (WalksTo c.args.set.now c.args.incoming.now c.args.own.now c.walk.new.merging) c.in-Newer.is
-    c.in_ok-walk.ensures)
+    (subst (WalksTo c.args.set.now c.args.incoming.now c.args.own.now c.look_at_others.new.merging) c.in-Newer.is
+    c.in_ok-look_at_others.ensures)
 
 pub returns-in-Same : goal.returns-in-Same
 returns-in-Same c =
     kept_stored c.conflicted.result c.args.set.now c.args.incoming.now c.args.save c.args.own.now c.requires.not_newer
     c.requires.not_older
-    (subst (WalksTo c.args.set.now c.args.incoming.now c.args.own.now c.walk.new.merging) c.in-Same.is
-    c.in_ok-walk.ensures)
+    (subst (WalksTo c.args.set.now c.args.incoming.now c.args.own.now c.look_at_others.new.merging) c.in-Same.is
+    c.in_ok-look_at_others.ensures)
     c.conflicted.ensures
 
 pub merge-requires-clause-merging : goal.merge-requires-clause-merging
 merge-requires-clause-merging c =
-    subst (WalksTo c.args.set.now c.args.incoming.now c.args.own.now c.walk.new.merging) c.in-Neither.is
-    c.in_ok-walk.ensures
+    subst (WalksTo c.args.set.now c.args.incoming.now c.args.own.now c.look_at_others.new.merging) c.in-Neither.is
+    c.in_ok-look_at_others.ensures

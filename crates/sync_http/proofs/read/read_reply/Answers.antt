@@ -11,8 +11,8 @@ pub returns-in-Ok-Complete : goal.returns-in-Ok-Complete
 returns-in-Ok-Complete c =
     let bytes = c.args.bytes.now in
     let spans = c.in-Ok-Complete.spans in
-    let said = reply_said_at c.front_of-front.result.now c.parse_response.new.headers spans in
-    let says = says_reply bytes c.front_of-front.result.now c.parse_response.new.headers spans c.front_of-front.ensures
+    let said = reply_said_at c.head_in-front.result.now c.parse_response.new.headers spans in
+    let says = says_reply bytes c.head_in-front.result.now c.parse_response.new.headers spans c.head_in-front.ensures
     (search rules)
     (rw c.in-Ok-Complete.field-0-is at c.in-Ok-Complete.ensures.complete) in record {
       hears = subst (HearsReply bytes) (sym c.heard.ensures)
@@ -28,23 +28,23 @@ returns-in-Ok-Complete c =
 pub returns-in-Ok-Partial : goal.returns-in-Ok-Partial
 returns-in-Ok-Partial c =
     let bytes = c.args.bytes.now in
-    let none : grammar.HasNoResponse c.front_of-front.result.now =
+    let none : grammar.HasNoResponse c.head_in-front.result.now =
     rw c.in-Ok-Partial.field-0-is at c.in-Ok-Partial.ensures.partial in record {
       hears = subst (HearsReply bytes) (sym c.unfinished.ensures)
-          (hears_open (SaysReply bytes) IsOpenReply IsNoReply bytes c.front_of-front.result.now c.front_of-front.ensures
+          (hears_open (SaysReply bytes) IsOpenReply IsNoReply bytes c.head_in-front.result.now c.head_in-front.ensures
           (record { none = none; may = rw c.in-Ok-Partial.field-0-is at c.in-Ok-Partial.ensures.unfinished }));
       whole = λ other n h. absurd
           (none h.head h.rest (subst (λ p. grammar.ReadsResponse p h.head h.rest)
-          (sym c.front_of-front.ensures) h.reads));
+          (sym c.head_in-front.ensures) h.reads));
       kinds = subst (λ r. IfErr r IsReplyFault) (sym c.unfinished.ensures) (unfinished_kind ReplyHead bytes);
     }
 
 pub returns-in-Err : goal.returns-in-Err
 returns-in-Err c =
-    let none : IsNoReply c.front_of-front.result.now = search rules in record {
-      hears = inl (subst IsNoReply c.front_of-front.ensures none);
+    let none : IsNoReply c.head_in-front.result.now = search rules in record {
+      hears = inl (subst IsNoReply c.head_in-front.ensures none);
       whole = λ other n h. absurd
           (rw c.in-Err.is at (c.parse_response.ensures.found h.head h.rest
-          (subst (λ p. grammar.ReadsResponse p h.head h.rest) (sym c.front_of-front.ensures) h.reads) h.few));
+          (subst (λ p. grammar.ReadsResponse p h.head h.rest) (sym c.head_in-front.ensures) h.reads) h.few));
       kinds = tt;
     }

@@ -10,9 +10,9 @@ pub returns-in-Ok-Complete : goal.returns-in-Ok-Complete
 returns-in-Ok-Complete c =
     let bytes = c.args.bytes.now in
     let spans = c.in-Ok-Complete.spans in
-    let said = said_at c.front_of-front.result.now c.parse_request.new.headers spans in
-    let says = says_request bytes c.front_of-front.result.now c.parse_request.new.headers spans
-    c.front_of-front.ensures (search rules)
+    let said = said_at c.head_in-front.result.now c.parse_request.new.headers spans in
+    let says = says_request bytes c.head_in-front.result.now c.parse_request.new.headers spans
+    c.head_in-front.ensures (search rules)
     (rw c.in-Ok-Complete.field-0-is at c.in-Ok-Complete.ensures.complete) in record {
       hears = subst (HearsRequest bytes) (sym c.heard.ensures)
           (hears_whole (SaysRequest bytes) IsOpenRequest IsNoRequest bytes said c.request_at-said.result spans.len says
@@ -25,22 +25,22 @@ returns-in-Ok-Complete c =
 pub returns-in-Ok-Partial : goal.returns-in-Ok-Partial
 returns-in-Ok-Partial c =
     let bytes = c.args.bytes.now in
-    let none : grammar.HasNoRequest c.front_of-front.result.now =
+    let none : grammar.HasNoRequest c.head_in-front.result.now =
     rw c.in-Ok-Partial.field-0-is at c.in-Ok-Partial.ensures.partial in record {
       hears = subst (HearsRequest bytes) (sym c.unfinished.ensures)
-          (hears_open (SaysRequest bytes) IsOpenRequest IsNoRequest bytes c.front_of-front.result.now
-          c.front_of-front.ensures
+          (hears_open (SaysRequest bytes) IsOpenRequest IsNoRequest bytes c.head_in-front.result.now
+          c.head_in-front.ensures
           (record { none = none; may = rw c.in-Ok-Partial.field-0-is at c.in-Ok-Partial.ensures.unfinished }));
       whole = λ other n h. absurd
           (none h.head h.rest (subst (λ p. grammar.ReadsRequest p h.head h.rest)
-          (sym c.front_of-front.ensures) h.reads));
+          (sym c.head_in-front.ensures) h.reads));
     }
 
 pub returns-in-Err : goal.returns-in-Err
 returns-in-Err c =
-    let none : IsNoRequest c.front_of-front.result.now = search rules in record {
-      hears = inl (subst IsNoRequest c.front_of-front.ensures none);
+    let none : IsNoRequest c.head_in-front.result.now = search rules in record {
+      hears = inl (subst IsNoRequest c.head_in-front.ensures none);
       whole = λ other n h. absurd
           (rw c.in-Err.is at (c.parse_request.ensures.found h.head h.rest
-          (subst (λ p. grammar.ReadsRequest p h.head h.rest) (sym c.front_of-front.ensures) h.reads) h.few));
+          (subst (λ p. grammar.ReadsRequest p h.head h.rest) (sym c.head_in-front.ensures) h.reads) h.few));
     }

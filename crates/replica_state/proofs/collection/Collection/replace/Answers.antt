@@ -7,7 +7,7 @@ use Rattle.replica_state.proofs.Named.{order_after}
 use Rattle.replica_state.proofs.collection.Collection.replace.Goals as goal
 
 pub replace-requires-clause-ready : goal.replace-requires-clause-ready
-replace-requires-clause-ready c = subst (λ (s : Collected). Takes s.docs s.indexes s.spare c.args.replacement)
+replace-requires-clause-ready c = subst (λ (s : Collected). Takes s.docs s.indexes s.vacant c.args.replacement)
     (sym c.self.view_is) c.requires
 
 pub invariant_of-self-inside : goal.invariant_of-self-inside

@@ -7,7 +7,7 @@ use Rattle.replica_state.proofs.state.State.apply.Goals as goal
 
 pub replace-requires : goal.replace-requires
 replace-requires c = subst
-    (λ (s : Held). Takes s.collection.docs s.collection.indexes s.collection.spare c.args.prepared.replacement)
+    (λ (s : Held). Takes s.collection.docs s.collection.indexes s.collection.vacant c.args.prepared.replacement)
     (sym c.self.view_is) c.requires.collection
 
 pub push_entry-requires : goal.push_entry-requires

@@ -1,5 +1,5 @@
 use Rattle.std.proofs.Common.{Err, subst, sym}
-use Rattle.sync_stream.specs.Kept.{Answers, PassesOne}
+use Rattle.sync_stream.specs.HeldText.{Answers, PassesOne}
 use Rattle.sync_stream.proofs.Stands.{faulty_after}
 use Rattle.sync_stream.proofs.reader.Reader.next_line.Goals as goal
 

@@ -3,12 +3,12 @@ use Rattle.std.specs.Prelude.{ℕ, List, refl}
 use Rattle.std.specs.Coded.{Coded, code_by, coded×, coded_ℕ, coded_list}
 
 -- the items in order, and how many more may be inserted without memory
-pub record Kept (T : Type 0) : Type 0 where
+pub record Chunked (T : Type 0) : Type 0 where
   pub items : List T
   pub room : ℕ
 
 -- it is stored as the pair of its fields
-abbrev pub kept_code : {T : Type 0} → Coded T → Coded (Kept T)
-kept_code {T} code =
+abbrev pub chunked_code : {T : Type 0} → Coded T → Coded (Chunked T)
+chunked_code {T} code =
     code_by (List T × ℕ) (coded× (coded_list code) coded_ℕ) (λ v. (v.items, v.room))
     (λ p. record { items = p.0; room = p.1 }) (λ _. refl)

@@ -1,7 +1,7 @@
 -- Each step finds nothing, or ends the walk.
 use Rattle.std.proofs.Common.{ap, arith, length}
 use Rattle.conflicts.proofs.Walks.{walk_done}
-use Rattle.conflicts.proofs.merges.walk.Goals as goal
+use Rattle.conflicts.proofs.merges.look_at_others.Goals as goal
 
 pub returns : goal.returns
 returns c =

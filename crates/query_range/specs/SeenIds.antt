@@ -33,8 +33,8 @@ abbrev pub holds : Places → BTreeSet (Bor (List ℕ)) → Bor (List ℕ) → B
 holds places others id = is_held (owner places id.now) (contains text_cmp others id) id.now
 
 -- of two moments: one id more is held, and all that were
-abbrev pub HoldsOneMore : Places → BTreeSet (Bor (List ℕ)) → Bor (List ℕ) → Places → BTreeSet (Bor (List ℕ)) → Type 0
-HoldsOneMore places others id new_places new =
+abbrev pub SeesOneMore : Places → BTreeSet (Bor (List ℕ)) → Bor (List ℕ) → Places → BTreeSet (Bor (List ℕ)) → Type 0
+SeesOneMore places others id new_places new =
     (other : Bor (List ℕ)) → holds new_places new other ≡ (same_id id.now other.now || holds places others other)
 
 -- what stands in the tree has a place that is taken

@@ -1,9 +1,9 @@
 -- The id has its place alone, or shares it with another one and stands in the tree.
 use Rattle.std.proofs.Common.{rules, ◌≡◌, ◌<◌, ◌%◌, ◌∙◌, length, refl, sym, ap, true, false, Some, None, get_or}
 use Rattle.u1_base.specs.Ids.{same_id}
-use Rattle.query_range.specs.Found.{mark, owner}
+use Rattle.query_range.specs.SeenIds.{mark, owner}
 use Rattle.query_range.proofs.Places.{behind_either, free_kept, known_kept, owner_is}
-use Rattle.query_range.proofs.once.Found.insert.Goals as goal
+use Rattle.query_range.proofs.once.SeenIds.insert.Goals as goal
 
 pub returns-then-is_eq-clause-kept : goal.returns-then-is_eq-clause-kept
 returns-then-is_eq-clause-kept c =

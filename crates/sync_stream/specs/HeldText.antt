@@ -15,7 +15,7 @@ use Rattle.sync_stream.specs.declared.fault.StreamFault.{StreamFault}
 use Rattle.sync_stream.specs.declared.fault.StreamFault.TheVariants as fault
 
 -- what a reader is seen as
-pub record Kept : Type 0 where
+pub record HeldText : Type 0 where
   pub kind : HeadKind
   -- the number of the next line, from 1
   pub number : ℕ
@@ -27,11 +27,11 @@ pub record Kept : Type 0 where
   pub rest : List ℕ
 
 -- a reader at the start
-abbrev pub fresh : HeadKind → Kept
+abbrev pub fresh : HeadKind → HeldText
 fresh kind = record { kind = kind; number = 1; place = Opening; fault = None; rest = [] }
 
 -- a reader stands for a pushed text and the lines that were given of it
-pub record StandsFor (reader : Kept) (text : List ℕ) (given : List Line) : Type 0 where
+pub record StandsFor (reader : HeldText) (text : List ℕ) (given : List Line) : Type 0 where
   pub lines : List (List ℕ)
   pub begins : Begins reader.kind text lines given reader.place reader.rest
   pub number : reader.number ≡ counted (length lines + 1)
@@ -51,14 +51,14 @@ lines_given place result = if is_closed place then [] else line_in result
 
 -- nothing more is to be given: neither a fault nor the end was given, and no whole line nor a rest that is too long is
 -- left
-pub record HasNoMore (reader : Kept) : Type 0 where
+pub record HasNoMore (reader : HeldText) : Type 0 where
   pub no_fault : reader.fault ≡ None
   pub open_ : is_closed reader.place ≡ false
   pub no_line : IsUnbroken reader.rest
   pub fits : is_long_rest reader.rest ≡ false
 
 -- when each answer of `next_line` comes
-abbrev pub Answers : Kept → Kept → Result (Option Line) StreamFault → Type 0
+abbrev pub Answers : HeldText → HeldText → Result (Option Line) StreamFault → Type 0
 Answers old new (Ok None) = HasNoMore new
 Answers old new (Ok (Some End)) = (new.place ≡ Closed) × (new.fault ≡ None)
 Answers old new (Ok (Some (Head head))) = new.fault ≡ None
@@ -72,11 +72,11 @@ Answers old new (Err (fault.TooLong n)) =
 -- ---- the end of the body
 
 -- no whole line is left before the end of the stream, as after a `next_line` that gave none, or the end
-abbrev pub IsReadUp : Kept → Type 0
+abbrev pub IsReadUp : HeldText → Type 0
 IsReadUp reader = (is_closed reader.place ≡ true) ⊎ IsUnbroken reader.rest
 
 -- what `finish` answers of the body that was pushed
-abbrev pub Finishes : Kept → Kept → Result (Unit {0}) StreamFault → Type 0
+abbrev pub Finishes : HeldText → HeldText → Result (Unit {0}) StreamFault → Type 0
 Finishes old new (Ok u) =
     (old.fault ≡ None) × (new ≡ old) × (end_fault old.kind old.number old.place old.rest ≡ None)
 Finishes old new (Err fault.Memory) = new ≡ old
@@ -90,7 +90,7 @@ Finishes old new (Err (fault.TooLong n)) =
 -- ---- words of private clauses
 
 -- what follows a call that passes one line, by its answer
-abbrev pub PassesOne : Kept → Kept → Result (Option Passed) LineFault → Type 0
+abbrev pub PassesOne : HeldText → HeldText → Result (Option Passed) LineFault → Type 0
 PassesOne old new (Ok None) = (new ≡ old) × IsUnbroken old.rest × (is_long_rest old.rest ≡ false)
 PassesOne old new (Ok (Some passed)) =
     (line : List ℕ) × (old.rest ≡ ended line ++ new.rest) × IsUnbroken line × IsGood old.kind old.place line passed
