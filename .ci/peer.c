@@ -1,6 +1,6 @@
 /* What `.ci/measure` measures the program beside, and the stores that it measures on.
 
-   peer make DIR COUNT      a store of COUNT documents with made ids and contents of about 45 bytes, behind an index of `name`
+   peer make DIR COUNT      a store of COUNT documents with made ids and contents of about 45 bytes, without an index
    peer walk DIR            reads the image, copies each body, puts each id into a sorted table, and prints how many there are
    peer append DIR          adds an entry as the program does: the body, a sync, the gate, a sync */
 #include <fcntl.h>
@@ -54,14 +54,6 @@ static void put_id(char first, uint32_t number) {
   put_text(text);
 }
 
-static void spell_index(void) {
-  filled = 0;
-  put_number(4, 1);
-  put_text("by_name");
-  put_number(1, 1);
-  put_text("name");
-}
-
 static void spell_document(uint32_t number) {
   char content[128];
   int length = snprintf(content, sizeof content, "{\"age\":%u,\"name\":\"%s%06u\",\"tags\":\"home work\"}", number % 100,
@@ -103,8 +95,6 @@ static void make(const char *folder, uint32_t count) {
   fwrite(HEADER, 1, HEADER_BYTES, right);
   fputc(0, right);
   fwrite(HEADER, 1, HEADER_BYTES, left);
-  spell_index();
-  write_entry(left);
   for (uint32_t number = 0; number < count; number++) {
     spell_document(number);
     write_entry(left);

@@ -38,31 +38,26 @@ fn print_readings(alloc: Global, state: &State, out: &mut MemSink) -> Result<(),
 fn print_documents(alloc: Global, state: &State, out: &mut MemSink) -> Result<(), PrintFault> {
     let ids = all_docs(alloc, state, true)?;
     for id in ids.as_slice() {
-        print_document_of(alloc, state, id, out)?;
+        print_document_of(state, id, out)?;
     }
     Ok(())
 }
 
-fn print_document_of(
-    alloc: Global,
-    state: &State,
-    id: &DocId,
-    out: &mut MemSink,
-) -> Result<(), PrintFault> {
+fn print_document_of(state: &State, id: &DocId, out: &mut MemSink) -> Result<(), PrintFault> {
     let conflict = doc_conflicts(state, id);
     if let Some(member) = get_doc(state, id, true) {
-        print_document(alloc, out, id, member, conflict.is_some())?;
+        print_document(out, id, member, conflict.is_some())?;
     }
     match conflict {
-        Some(set) => print_members(alloc, set, out),
+        Some(set) => print_members(set, out),
         None => Ok(()),
     }
 }
 
-fn print_members(alloc: Global, set: &DocSet, out: &mut MemSink) -> Result<(), PrintFault> {
+fn print_members(set: &DocSet, out: &mut MemSink) -> Result<(), PrintFault> {
     for place in 0..set.length() {
         if let Some(member) = set.member(place) {
-            print_conflict(alloc, out, member)?;
+            print_conflict(out, member)?;
         }
     }
     Ok(())

@@ -10,6 +10,10 @@ block_behind i b lt = omega arith
 pub block_below : (i b : ℕ) → b * block ≤ i → b ≤ i / block
 block_below i b le = omega arith
 
+-- a block that is not behind the chunk's block begins at the chunk or before it
+pub block_begins : (i b : ℕ) → b < i / block + 1 → b * block ≤ i
+block_begins i b lt = omega arith
+
 -- a block that is behind the chunk's block begins behind the chunk
 pub behind_block : (i b : ℕ) → i / block < b → i < b * block
 behind_block i b lt = omega arith
@@ -41,3 +45,7 @@ in_block k n ne le = omega arith
 -- so many blocks as reach just over a chunk hold it, and none more
 pub enough_blocks : (k n : ℕ) → k / block + 1 ≡ n → (k + 1 ≤ n * block) × (n * block < k + 1 + block)
 enough_blocks k n e = (omega arith, omega arith)
+
+-- the blocks up to that of a chunk reach just over it
+pub blocks_reach : (i : ℕ) → (i + 1 ≤ (i / block + 1) * block) × ((i / block + 1) * block < i + 1 + block)
+blocks_reach i = (omega arith, omega arith)

@@ -2,7 +2,7 @@
 use Rattle.std.proofs.Common.{◌≡◌, ℕ, ◌+◌, ◌*◌, ◌/◌, ◌<◌, ◌≤◌, List, ◌++◌, length, get_or, set, refl, sym, subst}
 use Rattle.std.proofs.Common.{◌∙◌, ap, arith, inl, inr, get_or-set_same, get_or-set_other}
 use Rattle.std.proofs.lemmas.Bool.{cases_lt, cases_eq}
-use Rattle.std.proofs.lemmas.List.{get_or_read, length-set, set-append_left, set-append_right}
+use Rattle.std.proofs.lemmas.List.{get_or_read, get_or_read_under, length-set, set-append_left, set-append_right}
 use Rattle.std.proofs.lemmas.List.Concat.{get_or-flat_map}
 use Rattle.std.proofs.lemmas.List.Elements.{All-set}
 use Rattle.std.proofs.lemmas.List.Edits.{insert-append_left, insert-append_right, remove-append_left}
@@ -22,6 +22,26 @@ settled chunks at b here = record {
   wide = b.wide;
   held = λ k d lt. elim (cases_eq k at) [
     | inl e ↦ subst (λ (m : ℕ). IsHeld m (get_or chunks m d)) (sym e) (here d)
+    | inr ne ↦ b.others k d lt ne
+  ];
+}
+
+-- the same where the chunk was looked at, and has an item
+pub settled_some : {T : Type 0} (chunks : List (Vec T)) (at : ℕ) (chunk : Vec T) → AreChunksBut chunks at
+    → chunk ≡ get_or chunks at chunk → (vec_len chunk ≡ 0 → ⊥)
+    → ((d : Vec T) → vec_len (get_or chunks at d) ≤ full) → AreChunks chunks
+settled_some chunks at chunk b looked some short = record {
+  wide = b.wide;
+  held = λ k d lt. elim (cases_eq k at) [
+    | inl e ↦ subst (λ (m : ℕ). IsHeld m (get_or chunks m d)) (sym e) (record {
+      short = short d;
+      some = λ later. omega (
+        arith,
+        some,
+        ap vec_len (get_or_read_under chunks at (length chunks) chunk d looked
+            (subst (λ (m : ℕ). m < length chunks) e lt) refl),
+      );
+    })
     | inr ne ↦ b.others k d lt ne
   ];
 }

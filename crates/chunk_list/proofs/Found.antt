@@ -12,13 +12,19 @@ use Rattle.chunk_list.specs.Chunks.{begin_of, start_at, joined, AreLaidOut}
 use Rattle.chunk_list.proofs.Pieces.{start_at-end, start_at-next}
 
 -- what holds at a place of a chunk holds there in the list
-holds_joined : {T : Type 0} (chunks : List (Vec T)) (P : T → Type 0) (i j : ℕ) (c : Vec T) → i < length chunks
+pub holds_joined : {T : Type 0} (chunks : List (Vec T)) (P : T → Type 0) (i j : ℕ) (c : Vec T) → i < length chunks
     → c ≡ get_or chunks i c → j < vec_len c → HoldsAt P c.items j
     → HoldsAt P (joined chunks) (start_at vec_items chunks i + j)
 holds_joined chunks P i j c within is inside holds = λ d.
     let fits : j < length (vec_items (get_or chunks i c)) = omega (arith, ap vec_len is, (get_or chunks i c).ok.0) in
     subst P (ap (λ (v : Vec _). get_or (vec_items v) j d) is
     ∙ sym (get_or-flat_map vec_items chunks i j c d within fits)) (holds d)
+
+-- what holds of the first item of a chunk that was looked at
+pub begun : {T : Type 0} (chunks : List (Vec T)) (at : ℕ) (c : Vec T) (P : T → Type 0) → at < length chunks
+    → c ≡ get_or chunks at c → HoldsAt P (vec_items c) 0 → HoldsAt (λ v. HoldsAt P (vec_items v) 0) chunks at
+begun chunks at c P within is holds d =
+    subst (λ (v : Vec _). HoldsAt P (vec_items v) 0) (is ∙ get_or_default chunks at c d within) holds
 
 -- a search ended at a place r of a chunk, of which the first `known` items pass
 pub record IsSearched {T : Type 0} (chunks : List (Vec T)) (inside bases : List ℕ)

@@ -1,6 +1,6 @@
 -- A list that is joined from pieces: where each piece begins, and what a change in one piece does to the whole.
 use Rattle.std.proofs.Common.{◌≡◌, ℕ, ◌+◌, ◌*◌, ◌<◌, ◌≤◌, List, [], ◌∷◌, ◌++◌, length, get_or, set, take, zero, suc}
-use Rattle.std.proofs.Common.{sym, ◌∙◌, ap, arith, append_assoc, length-append}
+use Rattle.std.proofs.Common.{refl, sym, ◌∙◌, ap, arith, append_assoc, length-append}
 use Rattle.std.proofs.Math.Seq.{take-set-lt}
 use Rattle.std.proofs.lemmas.List.{get_or-take, length-take, take-set-le, take-take, take_all}
 use Rattle.std.proofs.lemmas.List.Concat.{length-flat_map}
@@ -8,6 +8,20 @@ use Rattle.std.proofs.lemmas.List.Folds.{length-flat_map-take}
 use Rattle.std.proofs.lemmas.List.Sums.{sum_by-set, sum_by-take-le, sum_by_more}
 use Rattle.std.specs.List.{flat_map, insert, remove}
 use Rattle.chunk_list.specs.Chunks.{start_at}
+
+-- what stands before a place, where something comes in or goes out there or behind it
+pub take-insert : {X : Type 0} (n : ℕ) (xs : List X) (i : ℕ) (x : X) → n ≤ i → i ≤ length xs
+    → take n (insert xs i x) ≡ take n xs
+take-insert zero xs i x le within = refl
+take-insert (suc n) [] i x le within = absurd (omega arith)
+take-insert (suc n) (y ∷ xs) zero x le within = absurd (omega arith)
+take-insert (suc n) (y ∷ xs) (suc i) x le within =
+    ap (λ (l : List _). y ∷ l) (take-insert n xs i x (omega arith) (omega arith))
+
+pub take-remove : {X : Type 0} (n : ℕ) (xs : List X) → take n (remove xs n) ≡ take n xs
+take-remove zero xs = refl
+take-remove (suc n) [] = refl
+take-remove (suc n) (y ∷ xs) = ap (λ (l : List _). y ∷ l) (take-remove n xs)
 
 module _ {X T : Type 0} (f : X → List T) where
   pub start_at-end : (xs : List X) (n : ℕ) → n ≡ length xs → start_at f xs n ≡ length (flat_map f xs)

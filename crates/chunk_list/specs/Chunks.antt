@@ -68,6 +68,13 @@ module _ {T : Type 0} where
     pub begins : (k : ℕ) → k < length chunks → begin_of inside bases k ≡ start_at vec_items chunks k
     pub blocks : (b : ℕ) → b < length bases → slice_index bases b ≡ start_at vec_items chunks (b * block)
 
+  -- the same of those chunks that stand no further behind than the one at `last`
+  pub record AreStartsUpTo (chunks : List (Vec T)) (inside bases : List ℕ) (last : ℕ) : Type 0 where
+    pub within : last < length inside
+    pub enough : length inside ≤ length bases * block
+    pub begins : (k : ℕ) → k ≤ last → begin_of inside bases k ≡ start_at vec_items chunks k
+    pub blocks : (b : ℕ) → b * block ≤ last → slice_index bases b ≡ start_at vec_items chunks (b * block)
+
   -- a place of the list is so far inside a chunk; the end of the list is the end of a chunk
   pub record IsAt (chunks : List (Vec T)) (place at inside : ℕ) : Type 0 where
     pub within : at < length chunks

@@ -1,12 +1,12 @@
 //! Items that move between chunks, and chunks that come in and go out.
 ghost use Rattle.std.specs.Prelude.{◌≡◌, ◌+◌, ◌*◌, ◌<◌, ◌≤◌, ◌⊎◌, ◌++◌, ℕ, length, slice_index_or};
-ghost use Rattle.std.specs.Prelude.{slice_set, OnOk, vec_len, vec_capacity};
+ghost use Rattle.std.specs.Prelude.{slice_set, take, OnOk, vec_len, vec_capacity};
 ghost use Rattle.std.specs.List.{All, insert};
 ghost use Rattle.chunk_list.specs.Chunks.{AreChunks, AreChunksBut, AreLaidOut, CanTurn, IsSpare};
 ghost use Rattle.chunk_list.specs.Chunks.{IsWide, block, full, joined};
 ghost use Rattle.chunk_list.specs.Edits.{AreTurned, IsGiven};
 
-use crate::list::CHUNK;
+use crate::list::{CHUNK, NEARLY_FULL};
 use crate::starts::{BLOCK, Starts};
 use std::alloc::AllocError;
 use std::mem;
@@ -35,15 +35,13 @@ fn move_up<T>(lower: &mut Vec<T>, upper: &mut Vec<T>, count: usize)
     ensures lower_capacity { vec_capacity lower.new ≡ vec_capacity lower.old }
     ensures upper_capacity { vec_capacity upper.new ≡ vec_capacity upper.old }
 {
-    let had = upper.len();
-    let more = lower.len() - count;
+    // What comes first stands last meanwhile, where items are added and taken.
+    upper.reverse();
     while lower.len() > count {
         let item = lower.take_last();
         upper.push_reserved(item);
     }
-    // They stand last there, the last one first.
-    upper[had..].reverse();
-    upper.rotate_right(more);
+    upper.reverse();
 }
 
 // Moves the first items of a chunk to the end of the one before it, until that one has `count`.
@@ -57,15 +55,12 @@ fn move_down<T>(lower: &mut Vec<T>, upper: &mut Vec<T>, count: usize)
     ensures lower_capacity { vec_capacity lower.new ≡ vec_capacity lower.old }
     ensures upper_capacity { vec_capacity upper.new ≡ vec_capacity upper.old }
 {
-    let fewer = count - lower.len();
-    let left = upper.len() - fewer;
-    upper.rotate_left(fewer);
-    // They stand last there now. The last one is to go first.
-    upper[left..].reverse();
+    upper.reverse();
     while lower.len() < count {
         let item = upper.take_last();
         lower.push_reserved(item);
     }
+    upper.reverse();
 }
 
 // Moves `count` items from a chunk to one beside it.
@@ -94,14 +89,18 @@ pub(crate) fn give<T: Drop>(chunks: &mut Vec<Vec<T>>, from: usize, to: usize, co
     }
 }
 
-// How many items stay in a chunk that is cut: half of them, but in the last chunk as many as fill
-// it. So a list that grows at its end has full chunks.
+// How many items stay in a chunk that is cut: half of them, but in the last chunk nearly all. So a
+// list that grows at its end has chunks that are filled well, and each takes some items more.
 fn staying(at: usize, chunks: usize) -> usize
     requires { at < chunks }
     ensures some { 0 < result }
     ensures fits { result ≤ full }
 {
-    if at + 1 < chunks { CHUNK / 2 } else { CHUNK }
+    if at + 1 < chunks {
+        CHUNK / 2
+    } else {
+        NEARLY_FULL
+    }
 }
 
 // Cuts the chunk at `at`, which has one item too many, in two: a spare chunk comes in behind it,
@@ -114,6 +113,8 @@ pub(crate) fn cut<T: Drop>(chunks: &mut Vec<Vec<T>>, spare: &mut Vec<Vec<T>>, at
     requires fits { vec_len chunks.old < vec_capacity chunks.old }
     ensures same { joined chunks.new.items ≡ joined chunks.old.items }
     ensures chunks { AreChunks chunks.new.items }
+    ensures front { take at chunks.new.items ≡ take at chunks.old.items }
+    ensures some { at < length chunks.new.items }
     ensures turned { AreTurned chunks.old spare.old chunks.new spare.new }
     ensures long { vec_len chunks.new + vec_len spare.new ≡ vec_len chunks.old + vec_len spare.old }
 {
@@ -139,8 +140,9 @@ pub(crate) fn set_out<T: Drop>(
     requires fits { vec_len chunks.old + vec_len spare.old ≤ vec_capacity spare.old }
     ensures same { (joined chunks.new.items ≡ joined chunks.old.items)
         × AreChunks chunks.new.items }
+    ensures front { take at chunks.new.items ≡ take at chunks.old.items }
+    ensures long { length chunks.new.items + 1 ≡ length chunks.old.items }
     ensures turned { AreTurned chunks.old spare.old chunks.new spare.new }
-    ensures some { 0 < vec_len chunks.new }
     ensures needed { needed ≤ vec_len chunks.old + vec_len spare.old
         → needed ≤ vec_len chunks.new + vec_len spare.new }
 {

@@ -7,10 +7,10 @@ mod chunks;
 mod list;
 mod room;
 mod search;
+mod spot;
 mod starts;
-#[cfg(test)]
-mod tests;
 mod walk;
 
 pub use list::ChunkList;
+pub use spot::Spot;
 pub use walk::Walk;

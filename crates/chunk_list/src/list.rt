@@ -10,7 +10,8 @@ ghost use Rattle.chunk_list.specs.Looks.{FewLooks};
 
 use crate::chunks::{grow, set_out};
 use crate::room::{put_in, relieve, take_out};
-use crate::search::{chunk_of, place_in};
+use crate::search::{chunk_near, look_in, still_at};
+use crate::spot::Spot;
 use crate::starts::{Starts, locate, recount};
 use crate::walk::Walk;
 use std::alloc::Global;
@@ -20,13 +21,16 @@ use std::sync::ledger::{Blank, Ledger};
 use u1_base::{Memory, Steps};
 
 // A chunk holds so many items at most, and has memory for one more.
-pub(crate) const CHUNK: usize = 128;
+pub(crate) const CHUNK: usize = 96;
+
+// The last chunk keeps so many where it is cut: too many to give places to others.
+pub(crate) const NEARLY_FULL: usize = 85;
 
 // `reserve` leaves a list in so many chunks a spare one besides, so that a full one can be cut in
 // two.
-const MANY: usize = 16;
+const MANY: usize = 4;
 
-/// A list of items in chunks of at most 128.
+/// A list of items in chunks of at most 96.
 #[derive(Drop)]
 pub struct ChunkList<T> {
     chunks: Vec<Vec<T>>,
@@ -129,23 +133,36 @@ impl<T> ChunkList<T> {
         ensures item { option_copied result.1 ≡ slice_get self.now.items result.0 }
         ensures looks { FewLooks (length self.now.items) 0 steps.old steps.new }
     {
+        let (spot, item) = self.seek(usize::MAX, passes, steps);
+        (spot.place, item)
+    }
+
+    // The same, and the chunk. The chunk at `first` is tried before any other.
+    #[tactic(auto, using(crate::proofs::Places::some_chunk))]
+    fn seek<L: Ledger, F: Fn(&T) -> bool>(
+        &self,
+        first: usize,
+        passes: F,
+        steps: &mut Steps<L>,
+    ) -> (Spot, Option<&T>)
+        requires { F.IsAlwaysCallable passes }
+        ensures within { result.0.place ≤ length self.now.items }
+        ensures before { PassesBefore (FnReturnsAt F.Fn passes) self.now.items result.0.place }
+        ensures after { FailsAt (FnReturnsAt F.Fn passes) self.now.items result.0.place }
+        ensures item { option_copied result.1 ≡ slice_get self.now.items result.0.place }
+        ensures looks { FewLooks (length self.now.items) 0 steps.old steps.new }
+    {
         if self.len == 0 {
-            return (0, None);
+            return (Spot::at(0), None);
         }
-        let at = chunk_of(&self.chunks, &passes, steps);
-        let start = self.starts.at(at);
-        // The first item of the chunk passes, unless it is the first chunk, of which nothing is
-        // known.
-        let known = at.min(1);
-        let chunk = &self.chunks[at];
-        let place = place_in(chunk, known, &passes, steps);
-        let found = start + place;
-        let item = match chunk.get(place) {
+        let chunk = chunk_near(&self.chunks, first, &passes, steps);
+        let (place, item) = look_in(&self.chunks, &self.starts, chunk, &passes, steps);
+        let item = match item {
             Some(item) => Some(item),
             // The first one of the next chunk.
-            None => self.get(found),
+            None => self.get(place),
         };
-        (found, item)
+        (Spot { place, chunk }, item)
     }
 
     /// `search` for who counts nothing.
@@ -156,7 +173,24 @@ impl<T> ChunkList<T> {
         ensures after { FailsAt (FnReturnsAt F.Fn passes) self.now.items result.0 }
         ensures item { option_copied result.1 ≡ slice_get self.now.items result.0 }
     {
-        counted::<T, Brand, F>(self, passes, Blank::new(1))
+        let (spot, item) = self.find_near(Spot::at(0), passes);
+        (spot.place, item)
+    }
+
+    /// The same for who was near, and the spot: that spot is tried first, and then its chunk, before
+    /// any other. So whoever comes back looks at two items, and whoever looks for items in their
+    /// order searches among few.
+    pub fn find_near<F: Fn(&T) -> bool>(&self, near: Spot, passes: F) -> (Spot, Option<&T>)
+        requires { F.IsAlwaysCallable passes }
+        ensures within { result.0.place ≤ length self.now.items }
+        ensures before { PassesBefore (FnReturnsAt F.Fn passes) self.now.items result.0.place }
+        ensures after { FailsAt (FnReturnsAt F.Fn passes) self.now.items result.0.place }
+        ensures item { option_copied result.1 ≡ slice_get self.now.items result.0.place }
+    {
+        match still_at(&self.chunks, &self.starts, near, &passes) {
+            Some(item) => (near, Some(item)),
+            None => counted::<T, Brand, F>(self, near, passes, Blank::new(1)),
+        }
     }
 
     /// Makes room for so many more items. At an error the items stand and the room is no less.
@@ -171,7 +205,9 @@ impl<T> ChunkList<T> {
         if usize::MAX - self.len < room {
             return Err(Memory);
         }
-        let needed = (self.len + room).div_ceil(CHUNK);
+        // As full as a list is that grows at its end: else the last items would find no chunk of
+        // their own, and push others through all chunks.
+        let needed = (self.len + room).div_ceil(NEARLY_FULL);
         let besides = (self.chunks.len() / MANY).min(1);
         let wanted = needed.max(self.chunks.len() + besides);
         grow(&mut self.chunks, &mut self.spare, &mut self.starts, wanted)?;
@@ -188,7 +224,19 @@ impl<T> ChunkList<T> {
         ensures items { self.new.items ≡ insert self.old.items place item }
         ensures room { self.new.room + 1 ≡ self.old.room }
     {
-        let at = put_in(&mut self.chunks, &mut self.starts, place, item);
+        self.insert_at(Spot::at(place), item);
+    }
+
+    /// The same at a spot, which is not sought again if it was found in the list as it stands.
+    pub fn insert_at(&mut self, spot: Spot, item: T)
+    where
+        T: Drop,
+        requires place { spot.place ≤ length self.old.items }
+        requires room { 0 < self.old.room }
+        ensures items { self.new.items ≡ insert self.old.items spot.place item }
+        ensures room { self.new.room + 1 ≡ self.old.room }
+    {
+        let at = put_in(&mut self.chunks, &mut self.starts, spot, item);
         self.len += 1;
         self.room -= 1;
         if self.chunks[at].len() > CHUNK {
@@ -223,7 +271,7 @@ impl<T> ChunkList<T> {
         self.len -= 1;
         if at > 0 && self.chunks[at].len() == 0 {
             set_out(&mut self.chunks, &mut self.spare, at, needed);
-            recount(&mut self.starts, &self.chunks);
+            recount(&mut self.starts, &self.chunks, at - 1);
         }
         item
     }
@@ -232,18 +280,19 @@ impl<T> ChunkList<T> {
 // A search with a counter of its own.
 fn counted<T, L: Ledger, F: Fn(&T) -> bool>(
     list: &ChunkList<T>,
+    near: Spot,
     passes: F,
     blank: Blank,
-) -> (usize, Option<&T>)
+) -> (Spot, Option<&T>)
     requires callable { F.IsAlwaysCallable passes }
     requires name { blank.name ≡ L.name }
     requires parts { blank.parts ≡ L.parts }
     requires some { 0 < L.parts }
-    ensures within { result.0 ≤ length list.now.items }
-    ensures before { PassesBefore (FnReturnsAt F.Fn passes) list.now.items result.0 }
-    ensures after { FailsAt (FnReturnsAt F.Fn passes) list.now.items result.0 }
-    ensures item { option_copied result.1 ≡ slice_get list.now.items result.0 }
+    ensures within { result.0.place ≤ length list.now.items }
+    ensures before { PassesBefore (FnReturnsAt F.Fn passes) list.now.items result.0.place }
+    ensures after { FailsAt (FnReturnsAt F.Fn passes) list.now.items result.0.place }
+    ensures item { option_copied result.1 ≡ slice_get list.now.items result.0.place }
 {
     let mut steps = Steps::<L>::new(blank);
-    list.search(passes, &mut steps)
+    list.seek(near.chunk, passes, &mut steps)
 }

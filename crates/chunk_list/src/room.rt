@@ -8,13 +8,14 @@ ghost use Rattle.chunk_list.specs.Edits.{AreTurned, HasFree, NoneFree};
 
 use crate::chunks::{cut, give, put};
 use crate::list::CHUNK;
-use crate::starts::{Starts, carry, locate, recount, shift};
+use crate::spot::Spot;
+use crate::starts::{Starts, carry, locate, recount, seat, shift};
 
 // A full chunk takes places from a chunk that is no further away than this and has so many free. So
-// chunks are well filled, and few are cut.
-const NEAR: usize = 6;
+// chunks are filled well enough, and few items move between them.
+const NEAR: usize = 2;
 
-const SOME: usize = 6;
+const SOME: usize = 8;
 
 // The nearest chunk, on either side and no further away than `reach`, that has `least` places free.
 fn nearest<T>(chunks: &Vec<Vec<T>>, at: usize, reach: usize, least: usize) -> Option<usize>
@@ -114,7 +115,7 @@ pub(crate) fn relieve<T: Drop>(
     }
     if spare.len() > 0 {
         cut(chunks, spare, at);
-        recount(starts, chunks);
+        recount(starts, chunks, at);
         return;
     }
     if let Some(free) = nearest(chunks, at, usize::MAX, 1) {
@@ -127,15 +128,15 @@ pub(crate) fn relieve<T: Drop>(
 pub(crate) fn put_in<T: Drop>(
     chunks: &mut Vec<Vec<T>>,
     starts: &mut Starts,
-    place: usize,
+    spot: Spot,
     item: T,
 ) -> usize
     requires laid_out { AreLaidOut chunks.old.items starts.old.inside.items
         starts.old.bases.items }
     requires some { 0 < vec_len chunks.old }
-    requires place { place ≤ length (joined chunks.old.items) }
+    requires place { spot.place ≤ length (joined chunks.old.items) }
     requires fits { length (joined chunks.old.items) + 1 < 2 ^ 64 }
-    ensures items { joined chunks.new.items ≡ insert (joined chunks.old.items) place item }
+    ensures items { joined chunks.new.items ≡ insert (joined chunks.old.items) spot.place item }
     ensures chunks { AreChunksBut chunks.new.items result }
     ensures some { (d : _) → 0 < vec_len (slice_index_or chunks.new.items result d) }
     ensures starts { AreStarts chunks.new.items starts.new.inside.items
@@ -145,7 +146,7 @@ pub(crate) fn put_in<T: Drop>(
     ensures starts_capacity { vec_capacity starts.new.inside ≡ vec_capacity starts.old.inside }
     ensures blocks_capacity { vec_capacity starts.new.bases ≡ vec_capacity starts.old.bases }
 {
-    let (at, inside) = locate(chunks, starts, place);
+    let (at, inside) = seat(chunks, starts, spot);
     let chunk = &mut chunks[at];
     put(chunk, inside, item);
     shift(starts, at, 0, 1);

@@ -1,9 +1,10 @@
 //! The places where the chunks begin.
 ghost use Rattle.std.specs.Prelude.{◌≡◌, ◌≢◌, ◌+◌, ◌*◌, ◌/◌, ◌^◌, ◌<◌, ◌≤◌, ℕ, [], length};
 ghost use Rattle.std.specs.Prelude.{slice_index, slice_index_or, vec_len, vec_capacity};
-ghost use Rattle.chunk_list.specs.Chunks.{AreStarts, IsAt, begin_of, block, joined};
+ghost use Rattle.chunk_list.specs.Chunks.{AreStarts, AreStartsUpTo, IsAt, begin_of, block, joined};
 ghost use Rattle.chunk_list.specs.Edits.{IsGiven};
 
+use crate::spot::Spot;
 use std::alloc::Global;
 
 // So many chunks in a row are a block. An item that comes in or goes out moves the later chunks of
@@ -63,6 +64,24 @@ pub(crate) fn locate<T>(chunks: &Vec<Vec<T>>, starts: &Starts, place: usize) -> 
     }
     let start = starts.at(low);
     (low, place - start)
+}
+
+// The same of a spot: it falls into the chunk that it was found in, unless the list has changed or
+// it is the end of that chunk.
+pub(crate) fn seat<T>(chunks: &Vec<Vec<T>>, starts: &Starts, spot: Spot) -> (usize, usize)
+    requires starts { AreStarts chunks.now.items starts.now.inside.items starts.now.bases.items }
+    requires some { 0 < length chunks.now.items }
+    requires place { spot.place ≤ length (joined chunks.now.items) }
+    requires fits { length (joined chunks.now.items) < 2 ^ 64 }
+    ensures { IsAt chunks.now.items spot.place result.0 result.1 }
+{
+    if spot.chunk < chunks.len() {
+        let begin = starts.at(spot.chunk);
+        if begin <= spot.place && spot.place - begin < chunks[spot.chunk].len() {
+            return (spot.chunk, spot.place - begin);
+        }
+    }
+    locate(chunks, starts, spot.place)
 }
 
 // The numbers from `from` on and before `to` are as many more as `after` is more than `before`, or
@@ -145,8 +164,11 @@ pub(crate) fn carry<T>(
     shift(starts, to, 0, count);
 }
 
-// Counts the starts anew.
-pub(crate) fn recount<T>(starts: &mut Starts, chunks: &Vec<Vec<T>>)
+// Counts the starts anew behind the chunk at `from`, up to which they are right.
+pub(crate) fn recount<T>(starts: &mut Starts, chunks: &Vec<Vec<T>>, from: usize)
+    requires known { AreStartsUpTo chunks.now.items starts.old.inside.items
+        starts.old.bases.items from }
+    requires from { from < length chunks.now.items }
     requires enough { vec_len chunks.now ≤ vec_capacity starts.old.inside }
     requires blocks { vec_len chunks.now ≤ vec_capacity starts.old.bases * block }
     requires fits { length (joined chunks.now.items) < 2 ^ 64 }
@@ -154,11 +176,12 @@ pub(crate) fn recount<T>(starts: &mut Starts, chunks: &Vec<Vec<T>>)
     ensures capacity { vec_capacity starts.new.inside ≡ vec_capacity starts.old.inside }
     ensures blocks_capacity { vec_capacity starts.new.bases ≡ vec_capacity starts.old.bases }
 {
-    starts.inside.clear();
-    starts.bases.clear();
-    let mut place = 0;
-    let mut base = 0;
-    for k in 0..chunks.len() {
+    let block = from / BLOCK;
+    let mut base = starts.bases[block];
+    let mut place = starts.at(from) + chunks[from].len();
+    starts.inside.truncate(from + 1);
+    starts.bases.truncate(block + 1);
+    for k in from + 1..chunks.len() {
         if k % BLOCK == 0 {
             base = place;
             starts.bases.push_reserved(base);

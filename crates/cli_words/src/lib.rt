@@ -21,8 +21,6 @@ mod read;
 mod stores;
 mod syncs;
 mod synopsis;
-#[cfg(test)]
-mod tests;
 mod verb;
 mod word;
 

@@ -1,5 +1,5 @@
 //! The lines of documents.
-ghost use Rattle.std.specs.Prelude.{◌≡◌, ◌++◌, IfOk, codes};
+ghost use Rattle.std.specs.Prelude.{◌≡◌, ◌++◌, codes};
 ghost use Rattle.command_lines.specs.Lines.{content_text, line_text};
 ghost use Rattle.command_lines.specs.Puts.{Puts};
 ghost use Rattle.replica_core.specs.Commands.Effects.{Conflict, Document, Made, NoDocument};
@@ -8,8 +8,7 @@ use crate::put::{PrintFault, put_all};
 use conflicts::Member;
 use content::Content;
 use link::Sink;
-use std::alloc::Global;
-use u1_base::{Bytes, DocId, Memory};
+use u1_base::DocId;
 use vector_rev::Clock;
 
 /// A document and the revision that was made of it: `ID REV`.
@@ -25,7 +24,6 @@ pub fn print_made<K: Sink>(out: &mut K, id: &DocId, rev: &Clock) -> Result<(), P
 
 /// A document with its current member: `ID REV MARK CONTENT`.
 pub fn print_document<K: Sink>(
-    alloc: Global,
     out: &mut K,
     id: &DocId,
     member: &Member,
@@ -35,9 +33,9 @@ pub fn print_document<K: Sink>(
         (K.known out.old) (K.known out.new) result }
 {
     let rev = member.rev.text()?;
-    let content = spelled(alloc, &member.content)?;
+    let content = spelled(&member.content);
     let mark = if conflicted { "conflicted" } else { "-" };
-    put_document(out, id, rev.as_str(), mark, content.as_slice())
+    put_document(out, id, rev.as_str(), mark, content)
 }
 
 fn put_document<K: Sink>(
@@ -75,31 +73,20 @@ pub fn print_no_document<K: Sink>(out: &mut K) -> Result<(), PrintFault>
 }
 
 /// A member of a document in conflict: `REV CONTENT`.
-pub fn print_conflict<K: Sink>(
-    alloc: Global,
-    out: &mut K,
-    member: &Member,
-) -> Result<(), PrintFault>
+pub fn print_conflict<K: Sink>(out: &mut K, member: &Member) -> Result<(), PrintFault>
     ensures { Puts (line_text (Conflict member.now)) (K.known out.old) (K.known out.new) result }
 {
     let rev = member.rev.text()?;
-    let content = spelled(alloc, &member.content)?;
-    put_all(
-        out,
-        &[rev.as_str().as_bytes(), b" ", content.as_slice(), b"\n"],
-    )
+    let content = spelled(&member.content);
+    put_all(out, &[rev.as_str().as_bytes(), b" ", content, b"\n"])
 }
 
 // The canonical text of a content, or the word for none.
-fn spelled(alloc: Global, content: &Option<Content>) -> Result<Bytes, Memory>
-    ensures { IfOk result (λ text. text ≡ content_text content.now) }
+fn spelled(content: &Option<Content>) -> &[u8]
+    ensures { result.now ≡ content_text content.now }
 {
     match content {
-        Some(content) => content.text(),
-        None => {
-            let mut text = Bytes::new(alloc);
-            text.extend(b"deleted")?;
-            Ok(text)
-        }
+        Some(content) => content.as_str().as_bytes(),
+        None => b"deleted",
     }
 }

@@ -12,8 +12,6 @@ mod last;
 mod outcome;
 mod places;
 mod put;
-#[cfg(test)]
-mod tests;
 
 pub use documents::{print_conflict, print_document, print_made, print_no_document};
 pub use indexes::{print_index, print_index_deleted, print_index_made, print_key};

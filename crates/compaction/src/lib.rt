@@ -10,8 +10,6 @@ mod laws;
 mod noted;
 mod spelling;
 mod standing;
-#[cfg(test)]
-mod tests;
 
 pub use compacting::{Steps, compact, trim};
 pub use laws::law_compaction;

@@ -17,14 +17,8 @@ mod merges;
 mod moves;
 mod names;
 mod receipts;
-#[cfg(test)]
-mod refusal_tests;
 mod resolutions;
 mod set;
-#[cfg(test)]
-mod stories;
-#[cfg(test)]
-mod tests;
 
 pub use accept::{Accept, Making};
 pub use edits::{EditFault, delete, edit};

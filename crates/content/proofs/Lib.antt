@@ -15,3 +15,9 @@ mod Utf8Texts
 pub mod CanonicalTexts
 pub mod Reading
 mod Examples
+pub mod SpelledTrees
+mod PlainLanes
+mod FlatTexts
+mod SpelledTexts
+mod MadeTrees
+mod PartTrees

@@ -70,7 +70,7 @@ is_number : (z : ℤ) → FitsSigned w64 z → IsNumber (number_text (of_integer
 is_number (pos n) fits = IsNumber-decimal n (omega (arith, ints))
 is_number (negsuc n) fits = IsNumber-signed_decimal (negsuc n) (omega (arith, ints))
 
-number_back : (z : ℤ) → FitsSigned w64 z → number_of (number_text (of_integer z)) ≡ Some (of_integer z)
+pub number_back : (z : ℤ) → FitsSigned w64 z → number_of (number_text (of_integer z)) ≡ Some (of_integer z)
 number_back (pos n) fits = number_of-decimal n (omega (arith, ints))
 number_back (negsuc n) fits = number_of-negative n (omega (arith, ints))
 

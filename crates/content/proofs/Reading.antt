@@ -23,12 +23,12 @@ use Rattle.content.proofs.Ordered.{IsInRange, IsOrdered, AreOrdered, HasOrderedM
 
 -- ---- a tree is the tree of its own value
 
-whole_back : (z : ℤ) → whole_in (of_integer z) ≡ z
+pub whole_back : (z : ℤ) → whole_in (of_integer z) ≡ z
 whole_back (pos n) = refl
 whole_back (negsuc n) = refl
 
 mutual
-  tree_back : (t : Tree) → tree_in (data_of t) ≡ t
+  pub tree_back : (t : Tree) → tree_in (data_of t) ≡ t
   tree_back null = refl
   tree_back (boolean b) = refl
   tree_back (whole z) = ap whole (whole_back z)

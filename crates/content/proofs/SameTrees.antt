@@ -1,15 +1,11 @@
 -- The test of two trees is true exactly where they are equal.
-use Rattle.std.proofs.Common.{◌≡◌, ◌≢◌, suc, Bool, true, false, not, cond, ◌&&◌, List, [], ◌∷◌, length, bytes_eq, refl}
-use Rattle.std.proofs.Common.{sym, ap, ap₂, ◌∙◌}
+use Rattle.std.proofs.Common.{◌≡◌, Bool, true, false, not, cond, ◌&&◌, bytes_eq, refl, sym, ap, ap₂, ◌∙◌}
 use Rattle.std.proofs.lemmas.Bool.{and_from, and_parts}
 use Rattle.std.proofs.lemmas.Bool.Decides.{Decides-int_eq}
 use Rattle.std.proofs.lemmas.Slice.Eq.{bytes_eq-Decides}
 use Rattle.content.specs.Tree.{Tree, null, boolean, whole, text, list, object, Items, no_items, item, Fields, no_fields}
 use Rattle.content.specs.Tree.{field}
-use Rattle.content.specs.TreeOf.{items_view, fields_view}
 use Rattle.content.specs.Values.{is_same, is_same_items, is_same_fields}
-use Rattle.content.specs.declared.value.Json.{Json}
-use Rattle.content.specs.declared.value.Field.{Field}
 
 bools_same : (a : Bool) → cond a a (not a) ≡ true
 bools_same true = refl
@@ -67,22 +63,3 @@ mutual
 
 pub is_same-Decides : (t u : Tree) → (is_same t u ≡ true → t ≡ u) × (t ≡ u → is_same t u ≡ true)
 is_same-Decides t u = (equal-is_same t u, λ e. ap (is_same t) (sym e) ∙ same_itself t)
-
-and_false : (a b : Bool) → false ≡ b → false ≡ (a && b)
-and_false true b e = e
-and_false false b e = refl
-
--- lists of two lengths are not the same
-pub items_of_two_lengths : (xs ys : List Json) → length xs ≢ length ys
-    → false ≡ is_same_items (items_view xs) (items_view ys)
-items_of_two_lengths [] [] other = absurd (other refl)
-items_of_two_lengths [] (y ∷ ys) other = refl
-items_of_two_lengths (x ∷ xs) [] other = refl
-items_of_two_lengths (x ∷ xs) (y ∷ ys) other = and_false _ _ (items_of_two_lengths xs ys (λ e. other (ap suc e)))
-
-pub fields_of_two_lengths : (xs ys : List Field) → length xs ≢ length ys
-    → false ≡ is_same_fields (fields_view xs) (fields_view ys)
-fields_of_two_lengths [] [] other = absurd (other refl)
-fields_of_two_lengths [] (y ∷ ys) other = refl
-fields_of_two_lengths (x ∷ xs) [] other = refl
-fields_of_two_lengths (x ∷ xs) (y ∷ ys) other = and_false _ _ (fields_of_two_lengths xs ys (λ e. other (ap suc e)))

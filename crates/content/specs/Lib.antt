@@ -7,4 +7,8 @@ pub mod Reading
 pub mod TreeOf
 pub mod Values
 pub mod Kinds
+pub mod Parts
+pub mod Pieces
 pub mod Plain
+pub mod Spelled
+pub mod Fronts

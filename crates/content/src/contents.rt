@@ -1,37 +1,37 @@
-//! A content: a checked JSON object.
+//! A content: a checked JSON object, kept as its canonical text.
+//!
+//! Most contents are read as they were written: one pass tells so, and the text is copied.
 ghost use Rattle.std.specs.Prelude.{◌≡◌, ◌≢◌, ◌≤◌, ◌↔◌, IsTrue, IsUtf8, IfOk, IfErr, Some, None};
 ghost use Rattle.std.specs.Prelude.{length};
 ghost use Rattle.content.specs.Canonical.{canonical, data_of};
 ghost use Rattle.content.specs.Contents.{IsContent, most_bytes};
 ghost use Rattle.content.specs.Faults.{Reads, fault_of, fault_of_value, value_of};
 ghost use Rattle.content.specs.Reading.{content_in};
+ghost use Rattle.content.specs.Spelled.{IsSpelled, spelled_tree};
 ghost use Rattle.content.specs.TreeOf.{tree_of};
 ghost use Rattle.serde_json.specs.View.{view};
 
 use crate::check::fault_in;
 use crate::convert::convert;
-use crate::copy::copy_of;
+use crate::made::made_root;
+use crate::parts::{cut_to, made_part};
 use crate::plain::{Stop, plain_root};
-use crate::same::same_json;
-use crate::write::write_json;
+use crate::spelled::is_spelled;
+use crate::write::written;
 use crate::{ContentFault, Json};
-use json::{Scratch, Writer};
+use json::Scratch;
 use serde_json::Value;
 use std::alloc::Global;
 use std::marker::Model;
 use u1_base::limits::MOST_CONTENT_BYTES;
-use u1_base::{Bytes, Memory};
-
-// Most contents are no longer than this, so that their text is written into memory that is asked
-// for once.
-const SHORT_TEXT_BYTES: usize = 128;
+use u1_base::{Bytes, Memory, Text};
 
 /// The content of a document, seen as the tree of its root: an object, nested at most
 /// `u1_base::limits::MOST_CONTENT_DEPTH` deep, whose canonical text has at most
 /// `u1_base::limits::MOST_CONTENT_BYTES` bytes.
 #[derive(Drop)]
 pub struct Content {
-    root: Json,
+    text: Text,
     alloc: Global,
 }
 
@@ -43,15 +43,15 @@ impl Model for Content {
 
     ghost coded = { tree_code };
 
-    ghost use Rattle.content.specs.TreeOf.{tree_of};
-    ghost use Rattle.content.specs.Contents.{IsContent};
+    ghost use Rattle.content.specs.Spelled.{IsSpelled, spelled_tree};
 
-    ghost view = { λ c. tree_of c.root };
+    ghost view = { λ c. spelled_tree c.text };
 
-    ghost invariant = { λ c. IsContent (tree_of c.root) };
+    ghost invariant = { λ c. IsSpelled c.text };
 }
 
 impl Content {
+    ghost use Rattle.content.specs.Parts.{part_of};
     ghost use Rattle.content.specs.TreeOf.{tree_of};
 
     /// Reads a content from the whole of the bytes (JSON by RFC 8259, as `serde_json` reads it).
@@ -86,47 +86,127 @@ impl Content {
         ensures refused { IfErr result
             (λ e. e ≢ ContentFault.Memory → content_in bytes.now ≡ None) }
     {
-        let root = root_in(alloc, scratch, bytes)?;
-        Ok(Content { root, alloc })
+        let content = content_of(alloc, scratch, bytes)?;
+        Ok(content)
     }
 
-    /// The root of the tree, an object.
-    pub fn root(&self) -> &Json
-        ensures root { tree_of result.now ≡ self.now }
+    // The content whose canonical text this is.
+    fn of_text(alloc: Global, bytes: &[u8]) -> Result<Content, Memory>
+        requires { IsSpelled bytes.now }
+        ensures { IfOk result (λ c. c ≡ spelled_tree bytes.now) }
+    {
+        match str::from_utf8(bytes) {
+            Ok(text) => Ok(Content {
+                text: Text::copy(alloc, text)?,
+                alloc,
+            }),
+            Err(_) => unreachable!(),
+        }
+    }
+
+    // The content of this root.
+    fn of_root(alloc: Global, root: &Json) -> Result<Content, Memory>
+        requires { IsContent (tree_of root.now) }
+        ensures { IfOk result (λ c. c ≡ tree_of root.now) }
+    {
+        let text = written(alloc, root)?;
+        Content::of_text(alloc, text.as_slice())
+    }
+
+    /// The root of the tree, an object, made from the text.
+    pub fn root(&self) -> Result<Json, Memory>
+        ensures root { IfOk result (λ root. tree_of root ≡ self.now) }
         ensures content { IsContent self.now }
     {
-        &self.root
+        let bytes = self.text.as_str().as_bytes();
+        match made_root(self.alloc, bytes) {
+            Ok(root) => Ok(root),
+            Err(Stop::NotPlain) => self.read_root(),
+            Err(Stop::Memory) => Err(Memory),
+        }
+    }
+
+    /// The part of the root that has just the fields of these names. Of the others nothing is made.
+    pub fn part(&self, names: &[Text]) -> Result<Json, Memory>
+        ensures { IfOk result (λ root. tree_of root ≡ part_of names.now self.now) }
+    {
+        let bytes = self.text.as_str().as_bytes();
+        match made_part(self.alloc, bytes, names) {
+            Ok(root) => Ok(root),
+            Err(Stop::NotPlain) => Ok(cut_to(self.read_root()?, names)),
+            Err(Stop::Memory) => Err(Memory),
+        }
+    }
+
+    // The root, made from each canonical text.
+    fn read_root(&self) -> Result<Json, Memory>
+        ensures root { IfOk result (λ root. tree_of root ≡ self.now) }
+        ensures content { IsContent self.now }
+    {
+        let bytes = self.text.as_str().as_bytes();
+        let mut scratch = Scratch::new(self.alloc);
+        match root_in(self.alloc, &mut scratch, bytes) {
+            Ok(root) => Ok(root),
+            // The text has no fault.
+            Err(_) => Err(Memory),
+        }
     }
 
     /// The canonical text: compact, names in their order, texts and numbers as `serde_json` spells
     /// them. It reads as this content.
+    pub fn as_str(&self) -> &str
+        ensures text { result.now ≡ canonical self.now }
+        ensures content { IsContent self.now }
+        ensures reads_back { content_in result.now ≡ Some self.now }
+    {
+        self.text.as_str()
+    }
+
+    /// A copy of the canonical text.
     pub fn text(&self) -> Result<Bytes, Memory>
         ensures text { IfOk result (λ bytes. bytes ≡ canonical self.now) }
         ensures utf8 { IfOk result (λ bytes. IsUtf8 bytes) }
         ensures short { IfOk result (λ bytes. length bytes ≤ most_bytes) }
         ensures reads_back { IfOk result (λ bytes. content_in bytes ≡ Some self.now) }
     {
-        let mut out = Writer::new(Vec::with_capacity(self.alloc, SHORT_TEXT_BYTES)?);
-        write_json(&self.root, &mut out)?;
-        Ok(Bytes::from_vec(out.into_inner()))
+        let text = self.as_str().as_bytes();
+        Ok(Bytes::from_vec(Vec::from_slice(self.alloc, text)?))
     }
 
     /// Whether the trees are equal.
     pub fn same(&self, other: &Content) -> bool
         ensures { IsTrue result ↔ (self.now ≡ other.now) }
     {
-        same_json(&self.root, &other.root)
+        self.as_str() == other.as_str()
     }
 
-    /// A second content with the same tree.
+    /// A second content with the same tree. The two share their text.
     pub fn copy(&self) -> Result<Content, Memory>
         ensures { IfOk result (λ c. c ≡ self.now) }
     {
         Ok(Content {
-            root: copy_of(self.alloc, &self.root)?,
+            text: self.text.duplicate()?,
             alloc: self.alloc,
         })
     }
+}
+
+// The content that the bytes are.
+fn content_of(
+    alloc: Global,
+    scratch: &mut Scratch<Global>,
+    bytes: &[u8],
+) -> Result<Content, ContentFault>
+    ensures reads { IfOk result (λ c. Reads bytes.now c) }
+    ensures fault { IfErr result (λ e. e ≢ ContentFault.Memory → fault_of bytes.now ≡ Some e) }
+{
+    if is_spelled(bytes) {
+        let content = Content::of_text(alloc, bytes)?;
+        return Ok(content);
+    }
+    let root = root_in(alloc, scratch, bytes)?;
+    let content = Content::of_root(alloc, &root)?;
+    Ok(content)
 }
 
 // The root of the content that the bytes are.

@@ -8,14 +8,17 @@
 mod check;
 mod contents;
 mod convert;
-mod copy;
 mod fault;
+mod flat;
 mod laws;
+mod made;
+mod parts;
+#[cfg(test)]
+mod passes_tests;
 mod plain;
 mod put;
-mod same;
-#[cfg(test)]
-mod tests;
+mod scan;
+mod spelled;
 mod value;
 mod whole;
 mod write;

@@ -12,7 +12,7 @@ ghost use Rattle.content.specs.Canonical.{data_of, fields_data, items_data};
 ghost use Rattle.content.specs.Faults.{Reads, any_in_items, any_in_members, any_number};
 ghost use Rattle.content.specs.Faults.{fault_of_value, is_large};
 ghost use Rattle.content.specs.Plain.{more_levels, comes_after as comes_behind};
-ghost use Rattle.content.specs.Tree.{fields_nesting, items_nesting, nesting};
+ghost use Rattle.content.specs.Tree.{fields_nesting, items_nesting, nesting, whole as whole_tree};
 ghost use Rattle.content.specs.TreeOf.{fields_view, items_view, pair_of, tree_of};
 
 use crate::put::put_field;
@@ -189,7 +189,8 @@ fn plain_fields(alloc: Global, reader: &mut Reader<'_>, levels: u64) -> Result<V
     Ok(found)
 }
 
-fn json_of(number: i64) -> Json
+pub(crate) fn json_of(number: i64) -> Json
+    ensures tree { tree_of result ≡ whole_tree number }
     ensures value { data_of (tree_of result) ≡ json_number (of_integer number) }
     ensures shallow { nesting (tree_of result) ≡ 0 }
     ensures small { any_number is_large (data_of (tree_of result)) ≡ false }
@@ -197,7 +198,7 @@ fn json_of(number: i64) -> Json
     Json::Whole(number)
 }
 
-fn field_of(name: Text, value: Json) -> Field
+pub(crate) fn field_of(name: Text, value: Json) -> Field
     ensures name { (pair_of result).0 ≡ name }
     ensures value { (pair_of result).1 ≡ tree_of value }
 {

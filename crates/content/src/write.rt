@@ -1,17 +1,31 @@
-//! The tokens of a value, written by `json`.
-ghost use Rattle.std.specs.Prelude.{◌≡◌, ◌++◌, ◌∷◌, OnOk};
+//! The canonical text of a tree, written by `json` as its tokens.
+ghost use Rattle.std.specs.Prelude.{◌≡◌, ◌++◌, ◌∷◌, IfOk, OnOk};
 ghost use Rattle.json.specs.Token.{key};
 ghost use Rattle.json.specs.Tree.{json_tokens, items_tokens, members_tokens};
 ghost use Rattle.serde_json.specs.Written.{outline, items_outline, members_outline};
-ghost use Rattle.content.specs.Canonical.{data_of, items_data, fields_data};
+ghost use Rattle.content.specs.Canonical.{canonical, data_of, items_data, fields_data};
 ghost use Rattle.content.specs.TreeOf.{tree_of, pair_of, items_view, fields_view};
 
 use crate::{Field, Json};
 use json::Writer;
+use std::alloc::Global;
 use u1_base::Memory;
 
+// Most contents are no longer than this, so that their text is written into memory that is asked
+// for once.
+const SHORT_TEXT_BYTES: usize = 128;
+
+/// The canonical text of the tree.
+pub(crate) fn written(alloc: Global, root: &Json) -> Result<Vec<u8>, Memory>
+    ensures { IfOk result (λ text. text.items ≡ canonical (tree_of root.now)) }
+{
+    let mut out = Writer::new(Vec::with_capacity(alloc, SHORT_TEXT_BYTES)?);
+    write_json(root, &mut out)?;
+    Ok(out.into_inner())
+}
+
 #[cycle(write)]
-pub(crate) fn write_json(value: &Json, out: &mut Writer) -> Result<(), Memory>
+fn write_json(value: &Json, out: &mut Writer) -> Result<(), Memory>
     ensures before { OnOk result (out.new.before ≡ out.old.before) }
     ensures tokens { OnOk result (out.new.tokens
         ≡ out.old.tokens ++ json_tokens (outline (data_of (tree_of value.now)))) }

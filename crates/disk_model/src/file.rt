@@ -22,7 +22,7 @@ use u1_base::Text;
 /// call fails. A failure of any kind raises the count, which stands still at the end of its type.
 #[derive(Drop)]
 pub struct FileDisk<R: Files<File = File> + Clock + Alloc + Drop> {
-    pub(crate) real: RealFile<R>,
+    real: RealFile<R>,
     fault: Option<FileFault>,
     made: u64,
     faults: u64,

@@ -9,15 +9,11 @@ mod calls;
 mod device;
 mod file;
 mod file_fault;
-#[cfg(test)]
-mod file_tests;
 mod losses;
 mod memory;
 mod real_file;
 mod size_limit;
 mod synced;
-#[cfg(test)]
-mod tests;
 
 pub use device::{Disk, DiskFailed};
 pub use file::FileDisk;

@@ -32,7 +32,6 @@ pub(crate) struct RealFile<R: Files<File = File> + Clock + Alloc + Drop> {
     over: Option<FileFault>,
     // The greatest size of a file, once it was asked for.
     most: Option<u64>,
-    pub(crate) tries: u32,
 }
 
 // What is known of the file.
@@ -64,7 +63,6 @@ impl<R: Files<File = File> + Clock + Alloc + Drop> RealFile<R> {
             place: Place::Unknown,
             over: None,
             most: None,
-            tries: LOCK_TRIES,
         }
     }
 
@@ -133,10 +131,8 @@ impl<R: Files<File = File> + Clock + Alloc + Drop> RealFile<R> {
         let Place::Open(opened) = &mut self.place else {
             return Ok(());
         };
-        if opened.is_named {
-            FileFault::of(FileCall::Sync, opened.file.sync_data())?;
-        } else {
-            FileFault::of(FileCall::Sync, opened.file.sync_all())?;
+        FileFault::of(FileCall::Sync, opened.file.sync_data())?;
+        if !opened.is_named {
             let named = sync_folder_of(&self.rt, self.path.as_str());
             FileFault::of(FileCall::SyncName, named)?;
             opened.is_named = true;
@@ -260,7 +256,7 @@ impl<R: Files<File = File> + Clock + Alloc + Drop> RealFile<R> {
     }
 
     fn wait_for_lock(&self, file: &File) -> io::Result<()> {
-        for _ in 1..self.tries {
+        for _ in 1..LOCK_TRIES {
             match file.try_lock() {
                 Ok(()) => return Ok(()),
                 Err(TryLockError::WouldBlock) => {

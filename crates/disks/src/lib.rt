@@ -8,11 +8,7 @@
 mod history;
 mod laws;
 mod name;
-#[cfg(test)]
-mod root_last_tests;
 mod synced;
-#[cfg(test)]
-mod tests;
 mod three;
 mod trio;
 

@@ -1,2 +1,5 @@
+mod Keys
 pub mod Places
+mod Slots
+mod Stock
 pub mod Walking

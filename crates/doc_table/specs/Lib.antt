@@ -1,3 +1,4 @@
 pub mod Abbreviated
 pub mod Entries
 pub mod Listed
+pub mod Slots

@@ -6,8 +6,6 @@
 
 mod entry;
 mod table;
-#[cfg(test)]
-mod tests;
 mod walk;
 
 pub use table::Table;

@@ -15,13 +15,12 @@ pub struct Pairs<'a, F: FormOf, V> {
 impl<'a, F: FormOf, V> Model for Pairs<'a, F, V> {
     ghost use Rattle.std.specs.Prelude.{List, ℕ};
     ghost use Rattle.std.specs.Coded.{coded×, coded_list, coded_ℕ};
-    ghost use Rattle.doc_table.specs.Entries.{pairs_of};
 
     ghost Value = { List (List ℕ × V) };
 
     ghost coded = { coded_list (coded× (coded_list coded_ℕ) V.code) };
 
-    ghost view = { λ s. pairs_of s.entries };
+    ghost view = { λ s. s.entries };
 }
 
 impl<'a, F: FormOf, V> Pairs<'a, F, V> {
@@ -31,7 +30,7 @@ impl<'a, F: FormOf, V> Pairs<'a, F, V> {
         ensures pairs { self.new ≡ self.old }
     {
         match self.entries.get(place as usize) {
-            Some(entry) => Some((&entry.id, &entry.value)),
+            Some(entry) => Some((entry.id(), entry.value())),
             None => None,
         }
     }

@@ -61,10 +61,7 @@ fn is_read_in_pieces(alloc: Global, most: usize) -> bool {
 }
 
 fn is_text(content: &Content, want: &str) -> bool {
-    match content.text() {
-        Ok(text) => are(text.as_slice(), want.as_bytes()),
-        Err(_) => false,
-    }
+    are(content.as_str().as_bytes(), want.as_bytes())
 }
 
 #[test]

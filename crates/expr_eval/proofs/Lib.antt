@@ -4,3 +4,4 @@ pub mod WordsTaken
 pub mod Products
 pub mod Apart
 pub mod Widths
+pub mod AskedParts

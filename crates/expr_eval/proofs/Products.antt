@@ -9,7 +9,7 @@ use Rattle.expr_parser.specs.FormOf.{form_of}
 use Rattle.expr_eval.specs.Lent.{behind, lent}
 use Rattle.expr_eval.specs.Values.{texts_of}
 use Rattle.std.proofs.lemmas.Bool.{eqb-true, false≢true, or_cases}
-use Rattle.std.proofs.lemmas.List.{nil_from_length, length-take, take_at, take-append-le}
+use Rattle.std.proofs.lemmas.List.{nil_from_length, length-take, take_at}
 use Rattle.std.proofs.lemmas.List.Concat.{flat_map-append}
 use Rattle.expr_eval.specs.Keys.{key_texts, keys_of, most, tuples}
 
@@ -146,3 +146,9 @@ pub no_keys : (tree : Tree) (exprs : List Expr) (lists : List Texts)
     → lists ≡ map (λ f. key_texts (texts_of f tree)) (map form_of exprs)
     → tuples lists ≡ [] → keys_of (map form_of exprs) tree ≡ []
 no_keys tree exprs lists all none = ap (take most) (sym (ap tuples all) ∙ none)
+
+-- one text of one expression is the key
+pub only_key : (tree : Tree) (exprs : List Expr) (text : List ℕ)
+    → map key_texts (map (λ e. texts_of (form_of e) tree) exprs) ≡ (text ∷ []) ∷ []
+    → keys_of (map form_of exprs) tree ≡ (text ∷ []) ∷ []
+only_key tree exprs text all = ap (λ (lists : List Texts). take most (tuples lists)) (sym (lists_same tree exprs) ∙ all)

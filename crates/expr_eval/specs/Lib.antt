@@ -5,3 +5,4 @@ pub mod Texts
 pub mod Values
 pub mod Keys
 pub mod Lent
+pub mod Asked

@@ -5,16 +5,18 @@
 //! `specs/Keys.antt`). They fail only where memory runs out.
 #![tactic(auto)]
 
+mod asked;
 mod case_fold;
 mod evaluate;
 mod field;
 mod first_places;
+mod laws;
 mod number;
 mod product;
-#[cfg(test)]
-mod tests;
 mod value;
 mod words;
 
+pub use asked::names;
 pub use evaluate::values;
+pub use laws::law_part;
 pub use product::keys;

@@ -1,5 +1,6 @@
 //! The keys of a content: the product of the texts of several expressions.
-ghost use Rattle.std.specs.Prelude.{◌≡◌, ◌≢◌, ◌==◌, ◌+◌, ◌<◌, ◌≤◌, ◌++◌, ◌∷◌, [], IfOk, OnOk};
+ghost use Rattle.std.specs.Prelude.{◌≡◌, ◌≢◌, ◌==◌, ◌+◌, ◌<◌, ◌≤◌, ◌++◌, ◌∷◌, [], IfOk, IfSome};
+ghost use Rattle.std.specs.Prelude.{OnOk};
 ghost use Rattle.std.specs.Prelude.{length, map, take, filter, nat_le, vec_len};
 ghost use Rattle.std.specs.List.{All, AllPairs, list_any};
 ghost use Rattle.content.specs.TreeOf.{tree_of};
@@ -29,6 +30,9 @@ pub fn keys(alloc: Global, exprs: &[Expr], root: &Json) -> Result<Keys, Memory>
     ensures distinct { IfOk result (λ keys. AllPairs (λ key other. key ≢ other) keys) }
 {
     let given = texts_of_each(alloc, exprs, root)?;
+    if let Some(text) = only_text(&given) {
+        return only_key(alloc, text);
+    }
     let lists = key_texts_of_each(alloc, &given)?;
     let mut keys = Keys::new(alloc);
     if has_empty(&lists) {
@@ -48,6 +52,28 @@ fn texts_of_each(alloc: Global, exprs: &[Expr], root: &Json) -> Result<Vec<Texts
         lists.push(values(alloc, expr, root)?)?;
     }
     Ok(lists)
+}
+
+// The text of one expression that gives just this one, if it may be a key. Most do, and no list of
+// tuples is made then.
+fn only_text(given: &[Texts]) -> Option<&Text>
+    ensures { IfSome result (λ text. map key_texts given.now ≡ (text.now ∷ []) ∷ []) }
+{
+    let [texts] = given else {
+        return None;
+    };
+    let [text] = texts.as_slice() else {
+        return None;
+    };
+    if is_short(text) { Some(text) } else { None }
+}
+
+fn only_key(alloc: Global, text: &Text) -> Result<Keys, Memory>
+    ensures { IfOk result (λ keys. keys ≡ (text.now ∷ []) ∷ []) }
+{
+    let mut keys = Keys::new(alloc);
+    keys.push(Key::of_one(text.duplicate()?))?;
+    Ok(keys)
 }
 
 fn key_texts_of_each<'t>(alloc: Global, given: &'t [Texts]) -> Result<Vec<Vec<&'t str>>, Memory>
@@ -75,12 +101,17 @@ fn short_texts<'t>(alloc: Global, texts: &'t [Text]) -> Result<Vec<&'t str>, Mem
 {
     let mut short = Vec::with_capacity(alloc, texts.len())?;
     for text in texts {
-        let bytes = text.as_str();
-        if bytes.len() <= MOST_KEY_TEXT_BYTES {
-            short.push(bytes)?;
+        if is_short(text) {
+            short.push(text.as_str())?;
         }
     }
     Ok(short)
+}
+
+fn is_short(text: &Text) -> bool
+    ensures { result ≡ nat_le (length text.now) longest }
+{
+    text.as_str().len() <= MOST_KEY_TEXT_BYTES
 }
 
 fn has_empty(lists: &[Vec<&str>]) -> bool

@@ -14,8 +14,6 @@ mod path;
 mod reader;
 mod same;
 mod spell;
-#[cfg(test)]
-mod tests;
 mod transform;
 
 pub use expr::{Expr, Exprs};

@@ -12,8 +12,6 @@ mod order;
 mod pair;
 mod pairs;
 mod table;
-#[cfg(test)]
-mod tests;
 mod walk;
 
 pub use follows::{law_changes, law_documents, law_growth};

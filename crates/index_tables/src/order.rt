@@ -31,7 +31,7 @@ pub(crate) fn compare_key(pair: &Pair, abbreviated: u128, key: &[Text]) -> Order
     requires { IsAbbreviated key.now abbreviated }
     ensures { result ≡ key_cmp pair.now.key key.now }
 {
-    match pair.abbreviated().cmp(&abbreviated) {
+    match pair.abbreviated.cmp(&abbreviated) {
         Ordering::Less => Ordering::Less,
         Ordering::Equal => compare_keys(pair.key.texts(), key),
         Ordering::Greater => Ordering::Greater,
@@ -54,5 +54,5 @@ pub(crate) fn compare_pair(pair: &Pair, abbreviated: u128, key: &[Text], id: &Do
 pub(crate) fn compare_pairs(pair: &Pair, other: &Pair) -> Ordering
     ensures { result ≡ entry_cmp (entry_of pair.now) (entry_of other.now) }
 {
-    compare_pair(pair, other.abbreviated(), other.key.texts(), &other.id)
+    compare_pair(pair, other.abbreviated, other.key.texts(), &other.id)
 }

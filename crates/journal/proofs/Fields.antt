@@ -13,6 +13,7 @@ use Rattle.std.proofs.lemmas.Bool.Decides.{nat_tests}
 use Rattle.std.proofs.lemmas.Str.{IsUtf8-from_ascii}
 use Rattle.u1_base.specs.Fields.{u16_bytes, u32_bytes, u64_bytes, text_field}
 use Rattle.u1_base.specs.Ids.{IsId, id_in, is_allowed}
+use Rattle.u1_base.proofs.Alphabets.{IsUtf8-from_allowed}
 use Rattle.u1_base.proofs.IdFacts.{id_facts, in_id}
 use Rattle.u1_base.specs.declared.ids.Form.{Form}
 use Rattle.u1_base.specs.declared.ids.Form.TheVariants as form_of
@@ -147,25 +148,8 @@ id_short form_of.Replica text i = omega (arith, (id_facts form_of.Replica text i
 id_short form_of.Transaction text i = omega (arith, (id_facts form_of.Transaction text i).1)
 id_short form_of.Name text i = omega (arith, (id_facts form_of.Name text i).1)
 
-allowed_ascii : (form : Form) (b : ℕ) → is_allowed form b ≡ true → b < 128
-allowed_ascii form_of.Document b e = grind (arith, nat_tests)
-allowed_ascii form_of.Replica b e = grind (arith, nat_tests)
-allowed_ascii form_of.Transaction b e = grind (arith, nat_tests)
-allowed_ascii form_of.Name b e = grind (arith, nat_tests)
-
-all_at : (p : ℕ → Bool) (xs : List ℕ) (k : ℕ) → k < length xs → list_all p xs ≡ true → p (get_or xs k 0) ≡ true
-all_at p [] k h e = absurd (omega (arith, h))
-all_at p (x ∷ xs) zero h e = (and_parts (p x) (list_all p xs) e).0
-all_at p (x ∷ xs) (suc k) h e = all_at p xs k (omega (arith, h)) (and_parts (p x) (list_all p xs) e).1
-
-all_ascii : (form : Form) (xs : List ℕ) → list_all (is_allowed form) xs ≡ true → IsAscii xs
-all_ascii form xs e k =
-    ⊎_elim (λ inside. allowed_ascii form (get_or xs k 0) (all_at (is_allowed form) xs k inside e))
-    (λ past. let zero_there : get_or xs k 0 ≡ 0 = get_or_past xs k 0 past in omega (arith, zero_there))
-    (cases_lt k (length xs))
-
 pub id_utf8 : (form : Form) (text : List ℕ) → IsId form text → IsUtf8 text
-id_utf8 form text i = IsUtf8-from_ascii text (all_ascii form text (id_facts form text i).2)
+id_utf8 form text i = IsUtf8-from_allowed form text (id_facts form text i).2
 
 pub first_front : (format : ℕ) (bytes : List ℕ) → Begins (first_field format) bytes → take 8 bytes ≡ first_field format
 first_front format bytes b = ap (λ (n : ℕ). take n bytes) (sym (length-first_field format))

@@ -16,8 +16,6 @@ mod passing;
 mod reading;
 mod restarting;
 mod spelling;
-#[cfg(test)]
-mod tests;
 mod writing;
 
 pub use appending::{AppendFault, Journal};

@@ -10,8 +10,6 @@ mod ascii;
 mod block;
 mod lines;
 mod order;
-#[cfg(test)]
-mod tests;
 
 pub use abbreviated::abbreviated_key;
 pub use ascii::{is_ascii, lower_ascii};

@@ -13,8 +13,6 @@ mod fault;
 mod once;
 mod pattern;
 mod range;
-#[cfg(test)]
-mod tests;
 mod wanted;
 
 pub use distinct::distinct_keys;

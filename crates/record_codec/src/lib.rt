@@ -12,8 +12,6 @@ mod laws;
 mod makings;
 mod reading;
 mod tables;
-#[cfg(test)]
-mod tests;
 mod writing;
 
 pub use decoding::{Decoded, RecordFault, decode, decode_first};

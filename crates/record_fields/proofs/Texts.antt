@@ -16,7 +16,8 @@ use Rattle.u1_base.specs.Ids.{IsId, id_in, is_allowed, is_id}
 use Rattle.u1_base.specs.declared.ids.Form.{Form}
 use Rattle.u1_base.specs.declared.ids.Form.TheVariants as form_of
 use Rattle.u1_base.specs.declared.limits.TheConstants.{GREATEST_COUNT}
-use Rattle.u1_base.proofs.IdFacts.{id_facts, in_none}
+use Rattle.u1_base.proofs.Alphabets.{IsUtf8-from_allowed}
+use Rattle.u1_base.proofs.IdFacts.{id_facts}
 use Rattle.expr_parser.specs.Forms.{Form as Expression}
 use Rattle.expr_parser.specs.Canonical.{canonical}
 use Rattle.expr_parser.specs.Reading.{expr_in, is_spelled, spells_back}
@@ -46,17 +47,8 @@ ascii_utf8 p small xs e =
 
 -- ---- ids
 
-allowed_ascii : (form : Form) (b : ℕ) → is_allowed form b ≡ true → b < 128
-allowed_ascii form_of.Document b e = grind (arith, nat_tests)
-allowed_ascii form_of.Replica b e = grind (arith, nat_tests)
-allowed_ascii form_of.Transaction b e = grind (arith, nat_tests)
-allowed_ascii form_of.Name b e = grind (arith, nat_tests)
-
 pub id_utf8 : (form : Form) (text : List ℕ) → IsId form text → IsUtf8 text
-id_utf8 form text i = ascii_utf8 (is_allowed form) (allowed_ascii form) text (id_facts form text i).2
-
-pub no_id : (form : Form) (text : List ℕ) → (IsUtf8 text → ⊥) → id_in form text ≡ None
-no_id form text none = in_none form text (λ i. none (id_utf8 form text i))
+id_utf8 form text i = IsUtf8-from_allowed form text (id_facts form text i).2
 
 -- ---- clocks
 

@@ -12,8 +12,6 @@ mod named;
 mod read;
 mod reader;
 mod stop;
-#[cfg(test)]
-mod tests;
 mod uids;
 mod values;
 mod writer;

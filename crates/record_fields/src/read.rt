@@ -19,10 +19,7 @@ use vector_rev::{Clock, ClockEntries, ClockFault};
 pub(crate) fn read_id<F: FormOf>(alloc: Global, bytes: &[u8]) -> Result<Option<Id<F>>, Memory>
     ensures { IfOk result (λ found. found ≡ id_in F.form bytes.now) }
 {
-    let Ok(text) = str::from_utf8(bytes) else {
-        return Ok(None);
-    };
-    match Id::read(alloc, text) {
+    match Id::of_bytes(alloc, bytes) {
         Ok(id) => Ok(Some(id)),
         Err(IdFault::Memory) => Err(Memory),
         Err(IdFault::Empty) => Ok(None),
@@ -40,7 +37,7 @@ pub(crate) fn read_content(
     ensures { IfOk result (λ found. found ≡ canonical_in bytes.now) }
 {
     match Content::read_with(alloc, scratch, bytes) {
-        Ok(content) => if_canonical(content, bytes),
+        Ok(content) => Ok(if_canonical(content, bytes)),
         Err(ContentFault::Memory) => Err(Memory),
         Err(ContentFault::TooBig(_)) => Ok(None),
         Err(ContentFault::NotJson) => Ok(None),
@@ -52,14 +49,13 @@ pub(crate) fn read_content(
 }
 
 // The content, if the bytes are its canonical text.
-fn if_canonical(content: Content, bytes: &[u8]) -> Result<Option<Content>, Memory>
-    ensures { IfOk result (λ found. found ≡ if_canonical bytes.now (Some content)) }
+fn if_canonical(content: Content, bytes: &[u8]) -> Option<Content>
+    ensures { result ≡ if_canonical bytes.now (Some content) }
 {
-    let text = content.text()?;
-    if text.as_slice() == bytes {
-        return Ok(Some(content));
+    if content.as_str().as_bytes() == bytes {
+        return Some(content);
     }
-    Ok(None)
+    None
 }
 
 /// The expression whose canonical text the bytes are.

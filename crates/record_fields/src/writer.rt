@@ -239,10 +239,8 @@ impl<'a> Writer<'a> {
     {
         match value {
             Some(content) => {
-                let _root = content.root();
-                let text = content.text()?;
                 self.byte(1)?;
-                self.text(text.as_slice())
+                self.text(content.as_str().as_bytes())
             }
             None => self.byte(0),
         }

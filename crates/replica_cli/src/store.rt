@@ -81,7 +81,7 @@ impl<D: Disk> Store for StoreOnDisks<D> {
     }
 
     fn close(opened: Volume<D>) -> StoreOnDisks<D> {
-        StoreOnDisks::new(opened.into_disks())
+        StoreOnDisks::new(opened.leave())
     }
 
     ghost told = { may_stay D.tells D.known D.seen_may_stay };

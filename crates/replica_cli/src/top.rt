@@ -16,6 +16,9 @@ use u1_base::Text;
 ///
 /// `words` are all words after the program's name; the first is the store's directory, which is not
 /// looked into. Ids are made of the seed. The disks are handed back beside the outcome.
+///
+/// It is for a program that ends then: the memory of the store's state is left to the process
+/// (`replica_volume::Volume::leave`).
 pub fn run<D: Disk, S: Source, K: Sink>(
     alloc: Global,
     words: &[Text],

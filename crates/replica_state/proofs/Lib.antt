@@ -10,3 +10,4 @@ pub mod Lending
 mod Worked
 pub mod Fitting
 pub mod Replaying
+mod WaitingAccepts

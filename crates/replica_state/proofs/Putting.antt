@@ -1,5 +1,5 @@
 -- The documents after an acceptance.
-use Rattle.std.proofs.Common.{◌≡◌, Bool, true, false, cond, refl, sym, ◌∙◌, ap, Option, Some}
+use Rattle.std.proofs.Common.{◌≡◌, Bool, true, false, cond, refl, sym, subst, ◌∙◌, ap, Option, Some, None}
 use Rattle.std.specs.Cmp.Lexicographic.{nat_list_cmp_total}
 use Rattle.std.specs.FinMap.Entries.{find, put, find-put}
 use Rattle.u1_base.specs.Ids.{id_cmp, same_id}
@@ -8,8 +8,9 @@ use Rattle.conflicts.specs.Document.{document_after}
 use Rattle.conflicts.specs.Kept.{Kept, document}
 use Rattle.conflicts.specs.State.{Text}
 use Rattle.conflicts.specs.declared.accept.Accept.{Accept}
-use Rattle.replica_state.specs.Accepted.{IsDocumentAfter, IsSetPut}
+use Rattle.replica_state.specs.Accepted.{HaveAccepted, IsDocumentAfter, IsSetPut}
 use Rattle.replica_state.specs.Keyed.{Docs}
+use Rattle.replica_state.specs.Sets.{IsSetAfter}
 use Rattle.replica_state.specs.declared.prepared.Replacement.{Replacement}
 use Rattle.replica_state.specs.declared.prepared.Replacement.TheVariants.{Nothing, Document as NewSet, NewIndex}
 use Rattle.replica_state.specs.declared.prepared.Replacement.TheVariants.{NoIndex}
@@ -42,6 +43,23 @@ changed docs doc id d a set same is =
       | true ↦ λ e. is ∙ ap (λ (i : Text). document_after (document (find id_cmp i docs)) a) (sym (same_id_is d doc e))
       | false ↦ λ e. refl
     ] refl
+
+-- the same where the set is put at once
+pub accepted_set : (olds docs news : Docs) (doc : Text) (a : Accept) (set : Kept) (o : Option Kept) → docs ≡ olds
+    → o ≡ find id_cmp doc docs → IsSetAfter (document o) a (Some set) → news ≡ put id_cmp doc set docs
+    → HaveAccepted olds doc a news
+accepted_set olds docs news doc a set o same there is put d =
+    ap (λ (l : Docs). document (find id_cmp d l)) put
+    ∙ changed docs doc doc d a set refl (is ∙ ap (λ (p : Option Kept). document_after (document p) a) there)
+    ∙ ap (λ (l : Docs). cond (same_id d doc) (document_after (document (find id_cmp d l)) a)
+    (document (find id_cmp d l))) same
+
+pub accepted_none : (olds docs : Docs) (doc : Text) (a : Accept) (o : Option Kept) → docs ≡ olds
+    → o ≡ find id_cmp doc docs → IsSetAfter (document o) a None → HaveAccepted olds doc a docs
+accepted_none olds docs doc a o same there is d =
+    unchanged docs doc d a (subst (λ (p : Option Kept). document_after (document p) a ≡ document p) there is)
+    ∙ ap (λ (l : Docs). cond (same_id d doc) (document_after (document (find id_cmp d l)) a)
+    (document (find id_cmp d l))) same
 
 -- the same as a replacement
 put_after : (docs olds : Docs) (doc : Text) (a : Accept) (set : Kept) (o : Option Kept) (r : Replacement) → docs ≡ olds

@@ -4,6 +4,7 @@ use Rattle.std.proofs.Common.{append-nil, Option, Some, None, OnOk, Result, Ok, 
 use Rattle.std.proofs.lemmas.List.{map-append}
 use Rattle.std.specs.FinMap.Entries.{find, put}
 use Rattle.u1_base.specs.Ids.{id_cmp, same_id}
+use Rattle.u1_base.proofs.SameIds.{same_id-itself}
 use Rattle.conflicts.specs.Lists.{last_or}
 use Rattle.conflicts.specs.Document.{document_after_all}
 use Rattle.conflicts.specs.State.{IndexCreated, IndexDeleted, State, Step, Text, accepts_in, after, entries_in}
@@ -11,7 +12,7 @@ use Rattle.conflicts.specs.State.{indexes_in, positions_in, state_of}
 use Rattle.vector_rev.specs.Counts.{Uid}
 use Rattle.doc_table.specs.Listed.{without}
 use Rattle.replica_state.specs.Exprs.{IndexTexts}
-use Rattle.replica_state.specs.Held.{Held, Names, meaning}
+use Rattle.replica_state.specs.Held.{Heading, Held, Names, meaning, named}
 use Rattle.replica_state.specs.Indexes.{HasNoIndex, with_indexes}
 use Rattle.replica_state.specs.Named.{name_of, names_of, put_index}
 use Rattle.replica_state.specs.declared.index.Index.{Index}
@@ -75,6 +76,17 @@ pub listed_more : {E : Type 0} (r : Result (Unit {0}) E) (s : State) (n : Text) 
 listed_more (Ok u) s n exprs old new y is same =
     ap (with_indexes s) is ∙ created s n exprs old ∙ ap (λ (z : Step). after (with_indexes s old) z) (sym same)
 listed_more (Err why) s n exprs old new y is same = tt
+
+-- a list of headings in which no name is found is empty
+no_heading : (xs : List Heading) → ((n : Text) → find id_cmp n (named xs) ≡ None) → xs ≡ []
+no_heading [] none = refl
+no_heading (x ∷ xs) none = absurd (cc (
+  ap (λ b. cond b (Some x.exprs) (find id_cmp x.name (named xs))) (same_id-itself x.name),
+  none x.name,
+))
+
+pub no_headings : (s : Held) → HasNoIndex s → s.collection.indexes ≡ []
+no_headings s none = no_heading s.collection.indexes none
 
 -- there is no index still
 pub none_kept : (s t : Held) (x : Step) → HasNoIndex s

@@ -15,10 +15,6 @@ pub nothing_new : (k : Option Kept) (a : Accept) → list_any (λ m. dominates m
 nothing_new k a newer = law.dominated (document k) a (kept-IsDocument k) newer
 
 -- where none is, the mark makes it fit and changes nothing else
-pub mark_fits : (k : Option Kept) (a : Accept) → list_any (λ m. dominates m.rev a.rev) (document k).members ≡ false
-    → FitsDocument (document k) (marked a)
-mark_fits k a none = law.marked_fits (document k) a none
-
 pub mark_same : (k : Option Kept) (a : Accept) → list_any (λ m. dominates m.rev a.rev) (document k).members ≡ false
     → ¬ (FitsDocument (document k) a) → document_after (document k) (marked a) ≡ document_after (document k) a
 mark_same k a none unfit = sym (law.unmarked (document k) a (kept-IsDocument k) none unfit)

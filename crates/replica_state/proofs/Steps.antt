@@ -21,7 +21,7 @@ use Rattle.doc_table.specs.Listed.{without}
 use Rattle.replica_state.specs.Accepted.{IsDocumentAfter, IsIndexAfter}
 use Rattle.replica_state.specs.Held.{Lists, Names, chosen, meaning_of}
 use Rattle.replica_state.specs.Prepared.{docs_with, entries_with, lists_with, names_with, places_with}
-use Rattle.replica_state.specs.declared.prepared.Prepared.{Prepared}
+use Rattle.replica_state.specs.declared.prepared.Parts.{Parts}
 use Rattle.replica_state.specs.declared.prepared.Replacement.{Replacement}
 use Rattle.replica_state.specs.declared.prepared.Replacement.TheVariants.{Nothing, Document as NewSet, NewIndex}
 use Rattle.replica_state.specs.declared.prepared.Replacement.TheVariants.{NoIndex}
@@ -29,7 +29,7 @@ use Rattle.replica_state.specs.declared.prepared.Replacement.TheVariants.{NoInde
 -- ---- answer by answer
 
 -- two states are one where their answers are
-pub by_answers : (l : Lists) (p : Prepared) (x : history.Step) →
+pub by_answers : (l : Lists) (p : Parts) (x : history.Step) →
     ((d : Text) → document (find id_cmp d (docs_with p.replacement l.docs))
     ≡ document_after_all (document (find id_cmp d l.docs)) (accepts_in d x)) →
     entries_with p.entry l.log ≡ l.log ++ entries_in x →

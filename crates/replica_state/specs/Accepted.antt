@@ -12,10 +12,14 @@ use Rattle.replica_state.specs.Prepared.{docs_with, names_with}
 use Rattle.replica_state.specs.declared.prepared.Replacement.{Replacement}
 use Rattle.replica_state.specs.declared.prepared.Replacement.TheVariants.{Nothing, Document, NewIndex, NoIndex}
 
--- the document is the one after the acceptance, all others and the indexes stay
+-- the document is the one after the acceptance, all others stay
+abbrev pub HaveAccepted : Docs → Text → Accept → Docs → Type 0
+HaveAccepted old doc a new = (d : Text) → document (find id_cmp d new)
+    ≡ cond (same_id d doc) (document_after (document (find id_cmp d old)) a) (document (find id_cmp d old))
+
+-- the same of what is replaced, and the indexes stay
 pub record IsDocumentAfter (docs : Docs) (doc : Text) (a : Accept) (r : Replacement) : Type 0 where
-  pub documents : (d : Text) → document (find id_cmp d (docs_with r docs))
-      ≡ cond (same_id d doc) (document_after (document (find id_cmp d docs)) a) (document (find id_cmp d docs))
+  pub documents : HaveAccepted docs doc a (docs_with r docs)
   pub indexes : (names : Names) → names_with r names ≡ names
 
 -- it is the set, at this id

@@ -9,3 +9,4 @@ pub mod Named
 pub mod Accepted
 pub mod Indexes
 pub mod Replayed
+pub mod Waiting

@@ -17,6 +17,7 @@ use Rattle.replica_state.specs.Held.{Heading, Held, Lists, Names, chosen, lists_
 use Rattle.replica_state.specs.Keyed.{Docs, IsTable, keys_of_kept, keys_there}
 use Rattle.replica_state.specs.Steps.{step_of}
 use Rattle.replica_state.specs.declared.prepared.KeyChange.{KeyChange}
+use Rattle.replica_state.specs.declared.prepared.Parts.{Parts}
 use Rattle.replica_state.specs.declared.prepared.Prepared.{Prepared}
 use Rattle.replica_state.specs.declared.prepared.Replacement.{Replacement}
 use Rattle.replica_state.specs.declared.prepared.Replacement.TheVariants.{Nothing, Document, NewIndex, NoIndex}
@@ -47,7 +48,7 @@ places_with table (Some moved) places = cond (same_table table moved.table)
     (put id_cmp moved.uid moved.at places) places
 
 -- THE LISTS WITH THE PARTS that are prepared
-abbrev pub lists_with : Prepared → Lists → Lists
+abbrev pub lists_with : Parts → Lists → Lists
 lists_with p l = record {
   name = l.name;
   uid = l.uid;
@@ -60,7 +61,7 @@ lists_with p l = record {
 
 -- these are the parts of the state after the step
 abbrev pub IsPartsOf : Held → Step → Prepared → Type 0
-IsPartsOf s x p = meaning_of (lists_with p (lists_of s)) ≡ after (meaning s) (step_of x)
+IsPartsOf s x p = meaning_of (lists_with p.parts.value (lists_of s)) ≡ after (meaning s) (step_of x)
 
 -- ---- which state can take it
 
@@ -84,8 +85,12 @@ Takes docs indexes vacant (Document id set changes) = TakesDocument docs indexes
 Takes docs indexes vacant (NewIndex index) = (1 ≤ vacant) × IsTable docs.pairs index
 Takes docs indexes vacant (NoIndex name) = Unit {0}
 
--- THE STATE IS READY for the parts: it has room for them, and they are of its documents
-pub record IsReady (s : Held) (p : Prepared) : Type 0 where
+-- the state has room for the parts, and they are of its documents
+pub record TakesParts (s : Held) (p : Parts) : Type 0 where
   pub collection : Takes s.collection.docs s.collection.indexes s.collection.vacant p.replacement
   pub log : IfSome p.entry (λ _. 1 ≤ s.log.room)
   pub moved : IfSome p.moved (λ m. 1 ≤ (chosen m.table s.known s.told).room)
+
+-- THE STATE IS READY for what is prepared
+abbrev pub IsReady : Held → Prepared → Type 0
+IsReady s p = TakesParts s p.parts.value

@@ -5,7 +5,7 @@ ghost use Rattle.index_tables.specs.Entries.{HoldsBoth};
 ghost use Rattle.replica_state.specs.Keyed.{keyed};
 
 use crate::exprs::IndexExprs;
-use crate::keys::keys_of_set;
+use crate::keys::{keys_of_set, names_of};
 use conflicts::DocSet;
 use doc_table::Table;
 use index_tables::{IndexTable, Pairs};
@@ -33,13 +33,14 @@ fn pairs_of_all(
 ) -> Result<Pairs, Memory>
     ensures { IfOk result (λ pairs. IsTableOf (keyed exprs.now.texts docs.now.pairs) pairs) }
 {
+    let names = names_of(alloc, exprs)?;
     let mut pairs = Pairs::new(alloc);
     let mut walk = docs.walk();
     for place in 0..docs.length() {
         let Some((id, set)) = walk.pair(place) else {
             break;
         };
-        let keys = keys_of_set(alloc, exprs, set)?;
+        let keys = keys_of_set(alloc, exprs, names.as_slice(), set)?;
         pairs = pairs.with(id, keys)?;
     }
     Ok(pairs)

@@ -8,7 +8,7 @@ ghost use Rattle.replica_state.specs.Named.{HasRoom, bare, name_of};
 ghost use Rattle.replica_state.specs.Prepared.{key_change};
 
 use crate::index::Index;
-use crate::keys::{keys_before, keys_of_set};
+use crate::keys::{keys_before, keys_of_set, names_of};
 use crate::prepared::KeyChange;
 use conflicts::DocSet;
 use doc_table::Table;
@@ -30,8 +30,9 @@ fn prepare_index(
         (option_copied old.entry) new.now index.new.exprs.texts) }
     ensures room { OnOk result (HasRoom new.now index.new) }
 {
-    let gone = keys_before(alloc, &index.exprs, old)?;
-    let keys = keys_of_set(alloc, &index.exprs, new)?;
+    let names = names_of(alloc, &index.exprs)?;
+    let gone = keys_before(alloc, &index.exprs, names.as_slice(), old)?;
+    let keys = keys_of_set(alloc, &index.exprs, names.as_slice(), new)?;
     let pairs = IndexTable::pairs(id, keys)?;
     index.table.reserve(pairs.len() as u64)?;
     Ok(KeyChange { gone, pairs })

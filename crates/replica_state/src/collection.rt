@@ -2,6 +2,7 @@
 ghost use Rattle.replica_state.specs.Keyed.{AreTables};
 ghost use Rattle.replica_state.specs.Named.{AreNamed};
 
+use crate::accepting::accept_into;
 use crate::exprs::IndexExprs;
 use crate::index::Index;
 use crate::prepared::Replacement;
@@ -61,6 +62,10 @@ impl Collection {
         &self.docs
     }
 
+    pub(crate) fn allocator(&self) -> Global {
+        *self.indexes.allocator()
+    }
+
     pub(crate) fn indexes(&self) -> &[Index]
         ensures value { map heading result.now ≡ self.now.indexes }
         ensures tied { AreTables self.now.docs.pairs result.now }
@@ -70,10 +75,18 @@ impl Collection {
 }
 
 impl Collection {
-    ghost use Rattle.std.specs.Prelude.{◌≡◌, IfOk};
-    ghost use Rattle.replica_state.specs.Accepted.{IsDocumentAfter, IsIndexAfter};
+    ghost use Rattle.std.specs.Prelude.{◌≡◌, [], IfOk, OnOk};
+    ghost use Rattle.replica_state.specs.Accepted.{HaveAccepted, IsDocumentAfter, IsIndexAfter};
     ghost use Rattle.replica_state.specs.Held.{named};
     ghost use Rattle.replica_state.specs.Prepared.{Takes, docs_with, names_with};
+
+    /// Makes room for a document.
+    pub(crate) fn make_room(&mut self) -> Result<(), Memory>
+        ensures docs { self.new.docs.pairs ≡ self.old.docs.pairs }
+        ensures indexes { named self.new.indexes ≡ named self.old.indexes }
+    {
+        self.docs.reserve()
+    }
 
     /// What an acceptance replaces, and the room for it.
     pub(crate) fn accept(&mut self, doc: &DocId, accept: Accept) -> Result<Replacement, Memory>
@@ -82,8 +95,19 @@ impl Collection {
         ensures after { IfOk result (IsDocumentAfter self.new.docs.pairs doc.now accept) }
         ensures ready { IfOk result (Takes self.new.docs self.new.indexes self.new.vacant) }
     {
-        let alloc = *self.indexes.allocator();
+        let alloc = self.allocator();
         new_document(alloc, &mut self.docs, &mut self.indexes, doc, accept)
+    }
+
+    /// Applies the acceptance to its document, where there is no index.
+    pub(crate) fn accept_alone(&mut self, doc: DocId, accept: Accept) -> Result<(), Memory>
+        requires { self.old.indexes ≡ [] }
+        ensures docs { OnOk result
+            (HaveAccepted self.old.docs.pairs doc accept self.new.docs.pairs) }
+        ensures indexes { self.new.indexes ≡ [] }
+    {
+        let alloc = self.allocator();
+        accept_into(alloc, &mut self.docs, doc, accept)
     }
 
     /// A new index, and the room for it.
@@ -97,7 +121,7 @@ impl Collection {
         ensures after { IfOk result (IsIndexAfter name exprs.texts) }
         ensures ready { IfOk result (Takes self.new.docs self.new.indexes self.new.vacant) }
     {
-        let alloc = *self.indexes.allocator();
+        let alloc = self.allocator();
         new_index(alloc, &self.docs, &mut self.indexes, name, exprs)
     }
 

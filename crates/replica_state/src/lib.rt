@@ -22,10 +22,10 @@ mod prepare;
 mod prepared;
 mod replace;
 mod replay;
+mod settling;
 mod state;
 mod step;
-#[cfg(test)]
-mod tests;
+mod waiting;
 
 pub use conflicts::{Move, PosTable};
 pub use exprs::IndexExprs;

@@ -6,7 +6,7 @@ ghost use Rattle.replica_state.specs.declared.step.Step.TheVariants as steps;
 
 use crate::exprs::IndexExprs;
 use crate::places::reserve_place;
-use crate::prepared::{Prepared, Replacement};
+use crate::prepared::{Parts, Prepared, Replacement};
 use crate::state::State;
 use crate::step::Step;
 use conflicts::{Accept, Move};
@@ -36,6 +36,16 @@ impl State {
         }
     }
 
+    /// Makes room for a step of a document. So the first one takes no longer than those after it,
+    /// each of which finds what the one before left. What the state stands for does not change, at
+    /// an error either.
+    pub(crate) fn make_room(&mut self) -> Result<(), Memory>
+        ensures { lists_of self.new ≡ lists_of self.old }
+    {
+        self.log.reserve()?;
+        self.collection.make_room()
+    }
+
     fn prepare_accept(
         &mut self,
         doc: DocId,
@@ -50,11 +60,12 @@ impl State {
         self.log.reserve()?;
         reserve_place(&mut self.known, &mut self.told, &moved)?;
         let replacement = self.collection.accept(&doc, accept)?;
-        Ok(Prepared {
+        let parts = Parts {
             replacement,
             entry: Some(Entry { doc, trans }),
             moved,
-        })
+        };
+        Prepared::of(self.collection.allocator(), parts)
     }
 
     fn prepare_gone(
@@ -69,11 +80,12 @@ impl State {
     {
         self.log.reserve()?;
         reserve_place(&mut self.known, &mut self.told, &moved)?;
-        Ok(Prepared {
+        let parts = Parts {
             replacement: Replacement::Nothing,
             entry: Some(Entry { doc, trans }),
             moved,
-        })
+        };
+        Prepared::of(self.collection.allocator(), parts)
     }
 
     fn prepare_move(&mut self, moved: Move) -> Result<Prepared, Memory>
@@ -83,11 +95,12 @@ impl State {
     {
         let moved = Some(moved);
         reserve_place(&mut self.known, &mut self.told, &moved)?;
-        Ok(Prepared {
+        let parts = Parts {
             replacement: Replacement::Nothing,
             entry: None,
             moved,
-        })
+        };
+        Prepared::of(self.collection.allocator(), parts)
     }
 
     fn prepare_index(&mut self, name: IndexName, exprs: IndexExprs) -> Result<Prepared, Memory>
@@ -96,11 +109,12 @@ impl State {
         ensures ready { IfOk result (IsReady self.new) }
     {
         let replacement = self.collection.create_index(name, exprs)?;
-        Ok(Prepared {
+        let parts = Parts {
             replacement,
             entry: None,
             moved: None,
-        })
+        };
+        Prepared::of(self.collection.allocator(), parts)
     }
 
     fn prepare_no_index(&mut self, name: IndexName) -> Result<Prepared, Memory>
@@ -108,10 +122,11 @@ impl State {
         ensures parts { IfOk result (IsPartsOf self.new (steps.IndexDelete name)) }
         ensures ready { IfOk result (IsReady self.new) }
     {
-        Ok(Prepared {
+        let parts = Parts {
             replacement: Replacement::NoIndex { name },
             entry: None,
             moved: None,
-        })
+        };
+        Prepared::of(self.collection.allocator(), parts)
     }
 }

@@ -2,13 +2,32 @@
 use crate::index::Index;
 use conflicts::{DocSet, Move};
 use index_tables::Pairs;
+use std::alloc::Global;
 use translog::Entry;
-use u1_base::{DocId, IndexName, Keys};
+use u1_base::{DocId, IndexName, Keys, Memory};
 
 /// What is made ahead for a step of a state: the parts of the state after it. `State::apply` puts
-/// them in.
+/// them in. They lie apart, so that little moves from call to call.
 #[derive(Drop)]
 pub struct Prepared {
+    pub(crate) parts: Box<Parts>,
+}
+
+impl Prepared {
+    ghost use Rattle.std.specs.Prelude.{◌≡◌, IfOk};
+
+    pub(crate) fn of(alloc: Global, parts: Parts) -> Result<Prepared, Memory>
+        ensures { IfOk result (λ prepared. prepared.parts.value ≡ parts) }
+    {
+        Ok(Prepared {
+            parts: Box::new(alloc, parts)?,
+        })
+    }
+}
+
+/// The parts of the state after a step.
+#[derive(Drop)]
+pub(crate) struct Parts {
     pub(crate) replacement: Replacement,
     pub(crate) entry: Option<Entry>,
     pub(crate) moved: Option<Move>,

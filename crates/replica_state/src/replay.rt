@@ -1,8 +1,9 @@
-//! Steps that are made one after the other, with the indexes built at the end.
+//! Steps that are made one after the other, where documents are looked up in the order of their
+//! ids, many at a time, and indexes are built at the end.
 ghost use Rattle.std.specs.Prelude.{◌≡◌, [], IfOk, OnOk};
 ghost use Rattle.std.specs.FinMap.Entries.{put};
 ghost use Rattle.u1_base.specs.Ids.{id_cmp};
-ghost use Rattle.conflicts.specs.State.{Text, after, indexes_in, state_of};
+ghost use Rattle.conflicts.specs.State.{Accepted, Text, after, indexes_in, state_of};
 ghost use Rattle.replica_state.specs.Held.{meaning};
 ghost use Rattle.replica_state.specs.Indexes.{HasNoIndex, with_indexes};
 ghost use Rattle.replica_state.specs.Named.{names_of};
@@ -11,18 +12,29 @@ ghost use Rattle.replica_state.specs.Steps.{step_of};
 use crate::exprs::IndexExprs;
 use crate::index::Index;
 use crate::naming::{add_index, drop_index};
+use crate::settling::{settle, settle_many};
 use crate::state::State;
 use crate::step::Step;
+use crate::waiting::Waiting;
+use conflicts::{Accept, Move};
 use index_tables::IndexTable;
 use std::alloc::Global;
-use u1_base::{DbName, IndexName, Memory, ReplicaUid};
+use u1_base::{DbName, DocId, IndexName, Memory, ReplicaUid, TransId};
+use vector_rev::Clock;
 
-/// What replayed steps leave, before the indexes are built: a state that has none, and a list of
-/// them. So a step costs nothing for any index, and each index is built once, over the documents
-/// that stand at the end.
+/// What replayed steps leave: a state without indexes, the acceptances that wait for their
+/// documents, and a list of the indexes.
+///
+/// Many acceptances are applied together, in the order of the documents' ids. So each finds its
+/// document near the last one, where the memory is at hand; one at a time, each would have to be
+/// searched for. A step costs nothing for any index, and each index is built once, over the
+/// documents that stand at the end.
 #[derive(Drop)]
 pub struct Replay {
     pub(crate) state: State,
+    pub(crate) waiting: Vec<Waiting>,
+    // How many of those are of first revisions.
+    pub(crate) firsts: u64,
     // With empty tables, in the order of their names.
     pub(crate) listed: Vec<Index>,
     ghost none: { HasNoIndex state },
@@ -36,8 +48,14 @@ impl Replay {
         ensures { replayed result ≡ state_of name uid [] }
     {
         let state = State::new(alloc, name, uid);
+        let waiting = Vec::new(alloc);
         let listed = Vec::new(alloc);
-        Replay { state, listed }
+        Replay {
+            state,
+            waiting,
+            firsts: 0,
+            listed,
+        }
     }
 
     /// Makes one more step. Every step may be made, also one that does not fit.
@@ -50,18 +68,8 @@ impl Replay {
                 accept,
                 trans,
                 moved,
-            } => make_in(
-                &mut self.state,
-                Step::Accept {
-                    doc,
-                    accept,
-                    trans,
-                    moved,
-                },
-            ),
-            Step::Gone { doc, trans, moved } => {
-                make_in(&mut self.state, Step::Gone { doc, trans, moved })
-            }
+            } => self.accept(doc, accept, trans, moved),
+            Step::Gone { doc, trans, moved } => self.state.note(doc, trans, moved),
             Step::Position(moved) => make_in(&mut self.state, Step::Position(moved)),
             Step::IndexCreate { name, exprs } => list_index(&mut self.listed, name, exprs),
             Step::IndexDelete { name } => {
@@ -71,12 +79,49 @@ impl Replay {
         }
     }
 
+    // The log and the position have the acceptance now, the document has it later.
+    fn accept(
+        &mut self,
+        doc: DocId,
+        accept: Accept,
+        trans: TransId,
+        moved: Option<Move>,
+    ) -> Result<(), Memory>
+        ensures { OnOk result (replayed self.new
+            ≡ after (replayed self.old) (Accepted doc accept trans moved)) }
+    {
+        if is_first(&accept.rev) {
+            self.firsts = self.firsts.saturating_add(1);
+        }
+        let waits = Waiting::new(*self.waiting.allocator(), doc.copy()?, accept)?;
+        self.state.note(doc, trans, moved)?;
+        self.waiting.push(waits)?;
+        settle_many(&mut self.state, &mut self.waiting, &mut self.firsts)?;
+        Ok(())
+    }
+
     /// The state of all steps, with its indexes.
     pub fn finish(self) -> Result<State, Memory>
         ensures { IfOk result (λ s. meaning s ≡ replayed self) }
     {
-        let Replay { state, listed } = self;
-        build_all(state, listed)
+        let Replay {
+            mut state,
+            mut waiting,
+            firsts: _,
+            listed,
+        } = self;
+        settle(&mut state, &mut waiting)?;
+        let mut state = build_all(state, listed)?;
+        state.make_room()?;
+        Ok(state)
+    }
+}
+
+// Whether it is the first revision of a document, which one replica made.
+fn is_first(rev: &Clock) -> bool {
+    match rev.entries() {
+        [only] => only.counter() == 1,
+        _ => false,
     }
 }
 

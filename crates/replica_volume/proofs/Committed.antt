@@ -11,7 +11,7 @@ use Rattle.disks.specs.Disks.{disks_known, turned}
 use Rattle.journal.specs.Journal.{Extent, IsFull, need}
 use Rattle.journal.specs.declared.appending.AppendFault.{AppendFault}
 use Rattle.journal.specs.declared.appending.AppendFault.TheVariants as append
-use Rattle.replica_state.specs.Held.{Lists, meaning, meaning_of}
+use Rattle.replica_state.specs.Held.{Held, Lists, lists_of, meaning, meaning_of}
 use Rattle.volume.specs.Store.{IsOpen, IsStore}
 use Rattle.volume.specs.Crashes.{LeavesOldOrOneMore, StandsOneMore}
 use Rattle.record_codec.specs.Bodies.{body_of, step_in}
@@ -41,6 +41,18 @@ quiet known old new same = record {
   opened = same.opened;
   uids = same.uids;
   state = ap meaning_of same.lists;
+}
+
+-- nor has it where the state got the room for its part of the step
+pub in_room : {D : Type 0} (old mid : Volume D) (state : Held) → IsAsBefore old mid
+    → lists_of state ≡ lists_of mid.state → IsAsBefore old (record mid { state = state })
+in_room old mid state same lists = record {
+  disks = same.disks;
+  side = same.side;
+  journal = same.journal;
+  opened = same.opened;
+  uids = same.uids;
+  lists = lists ∙ same.lists;
 }
 
 module _ {D : Type 0} (tells : Bool) (known : D → Device) (old new : Volume D) (same : IsQuiet known old new)

@@ -1,23 +1,15 @@
 //! A volume takes a step: its body is added to the image, and then the step is made.
 ghost use Rattle.std.specs.Prelude.{IfOk};
-ghost use Rattle.replica_volume.specs.Committing.{IsAsBefore, IsReadyFor};
+ghost use Rattle.replica_volume.specs.Committing.{IsAsBefore, IsSpelled};
 
 use crate::Volume;
 use disk_model::Disk;
 use journal::AppendFault;
-use record_codec::{Encoded, ReplicaUids, encode};
+use record_codec::{Encoded, encode};
 use replica_core::{CommitFault, Replica};
-use replica_state::{Prepared, State, Step};
-use u1_base::{Bytes, Memory};
+use replica_state::{State, Step};
+use u1_base::Memory;
 use volume::append_on;
-
-// What a commit needs before it calls a disk.
-#[derive(Drop)]
-struct Ready {
-    body: Bytes,
-    added: ReplicaUids,
-    prepared: Prepared,
-}
 
 impl<D: Disk> Replica for Volume<D> {
     ghost use Rattle.replica_volume.specs.Settled.{leaves_its_state};
@@ -40,21 +32,17 @@ impl<D: Disk> Replica for Volume<D> {
     /// All memory is taken before a disk is called. The disks are given four calls: write, sync,
     /// write, sync.
     fn commit(&mut self, step: Step) -> Result<(), CommitFault> {
-        let ready = self.make_ready(step)?;
-        let Ready {
-            body,
-            added,
-            prepared,
-        } = ready;
+        let encoded = self.spell(&step)?;
+        let prepared = self.state.prepare(step)?;
         match append_on(
             self.alloc,
             &mut self.disks,
             &mut self.journal,
             self.side,
-            body.as_slice(),
+            encoded.bytes.as_slice(),
         ) {
             Ok(()) => {
-                self.uids.add(added);
+                self.uids.add(encoded.added);
                 self.state.apply(prepared);
                 Ok(())
             }
@@ -73,19 +61,13 @@ impl<D: Disk> Replica for Volume<D> {
 }
 
 impl<D: Disk> Volume<D> {
-    // Spells the body of the step, and makes room for what it changes. No disk is called.
-    fn make_ready(&mut self, step: Step) -> Result<Ready, Memory>
+    // The body of the step, with room for the uids that it adds. No disk is called.
+    fn spell(&mut self, step: &Step) -> Result<Encoded, Memory>
         ensures same { IsAsBefore self.old self.new }
-        ensures ok { IfOk result (IsReadyFor self.new step) }
+        ensures ok { IfOk result (IsSpelled self.new step.now) }
     {
-        let encoded = encode(self.alloc, &step, &self.uids)?;
-        let Encoded { bytes: body, added } = encoded;
-        self.uids.reserve(added.len() as u64)?;
-        let prepared = self.state.prepare(step)?;
-        Ok(Ready {
-            body,
-            added,
-            prepared,
-        })
+        let encoded = encode(self.alloc, step, &self.uids)?;
+        self.uids.reserve(encoded.added.len() as u64)?;
+        Ok(encoded)
     }
 }

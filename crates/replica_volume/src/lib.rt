@@ -8,29 +8,15 @@
 #![tactic(auto)]
 
 mod committing;
-#[cfg(test)]
-mod committing_tests;
 mod compact_fault;
 mod compacting;
-#[cfg(test)]
-mod compacting_tests;
 mod fault;
 mod making;
-#[cfg(test)]
-mod making_tests;
 mod moving;
-#[cfg(test)]
-mod moving_tests;
 mod opening;
-#[cfg(test)]
-mod opening_tests;
 mod placing;
-#[cfg(test)]
-mod plain_tests;
 mod replaying;
 mod replica;
-#[cfg(test)]
-mod tests;
 
 pub use compact_fault::{CompactFault, Sizes};
 pub use fault::VolumeFault;

@@ -5,6 +5,7 @@ use journal::Journal;
 use record_codec::Uids;
 use replica_state::State;
 use std::alloc::Global;
+use std::mem::forget;
 
 /// A replica whose steps are the bodies of an image, on one of two of its three disks. The third
 /// disk, the root, names it.
@@ -28,6 +29,17 @@ impl<D: Disk> Volume<D> {
         ensures { result ≡ self.disks }
     {
         let Volume { disks, .. } = self;
+        disks
+    }
+
+    /// Gives the disks back, and leaves the memory of the state to the process: for a program that
+    /// ends now. To give back each piece of a large state takes a good part of the time that it
+    /// takes to open the store.
+    pub fn leave(self) -> Disks<D>
+        ensures { result ≡ self.disks }
+    {
+        let Volume { disks, state, .. } = self;
+        forget(state);
         disks
     }
 }

@@ -1,5 +1,8 @@
-//! Commits on disks in memory, beside the same writes and syncs of one such disk alone.
-use crate::documents::first_revisions;
+//! Commits on disks in memory, beside the same writes and syncs of one such disk alone. What is
+//! committed or written is made right before, as a command makes it: a batch at a time.
+ghost use Rattle.std.specs.Prelude.{OnOk};
+
+use crate::documents::revisions;
 use crate::plain_image::{behind_header, first_body};
 use crate::report::{Fault, Report, done, elapsed, started};
 use crate::stores::{commit_all, disk_of, image_of, store};
@@ -10,11 +13,13 @@ use std::alloc::Global;
 use std::time::Duration;
 use u1_base::Bytes;
 
+// So many steps or pieces are made before they are committed or written.
+const BATCH: u32 = 100;
+
 /// Times so many commits. The result is the length of the image in bytes.
 pub fn measure(rt: &HostRuntime, size: u32) -> Result<Report, Fault> {
-    let steps = first_revisions(rt.alloc(), size)?;
     let mut volume = store(rt.alloc())?;
-    let ours = committed(rt, &mut volume, steps);
+    let ours = committed(rt, &mut volume, size);
     let image = image_of(rt.alloc(), &volume.into_disks())?;
     let peer = written(rt, image.as_slice())?;
     Ok(Report {
@@ -26,12 +31,22 @@ pub fn measure(rt: &HostRuntime, size: u32) -> Result<Report, Fault> {
     })
 }
 
-fn committed<R: Replica>(
-    rt: &HostRuntime,
-    replica: &mut R,
-    steps: Vec<Step>,
-) -> Result<Duration, Fault>
+fn committed<R: Replica>(rt: &HostRuntime, replica: &mut R, size: u32) -> Result<Duration, Fault>
     requires { R.is_open replica.old }
+{
+    let mut time = Duration::ZERO;
+    for batch in 0..size.div_ceil(BATCH) {
+        let first = batch.saturating_mul(BATCH);
+        let end = size.min(first.saturating_add(BATCH));
+        let steps = revisions(rt.alloc(), first, end)?;
+        time = time.saturating_add(timed(rt, replica, steps)?);
+    }
+    Ok(time)
+}
+
+fn timed<R: Replica>(rt: &HostRuntime, replica: &mut R, steps: Vec<Step>) -> Result<Duration, Fault>
+    requires { R.is_open replica.old }
+    ensures { OnOk result (R.is_open replica.new) }
 {
     let before = started(rt)?;
     commit_all(replica, steps)?;
@@ -46,7 +61,7 @@ fn written(rt: &HostRuntime, image: &[u8]) -> Result<Duration, Fault> {
         return Err(Fault::Run);
     };
     let mut disk = new_disk(rt.alloc(), image, entries.len())?;
-    let peer = timed(rt, &mut disk, entries)?;
+    let peer = write_entries(rt, &mut disk, entries)?;
     if disk.bytes() == image {
         Ok(peer)
     } else {
@@ -54,11 +69,20 @@ fn written(rt: &HostRuntime, image: &[u8]) -> Result<Duration, Fault> {
     }
 }
 
-fn timed(rt: &HostRuntime, disk: &mut MemDisk, entries: &[u8]) -> Result<Duration, Fault> {
-    let pieces = pieces_of(rt.alloc(), entries)?;
-    let before = started(rt)?;
-    write_all(disk, &pieces)?;
-    elapsed(rt, before)
+fn write_entries(rt: &HostRuntime, disk: &mut MemDisk, entries: &[u8]) -> Result<Duration, Fault> {
+    let mut time = Duration::ZERO;
+    let mut rest = entries;
+    for _ in 0..entries.len() {
+        let mut pieces = Vec::new(rt.alloc());
+        rest = add_pieces(rt.alloc(), &mut pieces, rest)?;
+        if pieces.is_empty() {
+            break;
+        }
+        let before = started(rt)?;
+        write_all(disk, &pieces)?;
+        time = time.saturating_add(elapsed(rt, before)?);
+    }
+    Ok(time)
 }
 
 // A disk that holds the image up to these last bytes, and a closed gate.
@@ -70,18 +94,22 @@ fn new_disk(alloc: Global, image: &[u8], last: usize) -> Result<MemDisk, Fault> 
     Ok(disk_of(alloc, bytes.as_slice())?)
 }
 
-// What is written after the gate of each entry: the length, the body, and a closed gate.
-fn pieces_of(alloc: Global, entries: &[u8]) -> Result<Vec<Bytes>, Fault> {
-    let mut pieces = Vec::new(alloc);
+// Adds what is written after the gate of each entry, the length, the body and a closed gate, for so
+// many of these entries, and answers the others.
+fn add_pieces<'a>(
+    alloc: Global,
+    pieces: &mut Vec<Bytes>,
+    entries: &'a [u8],
+) -> Result<&'a [u8], Fault> {
     let mut rest = entries;
-    for _ in 0..entries.len() {
+    for _ in 0..BATCH {
         let Some((body, others)) = first_body(rest) else {
             break;
         };
         pieces.push(piece_of(alloc, body)?)?;
         rest = others;
     }
-    Ok(pieces)
+    Ok(rest)
 }
 
 fn piece_of(alloc: Global, body: &[u8]) -> Result<Bytes, Fault> {

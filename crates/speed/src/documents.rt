@@ -36,22 +36,27 @@ pub fn own(alloc: Global) -> Result<ReplicaUid, Memory> {
 
 /// The steps that accept the first revisions of so many documents.
 pub fn first_revisions(alloc: Global, size: u32) -> Result<Vec<Step>, Fault> {
+    revisions(alloc, 0, size)
+}
+
+/// The same of the documents of these numbers, up to `end`.
+pub fn revisions(alloc: Global, first: u32, end: u32) -> Result<Vec<Step>, Fault> {
     let mut steps = Vec::new(alloc);
-    add_revisions(alloc, &mut steps, size)?;
+    add_revisions(alloc, &mut steps, first, end)?;
     Ok(steps)
 }
 
-/// The same after the step that creates the index.
+/// The first revisions of so many documents, after the step that creates the index.
 pub fn indexed_revisions(alloc: Global, size: u32) -> Result<Vec<Step>, Fault> {
     let mut steps = Vec::new(alloc);
     steps.push(index_step(alloc)?)?;
-    add_revisions(alloc, &mut steps, size)?;
+    add_revisions(alloc, &mut steps, 0, size)?;
     Ok(steps)
 }
 
-fn add_revisions(alloc: Global, steps: &mut Vec<Step>, size: u32) -> Result<(), Fault> {
+fn add_revisions(alloc: Global, steps: &mut Vec<Step>, first: u32, end: u32) -> Result<(), Fault> {
     let own = own(alloc)?;
-    for number in 0..size {
+    for number in first..end {
         let step = first_revision(alloc, &own, number)?;
         steps.push(step)?;
     }

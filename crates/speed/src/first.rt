@@ -101,36 +101,13 @@ fn committed<R: Replica>(
 ) -> Result<Times, Fault>
     requires { R.is_open replica.old }
 {
-    let first = commit_first(rt, replica, first)?;
-    let second = commit_second(rt, replica, second)?;
+    let first = timed(rt, replica, first)?;
+    let second = timed(rt, replica, second)?;
     Ok(Times { first, second })
 }
 
-// Two functions of the built program, so that `.ci/growth` can count what each does.
+// A function of the built program, so that `.ci/growth` can count what each call does.
 #[inline(never)]
-fn commit_first<R: Replica>(
-    rt: &HostRuntime,
-    replica: &mut R,
-    step: Step,
-) -> Result<Duration, Fault>
-    requires { R.is_open replica.old }
-    ensures { OnOk result (R.is_open replica.new) }
-{
-    timed(rt, replica, step)
-}
-
-#[inline(never)]
-fn commit_second<R: Replica>(
-    rt: &HostRuntime,
-    replica: &mut R,
-    step: Step,
-) -> Result<Duration, Fault>
-    requires { R.is_open replica.old }
-    ensures { OnOk result (R.is_open replica.new) }
-{
-    timed(rt, replica, step)
-}
-
 fn timed<R: Replica>(rt: &HostRuntime, replica: &mut R, step: Step) -> Result<Duration, Fault>
     requires { R.is_open replica.old }
     ensures { OnOk result (R.is_open replica.new) }

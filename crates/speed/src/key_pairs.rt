@@ -29,7 +29,7 @@ fn keys_of_each(
 ) -> Result<Vec<Keys>, Fault> {
     let mut lists = Vec::new(alloc);
     for content in contents {
-        let list = keys(alloc, exprs.as_slice(), content.root())?;
+        let list = keys(alloc, exprs.as_slice(), &content.root()?)?;
         lists.push(list)?;
     }
     Ok(lists)

@@ -26,11 +26,10 @@ pub fn all<R: Replica, K: Sink>(alloc: Global, deleted: bool, replica: &R, out: 
 {
     let state = replica.state();
     let ids = all_docs(alloc, state, deleted)?;
-    Ok(print_all(alloc, state, deleted, ids.as_slice(), out)?)
+    Ok(print_all(state, deleted, ids.as_slice(), out)?)
 }
 
 fn print_all<K: Sink>(
-    alloc: Global,
     state: &State,
     deleted: bool,
     ids: &[DocId],
@@ -41,5 +40,5 @@ fn print_all<K: Sink>(
         (K.known out.old) (K.known out.new) result }
 {
     print_generation(out, state.log().generation())?;
-    print_documents(alloc, state, deleted, ids, out)
+    print_documents(state, deleted, ids, out)
 }

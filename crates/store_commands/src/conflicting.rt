@@ -14,23 +14,22 @@ use command_lines::{PrintFault, print_conflict};
 use conflicts::DocSet;
 use link::Sink;
 use replica_core::{Replica, doc_conflicts};
-use std::alloc::Global;
 use u1_base::DocId;
 
 /// Shows the members, the current one first; nothing for a document that has fewer than two.
-pub fn conflicts<R: Replica, K: Sink>(alloc: Global, id: &DocId, replica: &R, out: &mut K) -> Ended
+pub fn conflicts<R: Replica, K: Sink>(id: &DocId, replica: &R, out: &mut K) -> Ended
     requires { R.is_open replica.now }
     ensures { Carries R.known R.crash
         (over_replica (conflicts_effect (state_in (R.known replica.now)) id.now))
         replica.now replica.now (K.known out.old) (K.known out.new) result }
 {
     match doc_conflicts(replica.state(), id) {
-        Some(set) => Ok(print_members(alloc, set, out)?),
+        Some(set) => Ok(print_members(set, out)?),
         None => Ok(()),
     }
 }
 
-fn print_members<K: Sink>(alloc: Global, set: &DocSet, out: &mut K) -> Result<(), PrintFault>
+fn print_members<K: Sink>(set: &DocSet, out: &mut K) -> Result<(), PrintFault>
     ensures { Puts (lines_text (map Conflict (current_first set.now)))
         (K.known out.old) (K.known out.new) result }
 {
@@ -38,7 +37,7 @@ fn print_members<K: Sink>(alloc: Global, set: &DocSet, out: &mut K) -> Result<()
         let Some(member) = set.member(place) else {
             break;
         };
-        print_conflict(alloc, out, member)?;
+        print_conflict(out, member)?;
     }
     Ok(())
 }

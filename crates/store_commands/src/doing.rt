@@ -86,8 +86,8 @@ fn show<R: Replica, K: Sink>(alloc: Global, command: &Command, replica: &R, out:
         replica.now replica.now (K.known out.old) (K.known out.new) result }
 {
     match command {
-        Command::Get { id, deleted } => get(alloc, id, *deleted, replica, out),
-        Command::Conflicts { id } => conflicts(alloc, id, replica, out),
+        Command::Get { id, deleted } => get(id, *deleted, replica, out),
+        Command::Conflicts { id } => conflicts(id, replica, out),
         Command::IndexList => index_list(alloc, replica, out),
         Command::Query { name, values } => query(alloc, name, values.as_slice(), replica, out),
         Command::Range { name, start, end } => range(alloc, name, start, end, replica, out),

@@ -26,13 +26,7 @@ mod put;
 mod query;
 mod range;
 mod resolve;
-#[cfg(test)]
-mod show_tests;
 mod store;
-#[cfg(test)]
-mod stories;
-#[cfg(test)]
-mod tests;
 mod top;
 mod uncounted;
 

@@ -12,12 +12,10 @@ use command_lines::{PrintFault, print_document, print_no_document, put_all};
 use link::Sink;
 use replica_core::get_doc;
 use replica_state::State;
-use std::alloc::Global;
 use u1_base::DocId;
 
 /// The line of a document, or that there is none.
 pub fn print_found<K: Sink>(
-    alloc: Global,
     state: &State,
     deleted: bool,
     id: &DocId,
@@ -27,14 +25,13 @@ pub fn print_found<K: Sink>(
         (K.known out.old) (K.known out.new) result }
 {
     match get_doc(state, id, deleted) {
-        Some(member) => print_document(alloc, out, id, member, is_in_conflict(state, id)),
+        Some(member) => print_document(out, id, member, is_in_conflict(state, id)),
         None => print_no_document(out),
     }
 }
 
 /// The lines of the documents with these ids, as far as they are listed.
 pub fn print_documents<K: Sink>(
-    alloc: Global,
     state: &State,
     deleted: bool,
     ids: &[DocId],
@@ -44,14 +41,13 @@ pub fn print_documents<K: Sink>(
         (K.known out.old) (K.known out.new) result }
 {
     for id in ids {
-        print_listed(alloc, state, deleted, id, out)?;
+        print_listed(state, deleted, id, out)?;
     }
     Ok(())
 }
 
 // The line of a document, if it is listed.
 fn print_listed<K: Sink>(
-    alloc: Global,
     state: &State,
     deleted: bool,
     id: &DocId,
@@ -61,7 +57,7 @@ fn print_listed<K: Sink>(
         (K.known out.old) (K.known out.new) result }
 {
     match get_doc(state, id, deleted) {
-        Some(member) => print_document(alloc, out, id, member, is_in_conflict(state, id)),
+        Some(member) => print_document(out, id, member, is_in_conflict(state, id)),
         None => put_all(out, &[]),
     }
 }

@@ -30,5 +30,5 @@ pub fn query<R: Replica, K: Sink>(
         return Err(Outcome::Refused(Refusal::IndexUnknown));
     };
     let ids = queried_ids(alloc, index, values)?;
-    Ok(print_documents(alloc, replica.state(), false, ids.as_slice(), out)?)
+    Ok(print_documents(replica.state(), false, ids.as_slice(), out)?)
 }

@@ -33,5 +33,5 @@ pub fn range<R: Replica, K: Sink>(
         return Err(Outcome::Refused(Refusal::IndexUnknown));
     };
     let ids = ranged_ids(alloc, index, start.as_ref(), end.as_ref())?;
-    Ok(print_documents(alloc, replica.state(), false, ids.as_slice(), out)?)
+    Ok(print_documents(replica.state(), false, ids.as_slice(), out)?)
 }

@@ -6,8 +6,6 @@
 #![tactic(auto)]
 
 mod address;
-#[cfg(test)]
-mod body_tests;
 mod fault;
 mod fields;
 mod heads;
@@ -18,8 +16,6 @@ pub mod parts;
 mod read;
 mod slashes;
 mod target;
-#[cfg(test)]
-mod tests;
 mod told;
 mod write;
 

@@ -6,8 +6,6 @@
 #![tactic(auto)]
 
 mod asking;
-#[cfg(test)]
-mod callers;
 mod doing;
 mod door;
 mod laws;
@@ -15,10 +13,6 @@ mod memory_ask;
 mod memory_door;
 mod memory_link;
 mod rest;
-#[cfg(test)]
-mod still;
-#[cfg(test)]
-mod tests;
 
 pub use asking::{AskFault, Link, Phase};
 pub use door::{AcceptFailed, Acceptor};

@@ -8,8 +8,6 @@
 
 mod buffer;
 mod fault;
-#[cfg(test)]
-mod fault_tests;
 mod fields;
 mod laws;
 mod line;
@@ -17,13 +15,7 @@ mod objects;
 mod reader;
 mod says;
 mod scratches;
-#[cfg(test)]
-mod telling;
-#[cfg(test)]
-mod tests;
 mod write;
-#[cfg(test)]
-mod write_tests;
 
 pub use fault::{LineFault, StreamFault};
 pub use laws::{

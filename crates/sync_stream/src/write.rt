@@ -112,13 +112,7 @@ fn write_content(content: &Option<Content>, out: &mut Writer) -> Result<(), Memo
 {
     match content {
         None => out.null()?,
-        Some(content) => {
-            let bytes = content.text()?;
-            match str::from_utf8(bytes.as_slice()) {
-                Ok(text) => out.string(text)?,
-                Err(_) => unreachable!(),
-            }
-        }
+        Some(content) => out.string(content.as_str())?,
     }
     Ok(())
 }

@@ -10,8 +10,6 @@ mod entry;
 mod laws;
 mod log;
 mod since;
-#[cfg(test)]
-mod tests;
 
 pub use check::{Check, goes_on};
 pub use entry::{Change, Changes, Entry};

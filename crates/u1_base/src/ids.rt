@@ -1,6 +1,8 @@
 //! Ids: short ASCII texts, each form with its alphabet and its greatest length.
 ghost use Rattle.std.specs.Prelude.{◌≡◌, ◌≤◌, ◌↔◌, IsTrue, IfOk, MatchOption, None, not, position};
+ghost use Rattle.std.specs.Prelude.{get_or};
 ghost use Rattle.u1_base.specs.Ids.{IsFault, IsId, ReadsId, id_in, is_allowed, longest};
+ghost use Rattle.u1_base.specs.declared.ids.TheConstants.{FIRST_ALPHABETS};
 
 use crate::limits::{MOST_DOCUMENT_ID_BYTES, MOST_NAME_BYTES};
 use crate::{Items, Memory, Text};
@@ -179,9 +181,18 @@ impl<F: FormOf> Id<F> {
     pub fn read(alloc: Global, text: &str) -> Result<Id<F>, IdFault>
         ensures { ReadsId F.form text.now result }
     {
-        if let Some(fault) = fault_of(F::form(), text.as_bytes()) {
+        Id::of_bytes(alloc, text.as_bytes())
+    }
+
+    /// Reads an id from all of the bytes.
+    pub fn of_bytes(alloc: Global, bytes: &[u8]) -> Result<Id<F>, IdFault>
+        ensures { ReadsId F.form bytes.now result }
+    {
+        if let Some(fault) = fault_of(F::form(), bytes) {
             return Err(fault);
         }
+        // Each alphabet is a part of ASCII.
+        let text = unsafe { str::from_utf8_unchecked(bytes) };
         match Text::copy(alloc, text) {
             Ok(text) => Ok(Id::of_text(text)),
             Err(Memory) => Err(IdFault::Memory),
@@ -238,15 +249,32 @@ fn longest_of(form: Form) -> usize
     }
 }
 
+// Each alphabet is a part of the next one: of transactions (1), of replicas (2), of names (3), of
+// documents (4). Of each byte this is the first one that has it; 9 stands for none.
+static FIRST_ALPHABETS: [u8; 256] = *b"\
+    99999999999999999999999999999999\
+    99999499999991391111111111999999\
+    91111111111111111111111111199992\
+    91111111111111111111111111199999\
+    99999999999999999999999999999999\
+    99999999999999999999999999999999\
+    99999999999999999999999999999999\
+    99999999999999999999999999999999";
+
+fn first_alphabet(byte: u8) -> u8
+    ensures { result ≡ get_or FIRST_ALPHABETS byte 0 }
+{
+    FIRST_ALPHABETS[byte as usize]
+}
+
 fn allows(form: Form, byte: u8) -> bool
     ensures { result ≡ is_allowed form byte }
 {
-    let common = byte.is_ascii_alphanumeric() || byte == b'-';
     match form {
-        Form::Document => common || byte == b'.' || byte == b'_' || byte == b'%',
-        Form::Replica => common || byte == b'_',
-        Form::Transaction => common,
-        Form::Name => common || byte == b'.' || byte == b'_',
+        Form::Transaction => first_alphabet(byte) <= b'1',
+        Form::Replica => first_alphabet(byte) <= b'2',
+        Form::Name => first_alphabet(byte) <= b'3',
+        Form::Document => first_alphabet(byte) <= b'4',
     }
 }
 

@@ -1,15 +1,25 @@
 //! The key of a document in an index.
-ghost use Rattle.std.specs.Prelude.{◌≡◌, ◌≤◌, IfOk, length};
+ghost use Rattle.std.specs.Prelude.{◌≡◌, ◌≤◌, ◌∷◌, [], IfOk, length};
 ghost use Rattle.u1_base.specs.declared.limits.TheConstants.{MOST_KEY_TEXTS};
 
 use crate::{Items, Memory, Text, Texts};
 use std::marker::Model;
+use std::slice;
 
-/// One to `limits::MOST_KEY_TEXTS` texts, seen as their list.
+/// One to `limits::MOST_KEY_TEXTS` texts, seen as their list. The text of a key of one takes no
+/// memory beside its own.
 #[derive(Debug, Drop)]
 pub struct Key {
-    texts: Texts,
+    texts: KeyTexts,
 }
+
+#[derive(Debug, Drop)]
+enum KeyTexts {
+    One(Text),
+    Several(Texts),
+}
+
+const _: () = prove!(size_of::<Key>() == 32);
 
 /// A list of keys.
 pub type Keys = Items<Key>;
@@ -20,9 +30,12 @@ impl Model for Key {
 
     ghost Value = { List (List ℕ) };
 
-    ghost view = { λ k. k.texts };
+    ghost use Rattle.u1_base.specs.KeyTexts.{texts_of};
 
-    ghost invariant = { λ k. (1 ≤ length k.texts) × (length k.texts ≤ MOST_KEY_TEXTS) };
+    ghost view = { λ k. texts_of k.texts };
+
+    ghost invariant = { λ k. (1 ≤ length (texts_of k.texts))
+        × (length (texts_of k.texts) ≤ MOST_KEY_TEXTS) };
 }
 
 impl Key {
@@ -31,7 +44,24 @@ impl Key {
         requires few { length texts ≤ MOST_KEY_TEXTS }
         ensures { result ≡ texts }
     {
-        Key { texts }
+        let mut texts = texts.into_vec();
+        if texts.len() == 1
+            && let Some(only) = texts.pop()
+        {
+            return Key::of_one(only);
+        }
+        Key {
+            texts: KeyTexts::Several(Texts::from_vec(texts)),
+        }
+    }
+
+    /// The key of one text.
+    pub fn of_one(text: Text) -> Key
+        ensures { result ≡ text ∷ [] }
+    {
+        Key {
+            texts: KeyTexts::One(text),
+        }
     }
 
     pub fn texts(&self) -> &[Text]
@@ -39,14 +69,19 @@ impl Key {
         ensures some { 1 ≤ length self.now }
         ensures few { length self.now ≤ MOST_KEY_TEXTS }
     {
-        self.texts.as_slice()
+        match &self.texts {
+            KeyTexts::One(text) => slice::from_ref(text),
+            KeyTexts::Several(texts) => texts.as_slice(),
+        }
     }
 
     pub fn copy(&self) -> Result<Key, Memory>
         ensures { IfOk result (λ key. key ≡ self.now) }
     {
-        Ok(Key {
-            texts: self.texts.duplicate()?,
-        })
+        let texts = match &self.texts {
+            KeyTexts::One(text) => KeyTexts::One(text.duplicate()?),
+            KeyTexts::Several(texts) => KeyTexts::Several(texts.duplicate()?),
+        };
+        Ok(Key { texts })
     }
 }

@@ -15,11 +15,7 @@ pub mod limits;
 mod made;
 mod memory;
 mod position;
-#[cfg(test)]
-mod tests;
 mod text;
-#[cfg(test)]
-mod text_tests;
 
 pub use counting::Steps;
 pub use fields::{u16_at, u32_at, u64_at};

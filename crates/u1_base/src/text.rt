@@ -32,6 +32,7 @@ impl Drop for Text {
 enum Storage {
     Short(Inline<14>),
     Medium(Rc<Inline<39>>),
+    Large(Rc<Inline<103>>),
     Long(RcStr),
 }
 
@@ -39,6 +40,10 @@ const _: () = prove!(size_of::<Text>() == 16);
 
 // With the counts of `Rc` that is 56 bytes, the C library's least piece of memory for a made id.
 const _: () = prove!(size_of::<Inline<39>>() == 40);
+
+// With the counts 120 bytes: most contents of documents need one piece of memory so, and a `Long`
+// text needs two.
+const _: () = prove!(size_of::<Inline<103>>() == 104);
 
 impl Model for Text {
     ghost use Rattle.std.specs.Prelude.{List, ℕ};
@@ -53,18 +58,18 @@ impl Text {
     pub fn copy(alloc: Global, text: &str) -> Result<Text, Memory>
         ensures { IfOk result (λ t. t ≡ text.now) }
     {
-        let storage = match short_or_medium(alloc, text)? {
+        let storage = match inlined(alloc, text)? {
             Some(storage) => storage,
             None => Storage::Long(RcStr::from_str(alloc, text)?),
         };
         Ok(Text { storage })
     }
 
-    /// A string of more than 39 bytes is kept, a shorter one copied.
+    /// A string of more than 103 bytes is kept, a shorter one copied.
     pub fn from_string(text: String) -> Result<Text, Memory>
         ensures { IfOk result (λ t. t ≡ string_bytes text) }
     {
-        let storage = match short_or_medium(*text.allocator(), text.as_str())? {
+        let storage = match inlined(*text.allocator(), text.as_str())? {
             Some(storage) => storage,
             None => Storage::Long(RcStr::from_string(text)?),
         };
@@ -78,6 +83,7 @@ impl Text {
         let storage = match &self.storage {
             Storage::Short(text) => Storage::Short(text.again()),
             Storage::Medium(text) => Storage::Medium(text.clone()?),
+            Storage::Large(text) => Storage::Large(text.clone()?),
             Storage::Long(text) => Storage::Long(text.clone()?),
         };
         Ok(Text { storage })
@@ -89,20 +95,24 @@ impl Text {
         match &self.storage {
             Storage::Short(text) => text.as_str(),
             Storage::Medium(text) => text.as_str(),
+            Storage::Large(text) => text.as_str(),
             Storage::Long(text) => text.as_str(),
         }
     }
 }
 
 // The storage of a text that is not long.
-fn short_or_medium(alloc: Global, text: &str) -> Result<Option<Storage>, Memory>
+fn inlined(alloc: Global, text: &str) -> Result<Option<Storage>, Memory>
     ensures { IfOk result (λ storage. IfSome storage (λ s. bytes_of s ≡ text.now)) }
 {
     if let Some(short) = Inline::of(text) {
         return Ok(Some(Storage::Short(short)));
     }
+    if let Some(medium) = Inline::of(text) {
+        return Ok(Some(Storage::Medium(Rc::new(alloc, medium)?)));
+    }
     match Inline::of(text) {
-        Some(medium) => Ok(Some(Storage::Medium(Rc::new(alloc, medium)?))),
+        Some(large) => Ok(Some(Storage::Large(Rc::new(alloc, large)?))),
         None => Ok(None),
     }
 }

@@ -12,8 +12,6 @@ mod join;
 mod laws;
 mod places;
 mod read;
-#[cfg(test)]
-mod tests;
 
 pub use clock::{Clock, Clocks};
 pub use compare::Order;

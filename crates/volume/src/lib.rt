@@ -7,24 +7,12 @@
 #![tactic(auto)]
 
 mod appending;
-#[cfg(test)]
-mod appending_tests;
 mod laws;
 mod making;
-#[cfg(test)]
-mod making_tests;
 mod one_disk;
 mod opening;
-#[cfg(test)]
-mod opening_tests;
-#[cfg(test)]
-mod plain_tests;
 mod replacing;
-#[cfg(test)]
-mod replacing_tests;
 mod root;
-#[cfg(test)]
-mod tests;
 
 pub use appending::append_on;
 pub use laws::{law_found, law_store};

@@ -1,13 +1,14 @@
 -- The chunk and the spare one hold what the chunk held.
-use Rattle.std.proofs.Common.{◌≡◌, ◌+◌, ◌++◌, [], List, Some, get_or, set, arith, ap, sym, subst, ◌∙◌, append-nil}
+use Rattle.std.proofs.Common.{◌≡◌, ◌+◌, ◌≤◌, ◌++◌, [], List, Some, get_or, length, set, take, arith, ap, sym, subst, ◌∙◌, append-nil}
 use Rattle.std.proofs.Common.{add-one}
-use Rattle.std.proofs.lemmas.List.{nil_from_length}
+use Rattle.std.proofs.lemmas.List.{length-set, nil_from_length, take-set}
+use Rattle.std.proofs.lemmas.List.Edits.{length-insert}
 use Rattle.std.proofs.lemmas.List.Elements.{All-pop}
 use Rattle.std.specs.Global.{Vec}
 use Rattle.std.specs.List.{All, insert}
 use Rattle.std.specs.Vec.{vec_items, vec_len, vec_capacity}
 use Rattle.chunk_list.specs.Chunks.{full, joined, AreChunks, IsSpare}
-use Rattle.chunk_list.proofs.Pieces.{cut-joined}
+use Rattle.chunk_list.proofs.Pieces.{cut-joined, take-insert}
 use Rattle.chunk_list.proofs.Turned.{cut_chunks}
 use Rattle.chunk_list.proofs.chunks.cut.Goals as goal
 
@@ -29,6 +30,7 @@ returns g c =
     c.move_up.ensures.items ∙ ap (λ (l : List g.row.T.Denot). vec_items was ++ l) none ∙ append-nil (vec_items was)
     ∙ ap vec_items was_is in
     let stay = c.staying-count.ensures in
+    let behind : at + 1 ≤ length (set old at lower) = omega (arith, c.requires.chunks.within, length-set old at lower) in
     let over : vec_len was ≡ full + 1 = omega (arith, c.requires.over was, ap vec_len was_is) in
     record {
       same = ap joined c.put.ensures.items ∙ ap (λ (n : _). joined (insert (set old at lower) n upper)) (add-one at)
@@ -50,6 +52,15 @@ returns g c =
             short = omega (arith, c.move_up.ensures, stay.some);
             some = λ _. omega (arith, c.move_up.ensures, stay.fits);
           }));
+      front = ap (take at) c.put.ensures.items
+          ∙ take-insert at (set old at lower) (at + 1) upper (omega arith) behind ∙ take-set old at lower;
+      some = omega (
+        arith,
+        ap length c.put.ensures.items,
+        length-insert (set old at lower) (at + 1) upper behind,
+        length-set old at lower,
+        c.requires.chunks.within,
+      );
       turned = record {
         each = all.0;
         fewer = omega (arith, c.put.ensures.len, c.take_last-upper.ensures.len);

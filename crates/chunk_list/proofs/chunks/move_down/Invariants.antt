@@ -1,13 +1,11 @@
--- The items that go down stand last in the upper list, the last one first.
-use Rattle.std.proofs.Common.{◌≡◌, ◌+◌, ◌≤◌, ◌-◌, ◌++◌, reverse, take, drop}
+-- The upper list is turned round: what goes down next stands last.
+use Rattle.std.proofs.Common.{◌≡◌, ◌+◌, ◌≤◌, ◌-◌, ◌++◌, reverse}
 use Rattle.std.specs.Vec.{vec_len, vec_capacity}
 use Rattle.chunk_list.proofs.chunks.move_down.Given as goal
 
 abbrev pub invariant-loop-upper : goal.invariant-loop-upper
 invariant-loop-upper g l = record {
-  taken : l.lower.items ++ reverse (drop l.left l.upper.items)
-      ≡ l.fn.lower.items ++ take (l.count - vec_len l.fn.lower) l.fn.upper.items;
-  kept : take l.left l.upper.items ≡ drop (l.count - vec_len l.fn.lower) l.fn.upper.items;
+  same : l.lower.items ++ reverse l.upper.items ≡ l.fn.lower.items ++ l.fn.upper.items;
   both : vec_len l.lower + vec_len l.upper ≡ vec_len l.fn.lower + vec_len l.fn.upper;
   lower_capacity : vec_capacity l.lower ≡ vec_capacity l.fn.lower;
   upper_capacity : vec_capacity l.upper ≡ vec_capacity l.fn.upper;

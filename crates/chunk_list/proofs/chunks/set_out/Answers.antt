@@ -1,10 +1,11 @@
 -- The chunks that are left hold what all held.
-use Rattle.std.proofs.Common.{List, ap, arith, sym, subst}
+use Rattle.std.proofs.Common.{List, take, ap, arith, sym, subst, ◌∙◌}
 use Rattle.std.proofs.lemmas.List.Elements.{All-push}
 use Rattle.std.specs.Global.{Vec}
 use Rattle.std.specs.List.{All}
 use Rattle.std.specs.Vec.{vec_len, vec_capacity}
 use Rattle.chunk_list.specs.Chunks.{IsSpare}
+use Rattle.chunk_list.proofs.Pieces.{take-remove}
 use Rattle.chunk_list.proofs.Turned.{out_chunks}
 use Rattle.chunk_list.proofs.chunks.set_out.Goals as goal
 
@@ -38,3 +39,11 @@ returns-else-left-needed-clause-same g c =
     let chunk = c.remove-chunk.result in
     out_chunks c.args.chunks.now.items c.args.at c.requires.chunks c.remove-chunk.new.self.items chunk c.requires.some
     (c.requires.empty chunk) c.remove-chunk.ensures.items
+
+pub returns-then-left-needed-clause-front : goal.returns-then-left-needed-clause-front
+returns-then-left-needed-clause-front g c =
+    ap (take c.args.at) c.remove-chunk.ensures.items ∙ take-remove c.args.at c.args.chunks.now.items
+
+pub returns-else-left-needed-clause-front : goal.returns-else-left-needed-clause-front
+returns-else-left-needed-clause-front g c =
+    ap (take c.args.at) c.remove-chunk.ensures.items ∙ take-remove c.args.at c.args.chunks.now.items

@@ -6,12 +6,12 @@ use Rattle.chunk_list.proofs.Edits.{edit, edited, new_at, put_joined, same_len, 
 use Rattle.chunk_list.proofs.Pieces.{start_at-most}
 use Rattle.chunk_list.proofs.room.put_in.Goals as goal
 
-pub locate-at-requires-clause-some : goal.locate-at-requires-clause-some
-locate-at-requires-clause-some g c = omega (arith, c.requires.some, c.args.chunks.now.ok.0)
+pub seat-at-requires-clause-some : goal.seat-at-requires-clause-some
+seat-at-requires-clause-some g c = omega (arith, c.requires.some, c.args.chunks.now.ok.0)
 
 pub put-requires-clause-place : goal.put-requires-clause-place
 put-requires-clause-place g c = let old = c.index_mut-chunk.result.now
-    in omega (arith, c.locate-at.ensures.up_to old, ap vec_len c.index_mut-chunk.ensures.value)
+    in omega (arith, c.seat-at.ensures.up_to old, ap vec_len c.index_mut-chunk.ensures.value)
 
 pub shift-requires-clause-fits : goal.shift-requires-clause-fits
 shift-requires-clause-fits g c k gt lt near =
@@ -40,8 +40,8 @@ pub returns : goal.returns
 returns g c =
     let l = c.requires.laid_out in
     let old = c.index_mut-chunk.result.now in
-    let e = edit c.put.new.items l c.locate-at.ensures c.index_mut-chunk.ensures.value c.put.ensures.capacity in
-    let held = l.chunks_are.held c.locate-at.result.0 old c.locate-at.ensures.within in
+    let e = edit c.put.new.items l c.seat-at.ensures c.index_mut-chunk.ensures.value c.put.ensures.capacity in
+    let held = l.chunks_are.held c.seat-at.result.0 old c.seat-at.ensures.within in
     record {
       items = put_joined e c.args.item c.put.ensures.items;
       chunks = edited e (omega (arith, c.put.ensures.len, same_len e old, held.short));

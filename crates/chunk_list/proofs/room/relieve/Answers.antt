@@ -3,6 +3,7 @@ use Rattle.std.proofs.Common.{◌*◌, ◌<◌, ◌≤◌, ℕ, length, get_or, 
 use Rattle.std.proofs.lemmas.Bool.{cases_eq}
 use Rattle.std.specs.Vec.{vec_items}
 use Rattle.chunk_list.specs.Chunks.{full, joined}
+use Rattle.chunk_list.proofs.Counting.{still_known}
 use Rattle.chunk_list.proofs.Pieces.{length-over}
 use Rattle.chunk_list.proofs.room.relieve.Goals as goal
 
@@ -26,3 +27,8 @@ returns-in_default-nearest-clause-chunks g c =
     ])
     b.within (λ d. omega (arith, c.requires.over d, (get_or old c.args.at d).ok.0)) in
     absurd (omega (arith, c.requires.enough, chunks.ok.0))
+
+pub recount-requires-clause-known : goal.recount-requires-clause-known
+recount-requires-clause-known g c =
+    still_known c.args.chunks.now.items c.cut.new.chunks.items c.args.starts.now.inside.items
+    c.args.starts.now.bases.items c.args.at c.requires.starts c.requires.chunks.within c.cut.ensures.front

@@ -1,35 +1,80 @@
 -- The next chunk begins where this one ends, and each block where its first chunk begins.
 use Rattle.std.proofs.Common.{◌≡◌, ◌+◌, ◌-◌, ◌*◌, ◌/◌, ◌<◌, ℕ, List, [], ◌∷◌, ◌++◌, length, get_or, arith, ◌∙◌, ap}
-use Rattle.std.proofs.Common.{refl, sym, subst, length-append}
+use Rattle.std.proofs.Common.{sym, subst, take, length-append}
+use Rattle.std.proofs.lemmas.List.{get_or_read, length-take-le}
 use Rattle.std.proofs.lemmas.List.Folds.{length-flat_map-take}
 use Rattle.std.specs.Vec.{vec_items, vec_len, vec_capacity}
 use Rattle.chunk_list.specs.Chunks.{block}
-use Rattle.chunk_list.proofs.Blocks.{enough_blocks, full_blocks, in_block, last_block}
-use Rattle.chunk_list.proofs.Counting.{AreCounted, all_counted, block_counted, chunk_counted, none_counted}
-use Rattle.chunk_list.proofs.Pieces.{start_at-next}
+use Rattle.chunk_list.proofs.Blocks.{block_behind, blocks_reach, enough_blocks, full_blocks, in_block, last_block}
+use Rattle.chunk_list.proofs.Counting.{AreCounted, all_counted, block_counted, chunk_counted, known_counted}
+use Rattle.chunk_list.proofs.Pieces.{start_at-most, start_at-next}
 use Rattle.chunk_list.proofs.starts.recount.Goals as goal
 use Rattle.chunk_list.proofs.starts.recount.Goals.{then-k-eq0, else-k-eq0}
 
-pub loop-k-init : goal.loop-k-init
-loop-k-init g c = record {
-  counted = none_counted c.args.chunks.now.items c.clear.new.self.items c.clear-2.new.self.items c.clear.ensures.items
-      c.clear-2.ensures.items;
-  place = refl;
-  enough = omega arith;
-  no_more = omega (arith, ap length c.clear-2.ensures.items);
-  capacity = c.clear.ensures.capacity;
-  blocks_capacity = c.clear-2.ensures.capacity;
-}
+pub at-requires-clause-fits : goal.at-requires-clause-fits
+at-requires-clause-fits g c =
+    let chunks = c.args.chunks.now in
+    omega (
+      arith,
+      c.requires.known.begins c.args.from (omega arith),
+      start_at-most vec_items chunks.items c.args.from,
+      c.requires.fits,
+    )
 
 pub overflow_add-place : goal.overflow_add-place
 overflow_add-place g c =
     let chunk = c.index.result.now in
     let chunks = c.args.chunks.now in
+    let from = c.args.from in
+    omega (
+      arith,
+      c.at.ensures,
+      c.requires.known.begins from (omega arith),
+      length-flat_map-take vec_items chunks.items from chunk c.requires.from,
+      ap vec_len c.index.ensures,
+      (get_or chunks.items from chunk).ok.0,
+      c.requires.fits,
+    )
+
+pub loop-k-init : goal.loop-k-init
+loop-k-init g c =
+    let chunk = c.index.result.now in
+    let chunks = c.args.chunks.now in
+    let old = c.args.starts.now in
+    let from = c.args.from in
+    let known = c.requires.known in
+    let in_block : from / block < length old.bases.items = block_behind from (length old.bases.items) (omega arith) in
+    let blocks : length c.truncate-2.new.self.items ≡ from / block + 1 =
+    ap length c.truncate-2.ensures.items ∙ length-take-le (from / block + 1) old.bases.items (omega arith) in
+    let reach = blocks_reach from in
+    record {
+      counted = known_counted chunks.items old.inside.items old.bases.items c.truncate.new.self.items
+          c.truncate-2.new.self.items from c.index-base.result.now chunk known c.requires.from
+          c.truncate.ensures.items c.truncate-2.ensures.items
+          (get_or_read old.bases.items (from / block) c.index-base.result.now in_block c.index-base.ensures 0);
+      place = omega (
+        arith,
+        c.at.ensures,
+        known.begins from (omega arith),
+        start_at-next vec_items chunks.items from chunk c.requires.from,
+        ap vec_len c.index.ensures,
+        (get_or chunks.items from chunk).ok.0,
+      );
+      enough = omega (arith, reach.0, blocks);
+      no_more = omega (arith, reach.1, blocks);
+      capacity = c.truncate.ensures.capacity;
+      blocks_capacity = c.truncate-2.ensures.capacity;
+    }
+
+pub overflow_add-place-in-loop-k : goal.overflow_add-place-in-loop-k
+overflow_add-place-in-loop-k g c =
+    let chunk = c.index-in-loop-k.result.now in
+    let chunks = c.args.chunks.now in
     let inside = length-flat_map-take vec_items chunks.items c.loop-k.k chunk (omega (arith, chunks.ok.0)) in
     omega (
       arith,
       c.loop-k.invariant.place,
-      ap vec_len c.index.ensures,
+      ap vec_len c.index-in-loop-k.ensures,
       (get_or chunks.items c.loop-k.k chunk).ok.0,
       inside,
       c.requires.fits,
@@ -37,7 +82,7 @@ overflow_add-place g c =
 
 pub loop-k-preserved : goal.loop-k-preserved
 loop-k-preserved g c =
-    let chunk = c.index.result.now in
+    let chunk = c.index-in-loop-k.result.now in
     let chunks = c.args.chunks.now in
     let old = c.loop-k.starts in
     let now = c.if-k-eq0.starts in
@@ -91,7 +136,7 @@ loop-k-preserved g c =
       place = omega (
         arith,
         v.place,
-        ap vec_len c.index.ensures,
+        ap vec_len c.index-in-loop-k.ensures,
         (get_or chunks.items k chunk).ok.0,
         start_at-next vec_items chunks.items k chunk within,
       );

@@ -7,8 +7,3 @@ pub returns-in_err-rev : goal.returns-in_err-rev
 returns-in_err-rev g c =
     let p = err_from_is_err_and c.from_residual.result c.from_residual.ensures.1
     in rw (p.1, p.2) (puts_none _ (g.K.Sink.known c.args.out.now))
-
-pub returns-in_err-content : goal.returns-in_err-content
-returns-in_err-content g c =
-    let p = err_from_is_err_and c.from_residual-in_err-content.result c.from_residual-in_err-content.ensures.1
-    in rw (p.1, p.2) (puts_none _ (g.K.Sink.known c.args.out.now))

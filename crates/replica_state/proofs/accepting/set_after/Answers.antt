@@ -8,4 +8,4 @@ returns-then-has_newer c = nothing_new (option_copied c.args.set) c.args.accept
     (sym c.has_newer.ensures ∙ c.if-has_newer.true)
 
 pub returns : goal.returns
-returns c = c.in_ok-after.ensures ∙ c.fitting-accept.ensures.same
+returns c = c.in_ok-after.ensures ∙ c.make_fit.ensures.same

@@ -33,3 +33,8 @@ pub returns : goal.returns
 returns c =
     let i = c.loop-entry.invariant in
     replayed_all c.args.image.now i.0 c.loop-entry.made (c.in_default.ensures.meets i.0 i.1) i.2
+
+pub returns-in_err-make : goal.returns-in_err-make
+returns-in_err-make c =
+    let why = err_from_is_err_and c.from_residual-in_err-make.result c.from_residual-in_err-make.ensures.1 in
+    rw (why.1, why.2) tt

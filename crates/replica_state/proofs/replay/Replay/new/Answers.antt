@@ -1,8 +1,11 @@
 -- The state of no steps has no index, and the list is empty.
-use Rattle.std.proofs.Common.{List, ap}
+use Rattle.std.proofs.Common.{List, ◌∙◌, ap}
 use Rattle.replica_state.specs.Held.{meaning}
+use Rattle.replica_state.specs.Indexes.{with_indexes}
 use Rattle.replica_state.specs.Named.{names_of}
+use Rattle.replica_state.specs.Waiting.{with_accepted}
 use Rattle.replica_state.specs.declared.index.Index.{Index}
+use Rattle.replica_state.specs.declared.waiting.Waiting.{Waiting}
 use Rattle.replica_state.proofs.Replaying.{none_made, none_there}
 use Rattle.replica_state.proofs.replay.Replay.new.Goals as goal
 
@@ -13,5 +16,7 @@ invariant_of-result c = record {
 
 pub returns : goal.returns
 returns c =
-    none_made (meaning c.new-state.result) (names_of c.new-listed.result.items) c.args.name c.args.uid
+    ap (λ (ws : List Waiting). with_indexes (with_accepted (meaning c.new-state.result) ws)
+    (names_of c.new-listed.result.items)) c.new-waiting.ensures.items
+    ∙ none_made (meaning c.new-state.result) (names_of c.new-listed.result.items) c.args.name c.args.uid
     c.new-state.ensures.history (ap (λ (l : List Index). names_of l) c.new-listed.ensures.items)

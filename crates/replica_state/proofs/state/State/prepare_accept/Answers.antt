@@ -1,4 +1,5 @@
 -- Only the room changes, and what is prepared are the parts of the step.
+use Rattle.std.proofs.lemmas.Result.{IfOk-weaker}
 use Rattle.replica_state.specs.Held.{named}
 use Rattle.replica_state.proofs.Steps.{accept_parts}
 use Rattle.replica_state.proofs.state.State.prepare_accept.Goals as goal
@@ -35,11 +36,11 @@ returns-in_err-replacement-clause-lists c =
       name = c.self.inside.name;
       uid = c.self.inside.uid;
       docs =
-          c.accept-2.ensures.docs i;
+          c.accept.ensures.docs i;
       log = c.reserve.ensures.entries i;
       known = c.reserve_place.ensures.known i;
       told = c.reserve_place.ensures.told i;
-      indexes = c.accept-2.ensures.indexes i;
+      indexes = c.accept.ensures.indexes i;
     })
 
 pub returns-clause-lists : goal.returns-clause-lists
@@ -48,31 +49,33 @@ returns-clause-lists c =
       name = c.self.inside.name;
       uid = c.self.inside.uid;
       docs =
-          c.accept-2.ensures.docs i;
+          c.accept.ensures.docs i;
       log = c.reserve.ensures.entries i;
       known = c.reserve_place.ensures.known i;
       told = c.reserve_place.ensures.told i;
-      indexes = c.accept-2.ensures.indexes i;
+      indexes = c.accept.ensures.indexes i;
     })
 
 pub returns-clause-parts : goal.returns-clause-parts
 returns-clause-parts c =
-    accept_parts (record {
+    IfOk-weaker c.of.result _ _ (λ prepared is. rw (is)
+    (accept_parts (record {
       name = c.self.inside.name;
       uid = c.self.inside.uid;
-      docs = c.accept-2.new.self.docs.pairs;
+      docs = c.accept.new.self.docs.pairs;
       log = c.reserve.new.self.entries;
       known = c.reserve_place.new.known.pairs;
       told = c.reserve_place.new.told.pairs;
-      indexes = named c.accept-2.new.self.indexes;
+      indexes = named c.accept.new.self.indexes;
     })
-    c.in_ok-replacement.replacement c.args.doc c.args.accept c.args.trans c.args.moved c.in_ok-replacement.ensures.after
+    c.in_ok-replacement.replacement c.args.doc c.args.accept c.args.trans c.args.moved c.in_ok-replacement.ensures.after)) c.of.ensures
 
 pub returns-clause-ready : goal.returns-clause-ready
 returns-clause-ready c =
-    record {
+    IfOk-weaker c.of.result _ _ (λ prepared is. rw (is)
+    (record {
       collection = c.in_ok-replacement.ensures.ready;
       log = c.in_ok-reserve.ensures.room;
       moved =
           c.in_ok-reserve_place.ensures.room;
-    }
+    })) c.of.ensures

@@ -1,4 +1,5 @@
 -- Only the room changes, and what is prepared are the parts of the step.
+use Rattle.std.proofs.lemmas.Result.{IfOk-weaker}
 use Rattle.replica_state.specs.Held.{named}
 use Rattle.replica_state.proofs.Steps.{gone_parts}
 use Rattle.replica_state.proofs.state.State.prepare_gone.Goals as goal
@@ -44,7 +45,8 @@ returns-clause-lists c =
 
 pub returns-clause-parts : goal.returns-clause-parts
 returns-clause-parts c =
-    gone_parts (record {
+    IfOk-weaker c.of.result _ _ (λ prepared is. rw (is)
+    (gone_parts (record {
       name = c.self.inside.name;
       uid = c.self.inside.uid;
       docs =
@@ -54,8 +56,9 @@ returns-clause-parts c =
       told = c.reserve_place.new.told.pairs;
       indexes = named c.self.inside.collection.indexes;
     })
-    c.args.doc c.args.trans c.args.moved
+    c.args.doc c.args.trans c.args.moved)) c.of.ensures
 
 pub returns-clause-ready : goal.returns-clause-ready
 returns-clause-ready c =
-    record { collection = tt; log = c.in_ok-reserve.ensures.room; moved = c.in_ok-reserve_place.ensures.room }
+    IfOk-weaker c.of.result _ _ (λ prepared is. rw (is)
+    (record { collection = tt; log = c.in_ok-reserve.ensures.room; moved = c.in_ok-reserve_place.ensures.room })) c.of.ensures

@@ -1,4 +1,5 @@
 -- Only the room changes, and what is prepared are the parts of the step.
+use Rattle.std.proofs.lemmas.Result.{IfOk-weaker}
 use Rattle.replica_state.specs.Held.{named}
 use Rattle.replica_state.proofs.Steps.{create_parts}
 use Rattle.replica_state.proofs.state.State.prepare_index.Goals as goal
@@ -31,7 +32,8 @@ returns-clause-lists c =
 
 pub returns-clause-parts : goal.returns-clause-parts
 returns-clause-parts c =
-    create_parts (record {
+    IfOk-weaker c.of.result _ _ (λ prepared is. rw (is)
+    (create_parts (record {
       name = c.self.inside.name;
       uid = c.self.inside.uid;
       docs =
@@ -41,7 +43,9 @@ returns-clause-parts c =
       told = c.self.inside.told.pairs;
       indexes = named c.create_index.new.self.indexes;
     })
-    c.in_ok-replacement.replacement c.args.name c.args.exprs.texts c.in_ok-replacement.ensures.after
+    c.in_ok-replacement.replacement c.args.name c.args.exprs.texts c.in_ok-replacement.ensures.after)) c.of.ensures
 
 pub returns-clause-ready : goal.returns-clause-ready
-returns-clause-ready c = record { collection = c.in_ok-replacement.ensures.ready; log = tt; moved = tt }
+returns-clause-ready c =
+    IfOk-weaker c.of.result _ _ (λ prepared is. rw (is)
+    (record { collection = c.in_ok-replacement.ensures.ready; log = tt; moved = tt })) c.of.ensures

@@ -1,0 +1,13 @@
+-- What was passed is plain.
+use Rattle.std.proofs.Common.{◌≡◌, ℕ, ◌-◌, ◌<◌, ◌≤◌, false, length, get_or}
+use Rattle.content.specs.Fronts.{is_special}
+use Rattle.content.proofs.scan.plain_end.Given as goal
+
+abbrev pub invariant-loop-at : goal.invariant-loop-at
+invariant-loop-at l = record {
+  within : l.at ≤ length l.bytes;
+  plain : (k : ℕ) → k < l.at → is_special (get_or l.bytes k 0) ≡ false;
+}
+
+abbrev pub decreases-loop-at : goal.decreases-loop-at
+decreases-loop-at l = length l.bytes - l.at

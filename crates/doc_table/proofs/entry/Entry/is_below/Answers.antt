@@ -1,0 +1,12 @@
+-- Where the abbreviated keys differ they decide.
+use Rattle.doc_table.specs.Slots.{pair_in}
+use Rattle.doc_table.proofs.Keys.{lower_by_key}
+use Rattle.doc_table.proofs.Slots.{of_pair}
+use Rattle.doc_table.proofs.entry.Entry.is_below.Goals as goal
+
+pub returns-else-self-abbreviated : goal.returns-else-self-abbreviated
+returns-else-self-abbreviated g c =
+    let own = c.self.inside in
+    rw (← c.self.view_is)
+    (lower_by_key (pair_in own.slot.value own.taken).0 c.args.id.now own.abbreviated c.args.abbreviated
+    (of_pair own.slot.value own.taken own.abbreviated own.abbreviates) c.requires c.if-self-abbreviated.false)

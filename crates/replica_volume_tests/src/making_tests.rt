@@ -1,0 +1,136 @@
+//! Making a store: its bytes, each call that fails, and what a crash leaves at each moment.
+use crate::acts::{Act, make_and};
+use crate::tests::{EMPTY, Found, NOTHING, are, disks_of, got, has, hold, leave};
+use disk_model::{Disk, MemDisk};
+use disks::{DiskName, Disks};
+use replica_core::Replica;
+use replica_volume::{InitFault, Volume, VolumeFault};
+use std::alloc::Global;
+use u1_base::limits::GREATEST_IMAGE_LIMIT;
+
+/// Whether it is the empty one of the database `db` at the replica `a`.
+pub(crate) fn is_empty<D: Disk>(volume: &Volume<D>) -> bool {
+    let state = volume.state();
+    has(state) == (0, 0)
+        && are(state.name().as_str().as_bytes(), b"db")
+        && are(state.uid().as_str().as_bytes(), b"a")
+        && volume.is_open()
+}
+
+fn make(alloc: Global, disks: Disks<MemDisk>) -> (Disks<MemDisk>, Result<bool, InitFault>) {
+    make_and(alloc, disks, GREATEST_IMAGE_LIMIT, Act::IsEmpty)
+}
+
+// Whether a store is made where the images held these bytes: its files, and its ten calls.
+fn is_made_over(alloc: Global, old: &[u8]) -> bool {
+    match disks_of(alloc, (b"", old, old), DiskName::Root, &[]) {
+        Ok(disks) => {
+            let (disks, made) = make(alloc, disks);
+            made == Ok(true) && hold(&disks, (&[0], EMPTY, EMPTY)) && got(&disks, 4, 3, 3)
+        }
+        Err(_) => false,
+    }
+}
+
+#[test]
+fn makes_the_empty_store(rt: HostRuntime) {
+    let alloc = rt.alloc();
+    assert!(rt;
+        is_made_over(alloc, b"")
+            && is_made_over(alloc, EMPTY)
+            && is_made_over(alloc, b"no image at all, and longer than one")
+    );
+}
+
+fn are_untouched(disks: &Disks<MemDisk>) -> bool {
+    disks.disk(DiskName::Left).calls() == 0 && disks.disk(DiskName::Right).calls() == 0
+}
+
+// Whether no store is made where the root holds these bytes, and the root alone is called.
+fn is_refused(alloc: Global, root: &[u8]) -> bool {
+    match disks_of(alloc, (root, b"", EMPTY), DiskName::Left, &[]) {
+        Ok(disks) => {
+            let (disks, made) = make(alloc, disks);
+            made == Err(InitFault::Exists)
+                && are_untouched(&disks)
+                && hold(&disks, (root, b"", EMPTY))
+        }
+        Err(_) => false,
+    }
+}
+
+#[test]
+fn is_refused_where_the_root_is_not_empty(rt: HostRuntime) {
+    let alloc = rt.alloc();
+    assert!(rt;
+        is_refused(alloc, &[0])
+            && is_refused(alloc, &[1])
+            && is_refused(alloc, &[255])
+            && is_refused(alloc, b"00")
+            && is_refused(alloc, b"root")
+    );
+}
+
+const FAILED: Result<bool, InitFault> = Err(InitFault::Disk);
+
+const DONE: Result<bool, InitFault> = Ok(true);
+
+// Whether the making answers this where the call of this number fails, and a crash leaves just what
+// is listed.
+fn leaves(
+    alloc: Global,
+    failing: (DiskName, u64),
+    answer: Result<bool, InitFault>,
+    is: &[Found],
+) -> bool {
+    let (name, number) = failing;
+    match disks_of(alloc, (b"", b"old", EMPTY), name, &[number]) {
+        Ok(disks) => {
+            let (mut disks, made) = make(alloc, disks);
+            made == answer && leave(alloc, &mut disks, is)
+        }
+        Err(_) => false,
+    }
+}
+
+const BLANK: Found = Err(VolumeFault::Blank);
+
+// Whether a crash leaves no store where any of the first calls of this disk fails.
+fn leaves_none(alloc: Global, name: DiskName, count: u64) -> bool {
+    for number in 0..count {
+        if !leaves(alloc, (name, number), FAILED, &[BLANK]) {
+            return false;
+        }
+    }
+    true
+}
+
+// Each image is given a cut, a write and a sync. Until the root is written there is no store.
+#[test]
+fn leaves_no_store_before_the_root_is_written(rt: HostRuntime) {
+    let alloc = rt.alloc();
+    assert!(rt;
+        leaves_none(alloc, DiskName::Root, 2)
+            && leaves_none(alloc, DiskName::Left, 3)
+            && leaves_none(alloc, DiskName::Right, 3)
+    );
+}
+
+#[test]
+fn leaves_no_store_or_the_empty_one(rt: HostRuntime) {
+    for number in 2..4u64 {
+        assert!(rt;
+            leaves(
+                rt.alloc(),
+                (DiskName::Root, number),
+                FAILED,
+                &[BLANK, NOTHING]
+            )
+        );
+    }
+}
+
+#[test]
+fn leaves_the_empty_store_once_it_is_made(rt: HostRuntime) {
+    assert!(rt; leaves(rt.alloc(), (DiskName::Root, 4), DONE, &[NOTHING]));
+}
