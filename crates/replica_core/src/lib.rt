@@ -9,19 +9,9 @@
 
 mod calls;
 mod fault;
-#[cfg(test)]
-mod generated;
 mod list;
-#[cfg(test)]
-mod list_tests;
 mod memory;
 mod replica;
-#[cfg(test)]
-mod scan_tests;
-#[cfg(test)]
-mod stories;
-#[cfg(test)]
-mod tests;
 
 pub use calls::documents::{PutFault, delete_doc, put_doc};
 pub use calls::indexes::{IndexFault, create_index, delete_index};

@@ -7,7 +7,5 @@
 #![tactic(auto)]
 
 mod list;
-#[cfg(test)]
-mod tests;
 
 pub use list::{Request, run_all};

@@ -1,9 +1,9 @@
 //! Worked calls on a replica in memory, with what is read of it, told as stories.
-use crate::stories::{empty_of, first_wrong, first_wrong_on, is_answered, is_told};
-use crate::{MemReplica, Replica};
-use replica_state::State;
+use crate::stories::lines::{Line, first_of};
+use crate::stories::{are_right, are_right_on, empty_of, is_answered};
+use replica_core::MemReplica;
 use std::alloc::Global;
-use std::test::Fail;
+use std::process::Abort;
 
 // Edits; deletions, after which a document is read only where deleted ones are asked for, and no
 // index answers it; a clock that is full; the least number, and a name that stands twice in an
@@ -338,6 +338,9 @@ c10 {"name":"Gus Ash","phones":["555-10"],"tags":"friend friend"}
 c11 {"name":"Hal Ann","phones":["555-11"],"tags":"work"}
 c12 {"name":"Ida Foy","phones":["555-12"],"tags":"club"}"#;
 
+// `server` deletes a document.
+const SERVER_DELETES: &str = "delete c12 laptop:1 => laptop:1|server:1";
+
 // How `server` takes what `laptop` put later.
 const RENAMED_IS_SENT: &str =
     r#"sent c02 laptop:2 {"name":"Nina Roy","phones":["555-02"],"tags":"work"} told/laptop/13/#13"#;
@@ -386,166 +389,150 @@ get-deleted? c12 => laptop:1|server:1 deleted
 all? live => c01 c02 c03 c04 c05 c06 c07 c08 c09 c10 c11";
 
 // Whether `laptop` puts the documents.
-fn is_put(alloc: Global, replica: &mut MemReplica) -> Result<bool, Fail> {
+fn is_put(rt: &impl Abort, alloc: Global, replica: &mut MemReplica) -> bool {
     for line in BOOK.lines() {
-        if !is_line_put(alloc, replica, line)? {
-            return Ok(false);
+        if !is_line_put(rt, alloc, replica, line) {
+            return false;
         }
     }
-    Ok(true)
+    true
 }
 
-fn is_line_put(alloc: Global, replica: &mut MemReplica, line: &str) -> Result<bool, Fail> {
-    let (id, content) = line.split_once(' ').ok_or("no content")?;
-    let words = format!(in alloc; "put {id} - {content}")?;
-    is_answered(alloc, replica, words.as_str(), "laptop:1")
+fn is_line_put(rt: &impl Abort, alloc: Global, replica: &mut MemReplica, line: &str) -> bool {
+    let (id, content) = first_of(line);
+    let mut words = Line::new(alloc);
+    words.push("put ");
+    words.push(id);
+    words.push(" - ");
+    words.push(content);
+    is_answered(rt, alloc, replica, words.text(rt), "laptop:1")
 }
 
 // Whether `server` takes them from `laptop`.
-fn is_taken(alloc: Global, replica: &mut MemReplica) -> Result<bool, Fail> {
+fn is_taken(rt: &impl Abort, alloc: Global, replica: &mut MemReplica) -> bool {
     let mut place: u64 = 0;
     for line in BOOK.lines() {
         place = place.saturating_add(1);
-        if !is_line_taken(alloc, replica, line, place)? {
-            return Ok(false);
+        if !is_line_taken(rt, alloc, replica, line, place) {
+            return false;
         }
     }
-    Ok(true)
+    true
 }
 
 fn is_line_taken(
+    rt: &impl Abort,
     alloc: Global,
     replica: &mut MemReplica,
     line: &str,
     place: u64,
-) -> Result<bool, Fail> {
-    let (id, content) = line.split_once(' ').ok_or("no content")?;
-    let words = format!(in alloc; "sent {id} laptop:1 {content} told/laptop/{place}/#{place}")?;
-    is_answered(alloc, replica, words.as_str(), "Inserted laptop:1")
+) -> bool {
+    let mut words = Line::new(alloc);
+    push_sent(&mut words, line, place);
+    is_answered(rt, alloc, replica, words.text(rt), "Inserted laptop:1")
+}
+
+fn push_sent(words: &mut Line, line: &str, place: u64) {
+    let (id, content) = first_of(line);
+    words.push("sent ");
+    words.push(id);
+    words.push(" laptop:1 ");
+    words.push(content);
+    words.number(" told/laptop/", place);
+    words.number("/#", place);
 }
 
 // Whether the index has these keys.
-fn are_keys(alloc: Global, state: &State) -> Result<bool, Fail> {
-    let mut keys = String::new(alloc);
+fn are_keys(rt: &impl Abort, alloc: Global, replica: &mut MemReplica) -> bool {
+    let mut keys = Line::new(alloc);
     for line in KEYS.lines() {
-        push_key(&mut keys, line)?;
+        push_key(&mut keys, line);
     }
-    is_told(alloc, state, "keys", "names", keys.as_str())
+    is_answered(rt, alloc, replica, "keys? names", keys.text(rt))
 }
 
-fn push_key(keys: &mut String, line: &str) -> Result<(), Fail> {
-    keys.push('|')?;
-    keys.push_str(line)?;
-    keys.push(',')?;
-    Ok(())
+fn push_key(keys: &mut Line, line: &str) {
+    keys.push("|");
+    keys.push(line);
+    keys.push(",");
 }
 
-#[test]
-fn edits(rt: HostRuntime) -> Result<(), Fail> {
-    assert_eq!(rt; first_wrong(rt.alloc(), EDITS)?, None);
-    Ok(())
+fn is_book_of_laptop(rt: &impl Abort, alloc: Global, laptop: &mut MemReplica) -> bool {
+    is_put(rt, alloc, laptop)
+        && are_right_on(rt, alloc, laptop, BOOK_IS_ASKED)
+        && are_keys(rt, alloc, laptop)
+        && are_right_on(rt, alloc, laptop, LAPTOP_TAKES)
+        && are_right_on(rt, alloc, laptop, BOOK_AT_LAST)
 }
 
-#[test]
-fn conflicts(rt: HostRuntime) -> Result<(), Fail> {
-    assert_eq!(rt; first_wrong(rt.alloc(), CONFLICTS)?, None);
-    Ok(())
-}
-
-#[test]
-fn merges(rt: HostRuntime) -> Result<(), Fail> {
-    assert_eq!(rt; first_wrong(rt.alloc(), MERGES)?, None);
-    Ok(())
-}
-
-#[test]
-fn receipts(rt: HostRuntime) -> Result<(), Fail> {
-    assert_eq!(rt; first_wrong(rt.alloc(), RECEIPTS)?, None);
-    Ok(())
+fn is_book_of_server(rt: &impl Abort, alloc: Global, server: &mut MemReplica) -> bool {
+    is_taken(rt, alloc, server)
+        && are_right_on(rt, alloc, server, BOOK_IS_ASKED)
+        && are_keys(rt, alloc, server)
+        && are_right_on(rt, alloc, server, SERVER_DELETES)
+        && is_answered(rt, alloc, server, RENAMED_IS_SENT, "Inserted laptop:2")
+        && are_right_on(rt, alloc, server, SERVER_TAKES)
+        && are_right_on(rt, alloc, server, BOOK_AT_LAST)
 }
 
 #[test]
-fn changes_and_checks(rt: HostRuntime) -> Result<(), Fail> {
-    assert_eq!(rt; first_wrong(rt.alloc(), LOG)?, None);
-    Ok(())
+fn edits(rt: HostRuntime) {
+    assert!(rt; are_right(&rt, rt.alloc(), EDITS));
 }
 
 #[test]
-fn indexes(rt: HostRuntime) -> Result<(), Fail> {
-    assert_eq!(rt; first_wrong(rt.alloc(), INDEXES)?, None);
-    Ok(())
+fn conflicts(rt: HostRuntime) {
+    assert!(rt; are_right(&rt, rt.alloc(), CONFLICTS));
 }
 
 #[test]
-fn queries_and_ranges(rt: HostRuntime) -> Result<(), Fail> {
-    assert_eq!(rt; first_wrong(rt.alloc(), QUERIES)?, None);
-    Ok(())
+fn merges(rt: HostRuntime) {
+    assert!(rt; are_right(&rt, rt.alloc(), MERGES));
 }
 
 #[test]
-fn two_replicas(rt: HostRuntime) -> Result<(), Fail> {
-    assert_eq!(rt; first_wrong(rt.alloc(), TWO_REPLICAS)?, None);
-    Ok(())
+fn receipts(rt: HostRuntime) {
+    assert!(rt; are_right(&rt, rt.alloc(), RECEIPTS));
 }
 
 #[test]
-fn a_lost_reply(rt: HostRuntime) -> Result<(), Fail> {
-    assert_eq!(rt; first_wrong(rt.alloc(), LOST_REPLY)?, None);
-    Ok(())
+fn changes_and_checks(rt: HostRuntime) {
+    assert!(rt; are_right(&rt, rt.alloc(), LOG));
 }
 
 #[test]
-fn three_replicas(rt: HostRuntime) -> Result<(), Fail> {
-    assert_eq!(rt; first_wrong(rt.alloc(), THREE_REPLICAS)?, None);
-    Ok(())
+fn indexes(rt: HostRuntime) {
+    assert!(rt; are_right(&rt, rt.alloc(), INDEXES));
 }
 
 #[test]
-fn an_address_book_of_its_writer(rt: HostRuntime) -> Result<(), Fail> {
-    let mut laptop = empty_of(rt.alloc(), "laptop")?;
-    assert!(rt; is_put(rt.alloc(), &mut laptop)?);
-    assert_eq!(rt;
-        first_wrong_on(rt.alloc(), &mut laptop, BOOK_IS_ASKED)?,
-        None
-    );
-    assert!(rt; are_keys(rt.alloc(), laptop.state())?);
-    assert_eq!(rt;
-        first_wrong_on(rt.alloc(), &mut laptop, LAPTOP_TAKES)?,
-        None
-    );
-    assert_eq!(rt;
-        first_wrong_on(rt.alloc(), &mut laptop, BOOK_AT_LAST)?,
-        None
-    );
-    Ok(())
+fn queries_and_ranges(rt: HostRuntime) {
+    assert!(rt; are_right(&rt, rt.alloc(), QUERIES));
 }
 
 #[test]
-fn an_address_book_of_its_reader(rt: HostRuntime) -> Result<(), Fail> {
-    let mut server = empty_of(rt.alloc(), "server")?;
-    assert!(rt; is_taken(rt.alloc(), &mut server)?);
-    assert_eq!(rt;
-        first_wrong_on(rt.alloc(), &mut server, BOOK_IS_ASKED)?,
-        None
-    );
-    assert!(rt; are_keys(rt.alloc(), server.state())?);
-    let deletion = "delete c12 laptop:1";
-    assert!(rt; is_answered(rt.alloc(), &mut server, deletion, "laptop:1|server:1")?);
-    assert!(rt;
-        is_answered(
-            rt.alloc(),
-            &mut server,
-            RENAMED_IS_SENT,
-            "Inserted laptop:2"
-        )?
-    );
-    assert_eq!(rt;
-        first_wrong_on(rt.alloc(), &mut server, SERVER_TAKES)?,
-        None
-    );
-    assert_eq!(rt;
-        first_wrong_on(rt.alloc(), &mut server, BOOK_AT_LAST)?,
-        None
-    );
-    Ok(())
+fn two_replicas(rt: HostRuntime) {
+    assert!(rt; are_right(&rt, rt.alloc(), TWO_REPLICAS));
+}
+
+#[test]
+fn a_lost_reply(rt: HostRuntime) {
+    assert!(rt; are_right(&rt, rt.alloc(), LOST_REPLY));
+}
+
+#[test]
+fn three_replicas(rt: HostRuntime) {
+    assert!(rt; are_right(&rt, rt.alloc(), THREE_REPLICAS));
+}
+
+#[test]
+fn an_address_book_of_its_writer(rt: HostRuntime) {
+    let mut laptop = empty_of(&rt, rt.alloc(), "laptop");
+    assert!(rt; is_book_of_laptop(&rt, rt.alloc(), &mut laptop));
+}
+
+#[test]
+fn an_address_book_of_its_reader(rt: HostRuntime) {
+    let mut server = empty_of(&rt, rt.alloc(), "server");
+    assert!(rt; is_book_of_server(&rt, rt.alloc(), &mut server));
 }
