@@ -1,4 +1,6 @@
-//! The first commit of a store that was opened, beside the second one.
+//! The first commit of a store that was opened, beside the second one. Another store is opened
+//! between the two, so that each comes right behind an opening, and finds in the processor's caches
+//! what an opening leaves there.
 ghost use Rattle.std.specs.Prelude.{OnOk};
 
 use crate::documents::{first_revision, first_revisions, own};
@@ -12,7 +14,7 @@ use replica_volume::Volume;
 use std::alloc::Global;
 use std::time::Duration;
 
-/// So many documents the store has where it is opened for the first time.
+/// So many documents each store has where it is opened for the first time.
 const DOCUMENTS: u32 = 1000;
 
 // How long the first commits took, and the second ones.
@@ -22,11 +24,13 @@ struct Times {
     second: Duration,
 }
 
-// The disks of the store that was opened last, its documents, and the times of all.
+// The disks of the store that was opened last, its documents, the disks of the other store, and the
+// times of all.
 #[derive(Drop)]
 struct Opened {
     disks: Disks<MemDisk>,
     documents: u64,
+    other: Disks<MemDisk>,
     times: Times,
 }
 
@@ -46,8 +50,20 @@ pub fn measure(rt: &HostRuntime, size: u32) -> Result<Report, Fault> {
     })
 }
 
-// The disks grew as the documents were put in, so that they have room for more.
 fn new(alloc: Global) -> Result<Opened, Fault> {
+    Ok(Opened {
+        disks: filled(alloc)?,
+        documents: u64::from(DOCUMENTS),
+        other: filled(alloc)?,
+        times: Times {
+            first: Duration::ZERO,
+            second: Duration::ZERO,
+        },
+    })
+}
+
+// The disks grew as the documents were put in, so that they have room for more.
+fn filled(alloc: Global) -> Result<Disks<MemDisk>, Fault> {
     let mut volume = store(alloc)?;
     let steps = first_revisions(alloc, DOCUMENTS);
     let committed = match steps {
@@ -56,14 +72,7 @@ fn new(alloc: Global) -> Result<Opened, Fault> {
     };
     let disks = volume.into_disks();
     committed?;
-    Ok(Opened {
-        disks,
-        documents: u64::from(DOCUMENTS),
-        times: Times {
-            first: Duration::ZERO,
-            second: Duration::ZERO,
-        },
-    })
+    Ok(disks)
 }
 
 fn again(rt: &HostRuntime, opened: Opened, number: u32) -> Result<Opened, Fault> {
@@ -73,13 +82,15 @@ fn again(rt: &HostRuntime, opened: Opened, number: u32) -> Result<Opened, Fault>
     let second = first_revision(rt.alloc(), &own, place.saturating_add(1))?;
     match Volume::open_volume(rt.alloc(), opened.disks) {
         Ok(mut volume) => {
-            let times = committed(rt, &mut volume, first, second);
+            let committed = committed(rt, &mut volume, first, opened.other, second);
             let documents = volume.state().docs().length();
             let disks = volume.into_disks();
+            let (times, other) = committed?;
             Ok(Opened {
                 disks,
                 documents,
-                times: sum(opened.times, times?),
+                other,
+                times: sum(opened.times, times),
             })
         }
         Err((_disks, _fault)) => Err(Fault::Run),
@@ -97,13 +108,22 @@ fn committed<R: Replica>(
     rt: &HostRuntime,
     replica: &mut R,
     first: Step,
+    other: Disks<MemDisk>,
     second: Step,
-) -> Result<Times, Fault>
+) -> Result<(Times, Disks<MemDisk>), Fault>
     requires { R.is_open replica.old }
 {
     let first = timed(rt, replica, first)?;
+    let other = reopened(rt.alloc(), other)?;
     let second = timed(rt, replica, second)?;
-    Ok(Times { first, second })
+    Ok((Times { first, second }, other))
+}
+
+fn reopened(alloc: Global, disks: Disks<MemDisk>) -> Result<Disks<MemDisk>, Fault> {
+    match Volume::open_volume(alloc, disks) {
+        Ok(volume) => Ok(volume.into_disks()),
+        Err((_disks, _fault)) => Err(Fault::Run),
+    }
 }
 
 // A function of the built program, so that `.ci/growth` can count what each call does.
