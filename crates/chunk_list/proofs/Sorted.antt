@@ -22,7 +22,7 @@ is_greater Less p ne = absurd (cc)
 is_greater Equal p ne = absurd (ne refl)
 is_greater Greater p ne = refl
 
-from_test : (b : Bool) → T b → IsTrue b
+pub from_test : (b : Bool) → T b → IsTrue b
 from_test true p = refl
 from_test false p = absurd p
 

@@ -1,4 +1,5 @@
 -- Where a search for the first item that does not pass a test ended; `returns x b` says that the test answers b of x.
+-- `IsLastBegun` is private.
 use Rattle.std.specs.Prelude.{ℕ, ◌+◌, ◌-◌, ◌<◌, Bool, true, false, List, length}
 use Rattle.std.specs.Global.{Vec}
 use Rattle.std.specs.Vec.{vec_items}

@@ -1,4 +1,4 @@
--- Where a key stands, or would stand, among entries that are sorted by their keys.
+-- Private words: where a key stands, or would stand, among entries that are sorted by their keys.
 use Rattle.std.specs.Prelude.{◌≡◌, ℕ, ◌-◌, ◌<◌, ◌≤◌, List, length}
 use Rattle.std.specs.List.{HoldsAt}
 use Rattle.std.specs.declared.cmp.Ordering.{Ordering}

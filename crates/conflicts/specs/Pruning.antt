@@ -1,4 +1,5 @@
 -- What is left of a list where one value may cover another: those that no other one dominates. `covers` is a preorder.
+-- `IsPreorder`, `pruned_all` and `AllCovered` are private.
 use Rattle.std.specs.Prelude.{◌≡◌, Bool, true, cond, not, ◌&&◌, List, [], ◌∷◌, ◌++◌, filter}
 use Rattle.std.specs.List.{list_any}
 use Rattle.conflicts.specs.Lists.{In}

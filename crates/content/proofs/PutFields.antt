@@ -27,7 +27,7 @@ abbrev pub AllBefore : List ℕ → Members → Type 0
 AllBefore k no_members = ⊤
 AllBefore k (member name d ms) = (slice_cmp nat_cmp name k ≡ Less) × AllBefore k ms
 
-is_less : (o : Ordering) → is_lt o ≡ true → o ≡ Less
+pub is_less : (o : Ordering) → is_lt o ≡ true → o ≡ Less
 is_less Less e = refl
 is_less Equal e = absurd (cc)
 is_less Greater e = absurd (cc)

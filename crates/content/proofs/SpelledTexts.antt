@@ -1,11 +1,10 @@
 -- One item and one field more of a text that is read as it would be written.
 use Rattle.std.proofs.Common.{◌≡◌, ℕ, ◌-◌, ◌≤◌, ◌<◌, true, List, ◌∷◌, ◌++◌, Option, Some, None, IfSome, Bor}
 use Rattle.std.proofs.Common.{IsTrue, refl, sym, ap, ◌∙◌, arith, append_assoc, append-nil, length, Less, nat_cmp}
-use Rattle.std.proofs.Common.{Ordering, Equal, Greater, []}
+use Rattle.std.proofs.Common.{[]}
 use Rattle.std.proofs.lemmas.Cmp.{nat_list_cmp_total}
 use Rattle.std.proofs.lemmas.Option.{IfSome_then}
 use Rattle.std.specs.Cmp.Lexicographic.{slice_cmp}
-use Rattle.std.specs.Ordering.{is_lt}
 use Rattle.std.specs.Prelude.{⊤}
 use Rattle.json.specs.Print.{quoted}
 use Rattle.serde_json.specs.Written.{items_text, members_text}
@@ -17,6 +16,7 @@ use Rattle.content.specs.Plain.{comes_after}
 use Rattle.content.specs.Fronts.{AreFieldsBefore, AreItemsBefore, FieldsBefore, IsBefore, IsNamed, IsValueBefore}
 use Rattle.content.specs.Fronts.{ItemsBefore}
 use Rattle.content.specs.Spelled.{IsSpelled}
+use Rattle.content.proofs.PutFields.{is_less}
 
 -- ---- values
 
@@ -120,11 +120,6 @@ pub fields_begun : (levels : ℕ) (text : List ℕ) (fs : Fields) (rest : List �
     → FieldsBefore levels text fs rest
 fields_begun levels text no_fields rest m = absurd m
 fields_begun levels text (field name t fs) rest m = (m.0, m.2, m.3 ∙ field_text name t fs rest)
-
-is_less : (o : Ordering) → IsTrue (is_lt o) → o ≡ Less
-is_less Less e = refl
-is_less Equal e = absurd (cc)
-is_less Greater e = absurd (cc)
 
 -- a name before one that stands before all of the fields stands before them too
 precedes_later : (k l : List ℕ) (fs : Fields) → slice_cmp nat_cmp k l ≡ Less → Precedes l fs → Precedes k fs

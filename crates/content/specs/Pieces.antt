@@ -1,5 +1,6 @@
 -- Private words: what is made of a text of which only some fields are made.
 use Rattle.std.specs.Prelude.{◌≡◌, ℕ, List, [], ◌∷◌, ◌++◌, map, cond}
+use Rattle.content.specs.Contents.{most_depth}
 use Rattle.content.specs.Fronts.{FieldsBefore, IsBefore}
 use Rattle.content.specs.Parts.{fields_among, is_among, part_of}
 use Rattle.content.specs.Tree.{Tree, Fields}
@@ -22,4 +23,4 @@ IsTaken names levels name text rest old new =
 
 -- the part of the tree whose text this is
 abbrev pub IsPartBefore : List (List ℕ) → List ℕ → Tree → Type 0
-IsPartBefore names text part = (t : Tree) × IsBefore 64 text t [] × (part ≡ part_of names t)
+IsPartBefore names text part = (t : Tree) × IsBefore most_depth text t [] × (part ≡ part_of names t)

@@ -1,4 +1,4 @@
--- The tree that a `Json` stands for.
+-- The tree that a `Json` stands for. `pair_of`, `items_view` and `fields_view` are private.
 use Rattle.std.specs.Prelude.{ℕ, List, [], ◌∷◌, map}
 use Rattle.content.specs.Tree.{Tree, null, boolean, whole, text, list, object, Items, no_items, item, Fields, no_fields}
 use Rattle.content.specs.Tree.{field}

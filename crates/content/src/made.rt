@@ -3,6 +3,7 @@
 //! It reads the texts that `spelled` knows, and of those its lists, objects, texts and numbers are
 //! made where they stand.
 ghost use Rattle.std.specs.Prelude.{◌≡◌, ◌<◌, ◌∷◌, [], IfOk, length};
+ghost use Rattle.content.specs.Contents.{most_depth};
 ghost use Rattle.content.specs.Fronts.{FieldsBefore, IsBefore, IsNumberBefore, ItemsBefore};
 ghost use Rattle.content.specs.TreeOf.{fields_view, items_view, tree_of};
 
@@ -17,7 +18,7 @@ use u1_base::limits::MOST_CONTENT_DEPTH;
 
 /// The root of the content whose canonical text the bytes are, if `spelled` knows it.
 pub(crate) fn made_root(alloc: Global, bytes: &[u8]) -> Result<Json, Stop>
-    ensures { IfOk result (λ root. IsBefore 64 bytes.now (tree_of root) []) }
+    ensures { IfOk result (λ root. IsBefore most_depth bytes.now (tree_of root) []) }
 {
     let (root, rest) = made_value(alloc, bytes, MOST_CONTENT_DEPTH)?;
     if rest.is_empty() {

@@ -1,4 +1,4 @@
--- What the log of a disk in memory says of its past: each call can be taken back.
+-- What the log of a disk in memory says of its past: each call can be taken back. `is_open` is private.
 use Rattle.std.specs.Prelude.{ℕ, Bool, true, false, List, [], ◌∷◌, ◌++◌, take}
 use Rattle.disk_model.specs.Disk.{Unsynced, settled, wrote, was_cut, overwritten}
 use Rattle.disk_model.specs.Device.{Moment, moment, alone}

@@ -8,7 +8,7 @@ use Rattle.std.specs.List.{HoldsAt, insert, remove}
 use Rattle.std.specs.Ordering.{is_lt, is_eq, ordering_reverse}
 use Rattle.std.specs.FinMap.Entries.{find, put, is_sorted, is_sorted-put, is_sorted-where_key}
 use Rattle.chunk_list.specs.Sorted.{StandsAt, FitsAt}
-use Rattle.chunk_list.proofs.Sorted.{fits_at, put_fits, find_fits, where_fits, put_stands, find_stands, where_stands}
+use Rattle.chunk_list.proofs.Sorted.{fits_at, from_test, put_fits, find_fits, where_fits, put_stands, find_stands, where_stands}
 use Rattle.doc_table.specs.Listed.{without}
 use Rattle.u1_base.specs.Ids.{id_cmp, same_id}
 use Rattle.u1_base.proofs.SameIds.{equal_is, id_tied}
@@ -18,10 +18,6 @@ apart : (r : Ordering) → is_eq r ≡ false → r ≢ Equal
 apart Less e same = cc
 apart Equal e same = cc
 apart Greater e same = cc
-
-so : (b : Bool) → T b → IsTrue b
-so true p = refl
-so false p = absurd p
 
 module _ {V : Type 0} where
   -- the pair at a place, and none past the end
@@ -70,7 +66,7 @@ module _ {V : Type 0} where
 
   module _ (ps : List (List ℕ × V)) (id : List ℕ) (q : ℕ) (sorted : AreSorted ps) where
     rising : IsTrue (is_sorted id_cmp ps)
-    rising = so _ sorted
+    rising = from_test _ sorted
 
     pub sorted_if_put : (new : List (List ℕ × V)) (v : V) → new ≡ put id_cmp id v ps → AreSorted new
     sorted_if_put new v is = subst (λ (pairs : List (List ℕ × V)). T (is_sorted id_cmp pairs)) (sym is)

@@ -1,4 +1,4 @@
--- An expression's value as a plain tree.
+-- An expression's value as a plain tree. `forms_of_all` is private.
 use Rattle.std.specs.Prelude.{List, map}
 use Rattle.expr_parser.specs.declared.expr.Expr.{Expr}
 use Rattle.expr_parser.specs.declared.expr.Expr.TheOpen.{Expr-F}

@@ -1,4 +1,4 @@
--- The body of an entry: one step of a history.
+-- The body of an entry: one step of a history. `step_at` and `moved_at` are private.
 use Rattle.std.specs.Prelude.{ℕ, zero, suc, ◌-◌, ◌==◌, Bool, List, [], length, if◌then◌else◌, Option, Some, None}
 use Rattle.std.specs.Prelude.{Result, Ok, Err}
 use Rattle.u1_base.specs.Places.{Place}

@@ -1,4 +1,4 @@
--- What a reader answers.
+-- What a reader answers. `IsExpression` and its `text_of` are private.
 use Rattle.std.specs.Prelude.{◌≡◌, ℕ, List, ◌++◌, codes, map, Option, Some, None, Result, Ok, Err}
 use Rattle.std.specs.Fmt.{decimal}
 use Rattle.expr_parser.specs.declared.expr.Expr.{Expr}

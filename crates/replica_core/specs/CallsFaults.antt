@@ -1,4 +1,5 @@
 -- The faults of the calls: which are failures of the commit, which of them a refusal becomes, and what is said of them.
+-- `commit_failure` is private.
 use Rattle.std.specs.Prelude.{ℕ, List, codes, Option, Some, None}
 use Rattle.conflicts.specs.Faults.{edit_fault_text, resolve_fault_text}
 use Rattle.conflicts.specs.declared.edits.EditFault.{EditFault}

@@ -1,4 +1,5 @@
--- A list of calls: what each decides, what they leave, and what a crash leaves of them.
+-- A list of calls: what each decides, what they leave, and what a crash leaves of them. `call_fault` and `bare_end` are
+-- private.
 use Rattle.std.specs.Prelude.{◌≡◌, ℕ, ◌<◌, ◌≤◌, Bool, true, false, codes, if◌then◌else◌, is_ok, List, [], ◌∷◌, ◌++◌}
 use Rattle.std.specs.Prelude.{option_to_list, Option, Some, None, Result, Ok, Err}
 use Rattle.std.specs.List.{flat_map, list_all}
