@@ -1,7 +1,7 @@
 //! Each device call of each command failing in turn: the outcome is that device's fault, and the
 //! next command finds the store as before or as after the command. A stop at that moment leaves
 //! no other store, whatever is lost then.
-use crate::checks::{Stored, are, ended, same};
+use crate::checks::{are, ended, same};
 use crate::crashes::leaves;
 use crate::harness::{BLANK, Failing, Files, Ran, run_on};
 use crate::images::{CREATED, REPLACED, image, on_the_left, prepared};
@@ -145,16 +145,13 @@ fn told_of(alloc: Global, stored: Files<'_>, command: &Command, ran: &Ran) -> Re
 
 // A stop right after the answer leaves just what was answered.
 fn stands(alloc: Global, command: &Command, ran: &mut Ran, told: &Told) -> bool {
-    match Stored::of(alloc, ran.files()) {
-        Ok(_) => leaves(
-            alloc,
-            &mut ran.disks,
-            command.question,
-            told.after.as_slice(),
-            told.after.as_slice(),
-        ),
-        Err(_) => false,
-    }
+    leaves(
+        alloc,
+        &mut ran.disks,
+        command.question,
+        told.after.as_slice(),
+        told.after.as_slice(),
+    )
 }
 
 // ---- disks

@@ -1,5 +1,6 @@
 //! The words of each command, right and wrong. A line stands for its words, which blanks part.
 mod commands;
+mod limits;
 mod wrong;
 
 use cli_words::{Command, WordsFault, read_words};

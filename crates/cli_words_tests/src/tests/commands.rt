@@ -46,6 +46,7 @@ const LINES: &[&str] = &[
     "DIR node 80 http://h/db 1 0",
     "DIR node 80 http://h/db 1000 100",
     "DIR work 0 0",
+    "DIR work 0 1",
     "DIR work 18446744073709551615 100000",
     "DIR view-create v i a* *",
     "DIR view-show v",
