@@ -12,8 +12,17 @@ use u1_base::Memory;
 use volume::append_on;
 
 impl<D: Disk> Replica for Volume<D> {
+    ghost use Rattle.std.specs.Prelude.{◌≡◌, ◌≢◌, ◌<◌, ◌≤◌, Err, IfErr, OnErr, OnOk, Some};
+    ghost use Rattle.std.specs.Result.{IsErrAnd};
+    ghost use Rattle.conflicts.specs.State.{Fits, after};
+    ghost use Rattle.disk_model.specs.Counts.{called};
+    ghost use Rattle.replica_state.specs.Held.{lists_of};
+    ghost use Rattle.replica_state.specs.Steps.{step_of};
+    ghost use Rattle.replica_core.specs.Replica.{AddsOnly, HasFailed, IsLeft, IsTooLong};
+    ghost use Rattle.replica_core.specs.Replica.{MayStand, is_disk, may_be_written, state_in};
     ghost use Rattle.replica_volume.specs.Settled.{leaves_its_state};
-    ghost use Rattle.replica_volume.specs.Volume.{IsOpenVolume, volume_crash, volume_known};
+    ghost use Rattle.replica_volume.specs.Volume.{IsOpenVolume, devices};
+    ghost use Rattle.replica_volume.specs.Volume.{volume_crash, volume_known};
 
     ghost known = { volume_known D.tells D.known };
 
@@ -30,8 +39,39 @@ impl<D: Disk> Replica for Volume<D> {
     }
 
     /// All memory is taken before a disk is called. The disks are given four calls: write, sync,
-    /// write, sync.
-    fn commit(&mut self, step: Step) -> Result<(), CommitFault> {
+    /// write, sync. At `Full` and `Memory` no disk was called.
+    fn commit(&mut self, step: Step) -> Result<(), CommitFault>
+        requires ready { IsOpenVolume D.tells D.known self.old }
+        requires fits { Fits (state_in (volume_known D.tells D.known self.old)) (step_of step) }
+        ensures ok { OnOk result
+            ((state_in (volume_known D.tells D.known self.new)
+            ≡ after (state_in (volume_known D.tells D.known self.old)) (step_of step))
+            × IsOpenVolume D.tells D.known self.new) }
+        ensures cause { IfErr result (HasFailed (volume_known D.tells D.known self.old)
+            (volume_known D.tells D.known self.new) (Some (step_of step))) }
+        ensures too_long { (volume_known D.tells D.known self.old).limit
+            < (volume_known D.tells D.known self.old).need (step_of step)
+            → IsErrAnd result (IsTooLong (volume_known D.tells D.known self.old) (step_of step)) }
+        ensures state { OnErr result (lists_of (volume_known D.tells D.known self.new).state
+            ≡ lists_of (volume_known D.tells D.known self.old).state) }
+        ensures left { IfErr result (λ fault. IsLeft (volume_known D.tells D.known self.old)
+            (volume_known D.tells D.known self.new) (IsOpenVolume D.tells D.known self.new)
+            (is_disk fault)) }
+        ensures any_moment { AddsOnly (volume_known D.tells D.known)
+            (volume_crash D.tells D.known) self.old self.new
+            (MayStand (state_in (volume_known D.tells D.known self.old)) (Some (step_of step))
+            (may_be_written result)) }
+        ensures limit { (volume_known D.tells D.known self.new).limit
+            ≡ (volume_known D.tells D.known self.old).limit }
+        ensures later { (volume_known D.tells D.known self.old).faults
+            ≤ (volume_known D.tells D.known self.new).faults }
+        ensures calls { OnOk result
+            ((devices D.known self.new).made ≡ called 4 (devices D.known self.old).made) }
+        ensures most_calls { (devices D.known self.new).made
+            ≤ called 4 (devices D.known self.old).made }
+        ensures untouched { OnErr result (result ≢ Err CommitFault.Disk
+            → devices D.known self.new ≡ devices D.known self.old) }
+    {
         let encoded = self.spell(&step)?;
         let prepared = self.state.prepare(step)?;
         match append_on(

@@ -24,8 +24,10 @@ pub(crate) struct Made {
     pub(crate) uids: Uids,
 }
 
-/// Makes the steps that the image's bodies say, one after the other. No body is copied, and no
-/// step is kept when it has been made. The indexes are still to be built.
+/// Makes the steps that the image's bodies say, one after the other. No body is copied. The log and
+/// the positions have each step at once; what a document accepts may wait in `Replay`, and no step
+/// is kept once it was applied. The last acceptances are still to be applied, and the indexes to be
+/// built.
 ///
 /// The place of `Bad` is that of a byte of the file.
 pub(crate) fn replay(alloc: Global, image: &Stored) -> Result<Made, RecordFault>
