@@ -23,23 +23,27 @@ const WRONG: [Row; 16] = [
     ("resolve d1 a:1 b:1|a:1", b"{}", "usage 4\n", 2),
     ("range i open []", b"", "usage 4\n", 2),
     ("changes 01", b"", "usage 2\n", 2),
-    ("view-show v", b"", "usage\n", 2),
+    ("view-show", b"", "usage\n", 2),
 ];
 
 // Each is refused by the first cause, though there are others.
-const OVER_NO_STORE: [Row; 5] = [
+const OVER_NO_STORE: [Row; 8] = [
     ("create a~b", b"[]", "usage 2\n", 2),
     ("create d1", b"[]", "refused no-database\n", 1),
     ("index-create i lower(", b"", "refused no-database\n", 1),
     ("compact", b"", "refused no-database\n", 1),
     ("sync http://host/db", b"", "refused not-built\n", 1),
+    ("view-create v i a*", b"", "refused not-built\n", 1),
+    ("view-show v", b"", "refused not-built\n", 1),
+    ("view-delete v", b"", "refused not-built\n", 1),
 ];
 
-const OVER_A_DAMAGED_ONE: [Row; 4] = [
+const OVER_A_DAMAGED_ONE: [Row; 5] = [
     ("create a~b", b"[]", "usage 2\n", 2),
     ("create d1", b"[]", "damaged left 24\n", 3),
     ("init db a", b"", "refused database-exists\n", 1),
     ("compact", b"", "damaged left 24\n", 3),
+    ("view-show v", b"", "refused not-built\n", 1),
 ];
 
 const OVER_A_STORE: [Row; 6] = [

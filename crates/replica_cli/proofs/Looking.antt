@@ -1,8 +1,8 @@
 -- A store that was looked at, or moved to the present format: what stands is what stood, and a crash leaves no more
 -- than it might.
 use Rattle.std.specs.Prelude.{IsTrue}
-use Rattle.std.proofs.Common.{◌≡◌, inl, ℕ, ◌<◌, ◌≤◌, Bool, true, false, if◌then◌else◌, List, [], length, Option, refl}
-use Rattle.std.proofs.Common.{sym, ◌∙◌, ap, subst, arith, length-append}
+use Rattle.std.proofs.Common.{◌≡◌, inl, ℕ, ◌<◌, ◌≤◌, Bool, true, false, if◌then◌else◌, List, [], length, Option, Some}
+use Rattle.std.proofs.Common.{refl, sym, ◌∙◌, ap, subst, arith, length-append}
 use Rattle.conflicts.specs.State.{State}
 use Rattle.disks.specs.declared.trio.Trio.{Trio}
 use Rattle.disks.specs.Joint.{AreCrashImages, Devices, JointMoment, now_of, seen_of}
@@ -14,10 +14,10 @@ use Rattle.replica_volume.specs.Settled.{now_at}
 use Rattle.replica_volume.specs.Store.{MayOpenAs, opens_as}
 use Rattle.replica_volume.specs.Volume.{moments}
 use Rattle.store_commands.specs.Changes.{HasLimit, IsNow, Passes, limit_of}
-use Rattle.store_commands.specs.Found.{Found, in_short}
+use Rattle.store_commands.specs.Found.{Found, IsUntouched, in_short}
 use Rattle.store_commands.specs.Store.{Finds, FindsSome}
 use Rattle.volume.specs.Crashes.{OnlyLooks}
-use Rattle.replica_cli.specs.Store.{found_in, store_seen}
+use Rattle.replica_cli.specs.Store.{bytes_of, found_in, store_seen}
 use Rattle.replica_cli.proofs.Files.{now_if, own_limit, told_if}
 
 pub told_at : (tells : Bool) (d : Devices) → IsTrue tells → moments tells d ≡ length d.past
@@ -88,11 +88,13 @@ only_looked old new looks = record {
       (λ files images. (files, images, refl));
 }
 
+-- whatever is told of the bytes then
 pub looked : (tells : Bool) (old new : Devices) (found : Found) (told : Option Found)
+    (bytes : Option (List (List ℕ)))
     → IsNow (in_short found) (limit_of found []) told
     → (IsTrue tells → Stays old new) → old.faults ≤ new.faults
-    → Passes found [] 0 0 (store_seen tells old) (record (store_seen tells new) { found = told })
-looked tells old new found told now stays faults = record {
+    → Passes found [] 0 0 (store_seen tells old) (record (store_seen tells new) { found = told; bytes = bytes })
+looked tells old new found told bytes now stays faults = record {
   stood_reached = omega arith;
   within = omega arith;
   later = later_if tells old new (λ t. grows old new (AsBefore old) (stays t).run);
@@ -110,26 +112,36 @@ pub looked_as : (tells : Bool) (old new : Devices) (found : Found)
     → (IsTrue tells → Stays old new) → old.faults ≤ new.faults
     → Passes found [] 0 0 (store_seen tells old) (store_seen tells new)
 looked_as tells old new found is stays faults =
-    looked tells old new found (store_seen tells new).found
+    looked tells old new found (store_seen tells new).found (store_seen tells new).bytes
     (now_if tells (found_in (seen_of new.files)) (in_short found) (limit_of found [])
     (λ t. subst (λ (f : Found). (in_short f ≡ in_short found) × HasLimit (limit_of found []) f)
     (sym ((stays t).found ∙ is t)) (refl, own_limit found)))
     stays faults
 
+-- the bytes are those that were there
+pub untouched : (tells : Bool) (old new : Devices) → (IsTrue tells → OnlyLooks old new)
+    → IsUntouched (store_seen tells old) (store_seen tells new)
+untouched true old new looks = ap (λ (files : Trio (List ℕ)). Some (bytes_of files)) (looks refl).seen
+untouched false old new looks = refl
+
 pub finds : (tells : Bool) (old new : Devices) (found : Found) → (IsTrue tells → found_in (seen_of old.files) ≡ found)
-    → (IsTrue tells → Stays old new) → old.faults ≤ new.faults
+    → (IsTrue tells → OnlyLooks old new) → old.faults ≤ new.faults
     → Finds found (store_seen tells old) (store_seen tells new)
-finds tells old new found is stays faults = record {
+finds tells old new found is looks faults = record {
   told = told_if tells (found_in (seen_of old.files)) found is;
-  keeps = looked_as tells old new found is stays faults;
+  keeps = looked_as tells old new found is (λ t. only_looked old new (looks t)) faults;
+  untouched = untouched tells old new looks;
 }
 
 pub finds_some : (tells : Bool) (old new : Devices) → (IsTrue tells → Stays old new) → old.faults ≤ new.faults
     → FindsSome (store_seen tells old) (store_seen tells new)
 finds_some tells old new stays faults =
     let found = found_in (seen_of old.files) in
-    let f = finds tells old new found (λ t. refl) stays faults in
-    record { found = found; told = f.told; keeps = f.keeps }
+    record {
+      found = found;
+      told = told_if tells found found (λ t. refl);
+      keeps = looked_as tells old new found (λ t. refl) stays faults;
+    }
 
 -- nothing was called
 pub no_call : (d : Devices) → Stays d d

@@ -18,7 +18,7 @@ use Rattle.replica_volume.specs.Store.{MayOpenAs, opens_as}
 use Rattle.replica_volume.specs.Volume.{IsOpenVolume, devices}
 use Rattle.replica_volume.specs.declared.replica.Volume.{Volume}
 use Rattle.store_commands.specs.Changes.{Change, HasLimit, IsAfterSome, IsNow, Made, Passes, after_all}
-use Rattle.store_commands.specs.Found.{Blank, Damaged, Found, Stands, in_short}
+use Rattle.store_commands.specs.Found.{Blank, Damaged, Found, IsUntouched, Stands, in_short}
 use Rattle.store_commands.specs.Store.{BreaksOff, Exists, FindsSome, MadeAnew, Makes, is_blank, making}
 use Rattle.std.specs.Result.{IsErrOf}
 use Rattle.u1_base.specs.Causes.{HasCauseOf, Rose}
@@ -170,13 +170,14 @@ pub exists : (tells : Bool) (old new : Devices) → (IsTrue tells → old.files.
     → Exists (store_seen tells old) (store_seen tells new)
 exists tells old new some looks later =
     let f = found_in (seen_of old.files) in
-    let x = finds tells old new (shown tells f) (shown_is tells f) (λ t. only_looked old new (looks t)) later in
+    let x = finds tells old new (shown tells f) (shown_is tells f) looks later in
     record {
       found = shown tells f;
       told = x.told;
       keeps = x.keeps;
       there =
           shown_some tells f (λ t. some_in (seen_of old.files) (some t));
+      untouched = x.untouched;
     }
 
 -- ---- it was made
@@ -222,7 +223,11 @@ fails_to_make tells known head before after root init.Disk told m run looks left
     breaks_off tells head (disks_known known before) (disks_known known after) run looks left_now cause.later
     (cause.failed refl)
 fails_to_make tells known head before after root init.Memory told m run looks left_now untouched cause =
-    subst (λ (d : Disks _). FindsSome (store_seen tells (disks_known known before))
-    (store_seen tells (disks_known known d))) (sym (untouched refl))
-    (finds_some tells (disks_known known before) (disks_known known before) (λ t. no_call (disks_known known before))
-    (omega arith))
+    subst (λ (d : Disks _).
+    FindsSome (store_seen tells (disks_known known before)) (store_seen tells (disks_known known d))
+    × IsUntouched (store_seen tells (disks_known known before)) (store_seen tells (disks_known known d)))
+    (sym (untouched refl)) (
+      finds_some tells (disks_known known before) (disks_known known before) (λ t. no_call (disks_known known before))
+          (omega arith),
+      refl,
+    )

@@ -92,6 +92,14 @@ volume_image tells known v = image_seen tells (devices known v)
 
 -- ---- the store
 
+-- the bytes of the three files, in the order root, left, right
+abbrev pub bytes_of : Trio (List ℕ) → List (List ℕ)
+bytes_of files = files.root ∷ files.left ∷ files.right ∷ []
+
+-- the same as reads give them, where contracts can see them
+abbrev pub bytes_seen : Bool → Devices → Option (List (List ℕ))
+bytes_seen tells d = if tells then Some (bytes_of (seen_of d.files)) else None
+
 -- What is known of a store by what is known of its three disks. Where contracts cannot see their bytes only the count
 -- of their faults is known.
 abbrev pub store_seen : Bool → Devices → Store
@@ -100,6 +108,7 @@ store_seen tells d = record {
   crash = λ k o. IsTrue tells × MayOpenAs (moment_at d k) o;
   moment = moments tells d;
   faults = d.faults;
+  bytes = bytes_seen tells d;
 }
 
 abbrev pub store_known : {D : Type 0} → Bool → (D → Device) → StoreOnDisks D → Store

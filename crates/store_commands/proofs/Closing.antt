@@ -1,5 +1,6 @@
 -- A store that was open, once it is closed.
-use Rattle.std.proofs.Common.{◌≡◌, ℕ, ◌≤◌, take, Option, Some, None, Result, true, refl, ◌∙◌, inl, ⊎_elim, arith}
+use Rattle.std.proofs.Common.{◌≡◌, ℕ, ◌≤◌, take, Option, Some, None, Result, true, true≢false, refl, ◌∙◌, inl, ⊎_elim}
+use Rattle.std.proofs.Common.{arith}
 use Rattle.cli_words.specs.declared.command.Command.{Command}
 use Rattle.conflicts.specs.State.{State}
 use Rattle.link.specs.Streams.{Input, Output}
@@ -106,13 +107,13 @@ module _ (found : Found) (a : Result Deed Outcome) (unread : Type 0) (before : S
     part Done leaves = settled_part Done (leaves.3 (inl refl))
         (leaves.0, leaves.1, leaves.2, λ rests. closed_settled stood (leaves.3 (inl refl)))
     part (Usage kind) leaves = settled_part (Usage kind) (leaves.1 (inl refl))
-        (leaves.0, λ rests. closed_settled stood (leaves.1 (inl refl)))
+        (leaves.0, λ rests. closed_settled stood (leaves.1 (inl refl)), λ shut. absurd (true≢false shut))
     part (BadContent fault) leaves = settled_part (BadContent fault) (leaves.1 (inl refl))
         (leaves.0, λ rests. closed_settled stood (leaves.1 (inl refl)))
     part (Refused refusal) leaves = settled_part (Refused refusal) (leaves.1 (inl refl))
-        (leaves.0, λ rests. closed_settled stood (leaves.1 (inl refl)))
+        (leaves.0, λ rests. closed_settled stood (leaves.1 (inl refl)), λ shut. absurd (true≢false shut))
     part (Damaged disk place) leaves = settled_part (Damaged disk place) (leaves.1 (inl refl))
-        (leaves.0, λ rests. closed_settled stood (leaves.1 (inl refl)))
+        (leaves.0, λ rests. closed_settled stood (leaves.1 (inl refl)), λ shut. absurd (true≢false shut))
     part (StoreFull need limit) leaves = settled_part (StoreFull need limit) (leaves.2 (inl refl))
         (leaves.0, leaves.1, λ rests. closed_settled stood (leaves.2 (inl refl)))
     part DiskFault leaves =
@@ -132,7 +133,7 @@ module _ (found : Found) (a : Result Deed Outcome) (unread : Type 0) (before : S
     part (BrokenReply line) leaves = absurd leaves
     part (LogCheck mine theirs) leaves = absurd leaves
     part Memory leaves = settled_part Memory (leaves.1 (inl refl))
-        (leaves.0, λ rests. closed_settled stood (leaves.1 (inl refl)))
+        (leaves.0, λ rests. closed_settled stood (leaves.1 (inl refl)), λ shut. absurd (true≢false shut))
 
   pub closed : (decided : Outcome) → Does found true a unread before (opened_as known crash) decided
       → Does found true a unread before after decided

@@ -1,5 +1,5 @@
 -- A store that was compacted, or not.
-use Rattle.std.proofs.Common.{◌≡◌, ℕ, ◌≤◌, [], Option, Result, Ok, Err, refl, ap, ◌∙◌, inr, arith}
+use Rattle.std.proofs.Common.{◌≡◌, ℕ, ◌≤◌, [], Option, Result, Ok, Err, true≢false, refl, ap, ◌∙◌, inr, arith}
 use Rattle.conflicts.specs.State.{State}
 use Rattle.link.specs.Streams.{Output}
 use Rattle.replica_core.specs.Replica.{Found as Left, Known, state_in, Stands as LeftStands}
@@ -92,7 +92,11 @@ module _ {O : Type 0} (known : O → Known) (is_open : O → Type 0) (crash : O 
         stood = 0;
         reached = 0;
         passes = passes (Err (fault.Damaged disk place)) done;
-        leaves = (refl, λ can. rests (Err (fault.Damaged disk place)) done done.ends.0);
+        leaves = (
+          refl,
+          λ can. rests (Err (fault.Damaged disk place)) done done.ends.0,
+          λ shut. absurd (true≢false shut),
+        );
       };
       answers = (refl, refl);
     };
@@ -115,7 +119,7 @@ module _ {O : Type 0} (known : O → Known) (is_open : O → Type 0) (crash : O 
         stood = 0;
         reached = 0;
         passes = passes (Err fault.Memory) done;
-        leaves = (refl, λ can. rests (Err fault.Memory) done done.ends.0);
+        leaves = (refl, λ can. rests (Err fault.Memory) done done.ends.0, λ shut. absurd (true≢false shut));
       };
       answers = (refl, refl);
     };

@@ -1,6 +1,6 @@
 -- The exits of a command over an open replica, whatever it does.
 use Rattle.std.proofs.Common.{◌≡◌, ℕ, ◌<◌, ◌≤◌, List, [], ◌∷◌, Some, Result, Ok, Err, true, false, refl, ap, ◌∙◌, inr}
-use Rattle.std.proofs.Common.{⊎_elim, arith}
+use Rattle.std.proofs.Common.{true≢false, ⊎_elim, arith}
 use Rattle.std.specs.Prelude.{IsTrue}
 use Rattle.u1_base.specs.Causes.{Rose}
 use Rattle.conflicts.specs.State.{State, Step, after}
@@ -51,7 +51,7 @@ module _ {R : Type 0} (known : R → Known) (is_open : R → Type 0) (crash : R 
       reached = 0;
       passes =
           unmoved (found_open (known r)) (changes_of a) (seen r) (open_now (known r) (changes_of a));
-      leaves = (is, λ rests. at_rest r ready);
+      leaves = (is, λ rests. at_rest r ready, λ shut. absurd (true≢false shut));
     };
     answers = (refl, refl);
   }
@@ -65,7 +65,7 @@ module _ {R : Type 0} (known : R → Known) (is_open : R → Type 0) (crash : R 
       reached = 0;
       passes =
           unmoved (found_open (known r)) (changes_of a) (seen r) (open_now (known r) (changes_of a));
-      leaves = (refl, λ rests. at_rest r ready);
+      leaves = (refl, λ rests. at_rest r ready, λ shut. absurd (true≢false shut));
     };
     answers = (refl, refl);
   }
@@ -217,8 +217,11 @@ module _ {R : Type 0} (known : R → Known) (is_open : R → Type 0) (crash : R 
         stood = 0;
         reached = 0;
         passes = not_stepped same adds;
-        leaves =
-            (refl, λ rests o crashed. settled new o ready crashed ∙ same_state same);
+        leaves = (
+          refl,
+          λ rests o crashed. settled new o ready crashed ∙ same_state same,
+          λ shut. absurd (true≢false shut),
+        );
       };
       answers = (refl, refl);
     })

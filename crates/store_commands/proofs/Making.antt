@@ -21,7 +21,8 @@ use Rattle.store_commands.specs.Carries.{Answers, Carried, TellsMade}
 use Rattle.store_commands.specs.Changes.{Passes}
 use Rattle.store_commands.specs.Compacting.{Image}
 use Rattle.store_commands.specs.Deeds.{Deed, and_then, init_deed, limit_given, uid_made}
-use Rattle.store_commands.specs.Found.{Blank, Damaged as DamagedStore, Found, HasLists, IsTold, Stands, Store}
+use Rattle.store_commands.specs.Found.{Blank, Damaged as DamagedStore, Found, HasLists, IsTold, IsUntouched, Stands}
+use Rattle.store_commands.specs.Found.{Store}
 use Rattle.store_commands.specs.Leaves.{Does, IsRead}
 use Rattle.store_commands.specs.Run.{HasAnswer, IsAnswered, IsUnread, LeavesUntouched}
 use Rattle.store_commands.specs.Store.{Keeps, Makes, is_blank, making}
@@ -138,9 +139,9 @@ module _ (name : Text) (uid : Option Uid) (limit : Option ℕ) (seed : ℕ) (bef
 
   -- there is a store
   exists : (found : Found) → IsTold before.found found → Keeps found before after → is_blank found ≡ false
-      → (result ≡ Err (Refused DatabaseExists)) × (out_after ≡ out_before) → Ran
-  exists Blank told keeps there tells = true_not_false there
-  exists (DamagedStore disk place) told keeps there tells =
+      → IsUntouched before after → (result ≡ Err (Refused DatabaseExists)) × (out_after ≡ out_before) → Ran
+  exists Blank told keeps there untouched tells = true_not_false there
+  exists (DamagedStore disk place) told keeps there untouched tells =
       ran (DamagedStore disk place) (Refused DatabaseExists) (Err (Refused DatabaseExists)) false told
       (inl (answered (DamagedStore disk place) (λ goes_on. tt)))
       (record {
@@ -148,12 +149,18 @@ module _ (name : Text) (uid : Option Uid) (limit : Option ℕ) (seed : ℕ) (bef
         reached = 0;
         passes = keeps;
         leaves =
-            (refl, stays (DamagedStore disk place) before after keeps);
+            (refl, stays (DamagedStore disk place) before after keeps, λ shut. untouched);
       }) tells
-  exists (Stands x) told keeps there tells =
+  exists (Stands x) told keeps there untouched tells =
       ran (Stands x) (Refused DatabaseExists) (Err (Refused DatabaseExists)) false told
       (inl (answered (Stands x) (λ goes_on. false_not_true goes_on)))
-      (record { stood = 0; reached = 0; passes = keeps; leaves = (refl, stays (Stands x) before after keeps) }) tells
+      (record {
+        stood = 0;
+        reached = 0;
+        passes = keeps;
+        leaves =
+            (refl, stays (Stands x) before after keeps, λ shut. untouched);
+      }) tells
 
   -- a disk failed where there was a store
   broke_off : (found : Found) (stood reached : ℕ) → IsTold before.found found
@@ -186,16 +193,17 @@ module _ (name : Text) (uid : Option Uid) (limit : Option ℕ) (seed : ℕ) (bef
         leaves =
             ((deed, refl), refl, λ need most over. over.3, λ rests. makes.settled);
       }) tells
-  made_so (Err fault.Exists) makes tells = exists makes.found makes.told makes.keeps makes.there tells
+  made_so (Err fault.Exists) makes tells =
+      exists makes.found makes.told makes.keeps makes.there makes.untouched tells
   made_so (Err fault.Disk) makes tells =
       breaks makes.found makes.stood makes.reached makes.told makes.passes makes.rose tells
   made_so (Err fault.Memory) makes tells =
-      ran makes.found Memory (Err Memory) false makes.told
+      ran makes.0.found Memory (Err Memory) false makes.0.told
       (inr (record { broke = tt; is = refl; closed = refl; unread = refl }))
       (record {
         stood = 0;
         reached = 0;
-        passes = makes.keeps;
+        passes = makes.0.keeps;
         leaves =
-            (refl, stays makes.found before after makes.keeps);
+            (refl, stays makes.0.found before after makes.0.keeps, λ shut. makes.1);
       }) tells

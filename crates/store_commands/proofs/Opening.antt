@@ -1,5 +1,6 @@
 -- A command from the opening of its store on.
-use Rattle.std.proofs.Common.{◌≡◌, ℕ, List, [], Result, Ok, Err, true, false, refl, sym, ap, ◌∙◌, inl, inr}
+use Rattle.std.proofs.Common.{◌≡◌, ℕ, List, [], Result, Ok, Err, true, false, true≢false, refl, sym, ap, ◌∙◌, inl}
+use Rattle.std.proofs.Common.{inr}
 use Rattle.std.specs.Prelude.{Bool, Option, is_ok}
 use Rattle.cli_words.specs.declared.command.Command.{Command}
 use Rattle.cli_words.specs.declared.command.Command.TheVariants.{Compact}
@@ -47,10 +48,10 @@ looked_then found a unread other first second third decided read looked does = r
     part : (decided : Outcome) → Leaves found true a unread does.stood does.reached second third decided
         → Leaves found true a other does.stood does.reached first third decided
     part Done leaves = (leaves.0, leaves.1, leaves.2, λ rests. leaves.3 (inl refl))
-    part (Usage kind) leaves = (leaves.0, λ rests. leaves.1 (inl refl))
+    part (Usage kind) leaves = (leaves.0, λ rests. leaves.1 (inl refl), λ shut. absurd (true≢false shut))
     part (BadContent given) leaves = (leaves.0, λ rests. leaves.1 (inl refl))
-    part (Refused refusal) leaves = (leaves.0, λ rests. leaves.1 (inl refl))
-    part (Damaged disk place) leaves = (leaves.0, λ rests. leaves.1 (inl refl))
+    part (Refused refusal) leaves = (leaves.0, λ rests. leaves.1 (inl refl), λ shut. absurd (true≢false shut))
+    part (Damaged disk place) leaves = (leaves.0, λ rests. leaves.1 (inl refl), λ shut. absurd (true≢false shut))
     part (StoreFull need limit) leaves = (leaves.0, leaves.1, λ rests. leaves.2 (inl refl))
     part DiskFault leaves = Rose-since first.faults second.faults third.faults looked.faults leaves
     part SourceFault leaves = (read leaves.0, leaves.1, λ rests. leaves.2 (inl refl))
@@ -60,7 +61,7 @@ looked_then found a unread other first second third decided read looked does = r
     part (Peer status) leaves = absurd leaves
     part (BrokenReply line) leaves = absurd leaves
     part (LogCheck mine theirs) leaves = absurd leaves
-    part Memory leaves = (leaves.0, λ rests. leaves.1 (inl refl))
+    part Memory leaves = (leaves.0, λ rests. leaves.1 (inl refl), λ shut. absurd (true≢false shut))
 
 -- a command that opens a store finds its lists
 opened_lists : (command : Command) (x_known : Known) → built command ≡ Ok tt → makes_store command ≡ false
@@ -210,10 +211,10 @@ module _ (command : Command) (seed : ℕ) (before after : Store) (image_before i
       (record { store = after; image = image_after; input = input }) out out (Err (open_end given))
   unopened fault.Blank finds =
       unwanted Blank (Refused NoDatabase) (rw (is_built, no_making) refl) tt finds refl
-      (refl, stays Blank before after finds.keeps) (refl, refl)
+      (refl, stays Blank before after finds.keeps, λ shut. finds.untouched) (refl, refl)
   unopened (fault.Damaged disk place) finds =
       unwanted (DamagedStore disk place) (Damaged disk place) (rw (is_built, no_making) refl) tt finds refl
-      (refl, stays (DamagedStore disk place) before after finds.keeps) (refl, refl)
+      (refl, stays (DamagedStore disk place) before after finds.keeps, λ shut. finds.untouched) (refl, refl)
   unopened fault.Disk finds = ended DiskFault finds.0 tt (unread_of finds.0.found) finds.1 (refl, refl)
-  unopened fault.Memory finds = ended Memory finds tt (unread_of finds.found)
-      (refl, stays finds.found before after finds.keeps) (refl, refl)
+  unopened fault.Memory finds = ended Memory finds.0 tt (unread_of finds.0.found)
+      (refl, stays finds.0.found before after finds.0.keeps, λ shut. finds.1) (refl, refl)

@@ -1,6 +1,6 @@
 -- A command with its input.
 use Rattle.std.proofs.Common.{◌≡◌, ◌≢◌, ℕ, List, [], Some, None, Result, Ok, Err, true, false, refl, sym, ap}
-use Rattle.std.proofs.Common.{append-nil}
+use Rattle.std.proofs.Common.{append-nil, true≢false}
 use Rattle.std.specs.Prelude.{Bool, Option}
 use Rattle.std.specs.Result.{IsErrOf}
 use Rattle.u1_base.specs.Causes.{Rose}
@@ -245,7 +245,11 @@ module _ {R : Type 0} (known : R → Known) (is_open : R → Type 0) (crash : R 
             reached = 0;
             passes = unmoved (found_open (known r)) (changes_of a) (opened_as (known r) (crash r))
                 (open_now (known r) (changes_of a));
-            leaves = (refl, λ rests. at_rest known is_open crash settled r ready);
+            leaves = (
+              refl,
+              λ rests. at_rest known is_open crash settled r ready,
+              λ shut. absurd (true≢false shut),
+            );
           };
           input = taken.2;
           is_read = rw reads taken.2.front;

@@ -67,10 +67,6 @@ not_yet : (outcome : Outcome) → ◌≡◌ {A = Result (Unit {0}) Outcome} (Err
     → EndsUnbuilt outcome
 not_yet outcome is = let e : outcome ≡ Refused NotBuilt = cc in inl e
 
-no_command : (outcome : Outcome) → ◌≡◌ {A = Result (Unit {0}) Outcome} (Err (Usage Words)) (Err outcome)
-    → EndsUnbuilt outcome
-no_command outcome is = let e : outcome ≡ Usage Words = cc in inr e
-
 built_ends : (given : Command) (outcome : Outcome) → built given ≡ Err outcome → EndsUnbuilt outcome
 built_ends (command.Init name uid limit) outcome is = inr (if_usage (is_limit (limit_given limit)) outcome is)
 built_ends (command.Create id) outcome is = is_built outcome is
@@ -95,9 +91,9 @@ built_ends (command.Serve port count) outcome is = not_yet outcome is
 built_ends (command.ServeDocs port count) outcome is = not_yet outcome is
 built_ends (command.Node port with rounds between) outcome is = not_yet outcome is
 built_ends (command.Work seed count) outcome is = not_yet outcome is
-built_ends (command.ViewCreate name index values) outcome is = no_command outcome is
-built_ends (command.ViewShow name) outcome is = no_command outcome is
-built_ends (command.ViewDelete name) outcome is = no_command outcome is
+built_ends (command.ViewCreate name index values) outcome is = not_yet outcome is
+built_ends (command.ViewShow name) outcome is = not_yet outcome is
+built_ends (command.ViewDelete name) outcome is = not_yet outcome is
 
 -- ---- the run
 
@@ -115,7 +111,7 @@ module _ (given : Command) (seed : ℕ) (store : Store) (image : Option Image) (
 
   same : LeavesUntouched given (record { store = store; image = image; input = input })
       (record { store = store; image = image; input = input })
-  same not = (record { found = refl; crash = λ k o crashed. crashed; moment = refl; faults = refl }, refl, refl)
+  same not = (record { found = refl; crash = λ k o crashed. crashed; moment = refl; faults = refl; bytes = refl }, refl, refl)
 
   at_rest : (false ≡ true) ⊎ IsSettled (in_short (found_or store.found)) store
       → IsSettled (in_short (found_or store.found)) store
@@ -160,6 +156,6 @@ module _ (given : Command) (seed : ℕ) (store : Store) (image : Option Image) (
       (record { store = store; image = image; input = input }) out out (Err outcome)
   unbuilt outcome is =
       ⊎_elim
-      (λ refused. rw refused (not_built (Refused NotBuilt) (rw refused at is) refl (refl, at_rest) (refl, refl)))
-      (λ usage. rw usage (not_built (Usage Words) (rw usage at is) refl (refl, at_rest) (refl, refl)))
+      (λ refused. rw refused (not_built (Refused NotBuilt) (rw refused at is) refl (refl, at_rest, λ shut. refl) (refl, refl)))
+      (λ usage. rw usage (not_built (Usage Words) (rw usage at is) refl (refl, at_rest, λ shut. refl) (refl, refl)))
       (built_ends given outcome is)

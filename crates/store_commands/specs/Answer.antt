@@ -39,8 +39,8 @@ pub record Occasion : Type 0 where
 abbrev pub most_input : ℕ
 most_input = most_bytes + 1
 
--- ---- BUILT: a command of a later version is refused, and nothing is touched for it; nor for what is no command here:
--- one on views, an index of no expression or of more than eight, and a store of a limit that no store has
+-- ---- BUILT: a command of a later version is refused, and nothing is touched for it; nor for what is not a command: an
+-- index of no expression or of more than eight, and a store of a limit that no store has
 
 abbrev pub has_exprs : List Text → Bool
 has_exprs exprs = nat_le 1 (length exprs) && nat_le (length exprs) most_exprs
@@ -56,9 +56,9 @@ built (command.Serve port count) = Err (outcome.Refused refusal.NotBuilt)
 built (command.ServeDocs port count) = Err (outcome.Refused refusal.NotBuilt)
 built (command.Node port with rounds between) = Err (outcome.Refused refusal.NotBuilt)
 built (command.Work seed count) = Err (outcome.Refused refusal.NotBuilt)
-built (command.ViewCreate name index values) = Err (outcome.Usage usage.Words)
-built (command.ViewShow name) = Err (outcome.Usage usage.Words)
-built (command.ViewDelete name) = Err (outcome.Usage usage.Words)
+built (command.ViewCreate name index values) = Err (outcome.Refused refusal.NotBuilt)
+built (command.ViewShow name) = Err (outcome.Refused refusal.NotBuilt)
+built (command.ViewDelete name) = Err (outcome.Refused refusal.NotBuilt)
 built _ = Ok tt
 
 -- the texts of a command's index expressions

@@ -1,5 +1,5 @@
 -- What opening a store finds, and what is known of a store at a moment.
-use Rattle.std.specs.Prelude.{◌≡◌, ℕ, Option, Some, None}
+use Rattle.std.specs.Prelude.{◌≡◌, ℕ, List, Option, Some, None}
 use Rattle.conflicts.specs.State.{State, Step}
 use Rattle.disks.specs.declared.name.DiskName.{DiskName}
 use Rattle.replica_state.specs.Held.{Held, Lists, lists_of, meaning}
@@ -25,17 +25,22 @@ in_short (Damaged disk place) = LeftDamaged
 in_short (Stands x) = LeftStands x.state
 
 -- What is known of a store: what opening would find, where its disks tell it; what a crash at each moment leaves; its
--- moment; and how often its disks failed.
+-- moment; how often its disks failed; and the bytes that reads give of each of its files, where contracts can see them.
 pub record Store : Type 1 where
   pub found : Option Found
   pub crash : ℕ → Left State → Type 0
   pub moment : ℕ
   pub faults : ℕ
+  pub bytes : Option (List (List ℕ))
 
 -- what is told, if anything is, is this
 abbrev pub IsTold : Option Found → Found → Type 0
 IsTold None found = Unit {0}
 IsTold (Some told) found = told ≡ found
+
+-- reads give of each file what they gave before, where contracts can see it
+abbrev pub IsUntouched : Store → Store → Type 0
+IsUntouched before after = after.bytes ≡ before.bytes
 
 -- these are the sorted lists of what stands there, if something does
 abbrev pub HasLists : Found → Lists → Type 0
@@ -48,7 +53,13 @@ HasLists (Stands x) lists = (held : Held) × (meaning held ≡ x.state) × (list
 abbrev pub standing_in : Known → Standing
 standing_in known = record { state = state_in known; need = known.need; limit = known.limit }
 
--- it tells what stands in it
+-- it tells what stands in it, and no bytes
 abbrev pub opened_as : Known → (ℕ → Left State → Type 0) → Store
 opened_as known crash =
-    record { found = Some (Stands (standing_in known)); crash = crash; moment = known.moment; faults = known.faults }
+    record {
+      found = Some (Stands (standing_in known));
+      crash = crash;
+      moment = known.moment;
+      faults = known.faults;
+      bytes = None;
+    }

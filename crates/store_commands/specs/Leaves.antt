@@ -1,5 +1,5 @@
 -- How a run is decided: the cause of each outcome, and what it leaves. No outcome leaves anything free.
-use Rattle.std.specs.Prelude.{◌≡◌, ◌⊎◌, ℕ, ◌<◌, Bool, true, List, ◌∷◌, length, take, Result, Ok, Err}
+use Rattle.std.specs.Prelude.{◌≡◌, ◌⊎◌, ℕ, ◌<◌, Bool, true, false, List, ◌∷◌, length, take, Result, Ok, Err}
 use Rattle.u1_base.specs.Causes.{Rose}
 use Rattle.conflicts.specs.State.{Step}
 use Rattle.link.specs.Streams.{IsFront}
@@ -11,7 +11,7 @@ use Rattle.command_lines.specs.declared.outcome.Outcome.TheVariants.{LogCheck, M
 use Rattle.store_commands.specs.Answer.{changes_of}
 use Rattle.store_commands.specs.Changes.{Change, IsSettled, Passes, Stepped, after_all}
 use Rattle.store_commands.specs.Deeds.{Deed}
-use Rattle.store_commands.specs.Found.{Found, Blank, Damaged as DamagedStore, Stands, Store, in_short}
+use Rattle.store_commands.specs.Found.{Found, Blank, Damaged as DamagedStore, IsUntouched, Stands, Store, in_short}
 
 abbrev pub IsDeed : Result Deed Outcome → Type 0
 IsDeed a = (deed : Deed) × (a ≡ Ok deed)
@@ -30,8 +30,9 @@ Overfills found a need limit =
 abbrev pub Fits : Found → Result Deed Outcome → Type 0
 Fits found a = (need limit : ℕ) → ¬ (Overfills found a need limit)
 
--- THE TABLE. For each outcome its cause, how many of the changes stand, how many a crash may have left, and that the
--- store is at rest. A disk's fault leaves some of the changes. Running out of memory has no cause.
+-- THE TABLE. For each outcome its cause, how many of the changes stand, how many a crash may have left, that the store
+-- is at rest, and that one keeps its bytes which was neither opened nor made. A disk's fault leaves some of the changes.
+-- Running out of memory has no cause.
 module _ (found : Found) (opened : Bool) (a : Result Deed Outcome) (unread : Type 0) (stood reached : ℕ)
     (before after : Store) where
   -- the store was opened or made, or a crash would have left just what stood at the start
@@ -42,12 +43,16 @@ module _ (found : Found) (opened : Bool) (a : Result Deed Outcome) (unread : Typ
   abbrev pub Settled : Type 0
   Settled = CanRest → IsSettled (after_all (in_short found) (take stood (changes_of a))) after
 
+  -- a store that was neither opened nor made keeps its bytes
+  abbrev pub Untouched : Type 0
+  Untouched = opened ≡ false → IsUntouched before after
+
   abbrev pub Leaves : Outcome → Type 0
   Leaves Done = IsDeed a × (stood ≡ length (changes_of a)) × Fits found a × Settled
-  Leaves (Usage kind) = (a ≡ Err (Usage kind)) × Settled
+  Leaves (Usage kind) = (a ≡ Err (Usage kind)) × Settled × Untouched
   Leaves (BadContent fault) = (a ≡ Err (BadContent fault)) × Settled
-  Leaves (Refused refusal) = (a ≡ Err (Refused refusal)) × Settled
-  Leaves (Damaged disk place) = (a ≡ Err (Damaged disk place)) × Settled
+  Leaves (Refused refusal) = (a ≡ Err (Refused refusal)) × Settled × Untouched
+  Leaves (Damaged disk place) = (a ≡ Err (Damaged disk place)) × Settled × Untouched
   Leaves (StoreFull need limit) = Overfills found a need limit × (reached ≡ 0) × Settled
   Leaves DiskFault = Rose before.faults after.faults
   Leaves SourceFault = unread × (reached ≡ 0) × Settled
@@ -57,7 +62,7 @@ module _ (found : Found) (opened : Bool) (a : Result Deed Outcome) (unread : Typ
   Leaves (Peer status) = ⊥
   Leaves (BrokenReply line) = ⊥
   Leaves (LogCheck mine theirs) = ⊥
-  Leaves Memory = (reached ≡ stood) × Settled
+  Leaves Memory = (reached ≡ stood) × Settled × Untouched
 
 -- the store's part of a decision
 pub record Does (found : Found) (opened : Bool) (a : Result Deed Outcome) (unread : Type 0) (before after : Store)

@@ -36,9 +36,16 @@ abbrev pub found_in : Option MemOpened → Found
 found_in None = Blank
 found_in (Some r) = Stands (standing_in (known_open r))
 
+-- it has no files
 abbrev pub store_known : MemStore → Store
 store_known s =
-    record { found = Some (found_in s.opened); crash = λ k o. o ≡ in_short (found_in s.opened); moment = 0; faults = 0 }
+    record {
+      found = Some (found_in s.opened);
+      crash = λ k o. o ≡ in_short (found_in s.opened);
+      moment = 0;
+      faults = 0;
+      bytes = Some [];
+    }
 
 pub may_stay : (s : MemStore) → MayStay (store_known s) (store_known s).found
 may_stay s = refl

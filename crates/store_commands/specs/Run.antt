@@ -14,7 +14,7 @@ use Rattle.store_commands.specs.Answer.{reads_input}
 use Rattle.store_commands.specs.Compacting.{ComesTo, Image}
 use Rattle.store_commands.specs.Deeds.{Deed}
 use Rattle.store_commands.specs.Expressions.{HaveRead}
-use Rattle.store_commands.specs.Found.{HasLists, IsTold, Store}
+use Rattle.store_commands.specs.Found.{HasLists, IsTold, IsUntouched, Store}
 use Rattle.store_commands.specs.Leaves.{Does, IsRead}
 use Rattle.store_commands.specs.Prints.{Prints, printed}
 
@@ -79,6 +79,7 @@ pub record IsSame (before after : Store) : Type 0 where
   pub crash : (k : ℕ) (o : Left State) → after.crash k o → before.crash k o
   pub moment : after.moment ≡ before.moment
   pub faults : after.faults ≡ before.faults
+  pub bytes : IsUntouched before after
 
 -- nothing is touched for a command that is not built
 abbrev pub LeavesUntouched : Command → Seen → Seen → Type 0

@@ -5,8 +5,8 @@ use Rattle.conflicts.specs.State.{State, Text, state_of}
 use Rattle.vector_rev.specs.Counts.{Uid}
 use Rattle.replica_core.specs.Replica.{Found as Left, Known, Stands as LeftStands}
 use Rattle.store_commands.specs.Changes.{Change, HasLimit, IsSettled, Made, Passes}
-use Rattle.store_commands.specs.Found.{Blank, Damaged, Found, IsTold, Stands, Store, in_short, opened_as}
-use Rattle.store_commands.specs.Found.{standing_in}
+use Rattle.store_commands.specs.Found.{Blank, Damaged, Found, IsTold, IsUntouched, Stands, Store, in_short}
+use Rattle.store_commands.specs.Found.{opened_as, standing_in}
 use Rattle.store_commands.specs.declared.store.OpenFault.{OpenFault}
 use Rattle.store_commands.specs.declared.store.OpenFault.TheVariants as open_fault
 use Rattle.store_commands.specs.declared.store.MakeFault.{MakeFault}
@@ -36,15 +36,17 @@ pub record FindsSome (before after : Store) : Type 0 where
   pub told : IsTold before.found found
   pub keeps : Keeps found before after
 
+-- it was found as this, and only read
 pub record Finds (found : Found) (before after : Store) : Type 0 where
   pub told : IsTold before.found found
   pub keeps : Keeps found before after
+  pub untouched : IsUntouched before after
 
 abbrev pub FailsToOpen : Store → Store → OpenFault → Type 0
 FailsToOpen before after open_fault.Blank = Finds Blank before after
 FailsToOpen before after (open_fault.Damaged disk place) = Finds (Damaged disk place) before after
 FailsToOpen before after open_fault.Disk = FindsSome before after × Rose before.faults after.faults
-FailsToOpen before after open_fault.Memory = FindsSome before after
+FailsToOpen before after open_fault.Memory = FindsSome before after × IsUntouched before after
 
 -- ---- making
 
@@ -68,12 +70,13 @@ pub record BreaksOff (name : Text) (uid : Uid) (limit : ℕ) (before after : Sto
   pub passes : Passes found (making name uid limit found) stood reached before after
   pub rose : Rose before.faults after.faults
 
--- there is a store
+-- there is a store, and it was only read
 pub record Exists (before after : Store) : Type 0 where
   pub found : Found
   pub told : IsTold before.found found
   pub keeps : Keeps found before after
   pub there : is_blank found ≡ false
+  pub untouched : IsUntouched before after
 
 -- there was none, and now the empty store stands, and a crash leaves just that
 pub record MadeAnew (name : Text) (uid : Uid) (limit : ℕ) (before after : Store) : Type 0 where
@@ -85,7 +88,7 @@ abbrev pub Makes : Text → Uid → ℕ → Store → Store → Result (Unit {0}
 Makes name uid limit before after (Ok done) = MadeAnew name uid limit before after
 Makes name uid limit before after (Err make_fault.Exists) = Exists before after
 Makes name uid limit before after (Err make_fault.Disk) = BreaksOff name uid limit before after
-Makes name uid limit before after (Err make_fault.Memory) = FindsSome before after
+Makes name uid limit before after (Err make_fault.Memory) = FindsSome before after × IsUntouched before after
 
 -- ---- closing
 

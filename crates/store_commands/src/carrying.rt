@@ -37,8 +37,8 @@ pub fn carry_out<T: Store, S: Source, K: Sink>(
     }
 }
 
-// Whether the command is built. The commands of views are no commands here, nor is an index of no
-// expression or of more than eight, nor a store of a limit that no store has.
+// Whether the command is built. An index of no expression or of more than eight is not a command,
+// nor is a store of a limit that no store has.
 fn check_built(command: &Command) -> Ended
     ensures { result ≡ built command.now }
 {
@@ -47,10 +47,10 @@ fn check_built(command: &Command) -> Ended
         | Command::Serve { .. }
         | Command::ServeDocs { .. }
         | Command::Node { .. }
+        | Command::ViewCreate { .. }
+        | Command::ViewShow { .. }
+        | Command::ViewDelete { .. }
         | Command::Work { .. } => Err(Outcome::Refused(Refusal::NotBuilt)),
-        Command::ViewCreate { .. } | Command::ViewShow { .. } | Command::ViewDelete { .. } => {
-            Err(Outcome::Usage(UsageKind::Words))
-        }
         Command::Init { limit, .. } => {
             usage_unless(is_limit(limit.unwrap_or(GREATEST_IMAGE_LIMIT)))
         }

@@ -160,8 +160,9 @@ impl From<CompactFault> for Outcome {
 /// A store on its disks, before it is opened and after it was closed.
 ///
 /// `known` is what contracts see of it: what opening it would find, where the disks tell it, what a
-/// crash at each moment leaves, and how often the disks failed. `image` is its image, and
-/// `image_in` that of an open store, where contracts can see it.
+/// crash at each moment leaves, how often the disks failed, and the bytes of its files, where
+/// contracts can see them. `image` is its image, and `image_in` that of an open store, where
+/// contracts can see it.
 pub trait Store: Sized {
     /// The store while it is open.
     type Opened: Replica;
@@ -172,7 +173,8 @@ pub trait Store: Sized {
 
     ghost image_in: { Self.Opened → Option Image };
 
-    /// Opens the store that is there. At a fault it comes back with it.
+    /// Opens the store that is there. At a fault it comes back with it, and unless a disk failed
+    /// its files have the bytes that they had.
     fn open(self, alloc: Global) -> Result<Self::Opened, (OpenFault, Self)>
         ensures ok { IfOk result (λ opened. Opens (known self)
             (Self.Opened.Replica.known opened) (Self.Opened.Replica.crash opened)
@@ -181,7 +183,7 @@ pub trait Store: Sized {
         ensures err { IfErr result (λ failed. FailsToOpen (known self) (known failed.1) failed.0) };
 
     /// Makes the empty store of this database and replica, where there is none. Its image may have
-    /// `limit` bytes.
+    /// `limit` bytes. At a fault its files have the bytes that they had, unless a disk failed.
     fn make(
         self,
         alloc: Global,

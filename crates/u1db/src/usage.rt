@@ -47,17 +47,12 @@ pub fn usage(alloc: Global, words: &[Text], kind: UsageKind) -> Result<String, M
 
 fn push_usage(text: &mut String, command: &str) -> Result<(), Memory> {
     match operands_shown(command) {
-        Some(shown) if !is_of_views(command) => {
+        Some(shown) => {
             text.push_str("usage: u1db DIR ")?;
             push_line(text, command, shown)
         }
-        _ => push_all(text),
+        None => push_all(text),
     }
-}
-
-// Those are no commands yet, whatever their operands.
-fn is_of_views(command: &str) -> bool {
-    command.starts_with("view-")
 }
 
 fn push_all(text: &mut String) -> Result<(), Memory> {

@@ -19,4 +19,4 @@ returns-in-Ok g c = λ input.
 pub returns-in-Err : goal.returns-in-Err
 returns-in-Err g c = λ input.
     made_so c.args.name.now c.args.uid.now c.args.limit c.args.seed _ _ _ _ input _ _ _ c.requires (Err Memory)
-    (left_alone _) (refl, refl)
+    (left_alone _, refl) (refl, refl)

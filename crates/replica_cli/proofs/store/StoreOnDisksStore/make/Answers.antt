@@ -1,6 +1,6 @@
 -- The store was made, or not.
 use Rattle.std.specs.Prelude.{Err}
-use Rattle.std.proofs.Common.{sym, ◌∙◌, subst, arith}
+use Rattle.std.proofs.Common.{refl, sym, ◌∙◌, subst, arith}
 use Rattle.disks.specs.Disks.{disks_known}
 use Rattle.journal.specs.Image.{Head}
 use Rattle.store_commands.specs.Store.{MadeAnew, Makes}
@@ -15,7 +15,7 @@ use Rattle.replica_cli.proofs.store.StoreOnDisksStore.make.Goals as goal
 pub returns-in_default : goal.returns-in_default
 returns-in_default g c =
     let d = disks_known g.D.Disk.known c.args.self.disks in
-    finds_some g.D.Disk.tells d d (λ t. no_call d) (omega arith)
+    (finds_some g.D.Disk.tells d d (λ t. no_call d) (omega arith), refl)
 
 pub returns-in-Ok-init : goal.returns-in-Ok-init
 returns-in-Ok-init g c =

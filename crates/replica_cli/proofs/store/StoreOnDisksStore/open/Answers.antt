@@ -21,4 +21,4 @@ returns-in-Err-clause-err g c =
     rw (c.new.ensures, c.open_fault.ensures)
     (fails_to_open g.D.Disk.tells known
     (disks_known known c.args.self.disks) failed.reads.0 c.in-Err.disks c.in-Err.fault
-    failed.reads.1 failed.reads.2 failed.left failed.any_moment failed.cause)
+    failed.reads.1 failed.reads.2 failed.left failed.any_moment failed.looks failed.memory failed.cause)
