@@ -3,3 +3,7 @@ pub mod Answered
 pub mod OneRun
 pub mod InTurn
 pub mod Keeping
+pub mod Composed
+pub mod Stopped
+pub mod Showing
+pub mod Promised

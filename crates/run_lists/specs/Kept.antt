@@ -1,6 +1,6 @@
 -- THE MAIN THEOREM for one store: whatever is run, and whenever it is stopped, the store stands for a history that goes
 -- on, and no revision is lost that was ever accepted.
-use Rattle.std.specs.Prelude.{◌≡◌, ◌⊎◌, ℕ, ◌≤◌, true, List, [], ◌∷◌, map}
+use Rattle.std.specs.Prelude.{◌≡◌, ◌⊎◌, ℕ, ◌≤◌, true, IsTrue, List, [], ◌∷◌, ◌++◌, map}
 use Rattle.conflicts.specs.State.{History, State, Text, state_of}
 use Rattle.disks.specs.Joint.{seen_of}
 use Rattle.replica_cli.specs.Store.{found_in, store_seen}
@@ -11,7 +11,7 @@ use Rattle.store_commands.specs.Changes.{Change, Made, Stepped}
 use Rattle.store_commands.specs.Found.{in_short}
 use Rattle.vector_rev.specs.Counts.{Uid}
 use Rattle.run_lists.specs.Lists.{Between}
-use Rattle.run_lists.specs.Shares.{MayLeave, Share, made}
+use Rattle.run_lists.specs.Shares.{MayLeave, Share, is_settled_by, lasting, made}
 
 -- what opening the store finds
 abbrev pub found_at : Between → Left State
@@ -61,3 +61,7 @@ pub record KeepsAll (before after : Between) (runs : List Share) : Type 0 where
   -- and by these the history goes on too
   pub kept : (k : ℕ) (o : Left State) → moment_of before ≤ k → k ≤ moment_of after → CrashAt after k o
       → CrashAt before (moment_of before) o ⊎ ((changes : List Change) × GoesOn (found_at before) changes o)
+  -- what was made by the end of a run that settled the store stands, whatever a later crash leaves, and the history
+  -- goes on from there
+  pub lasts : (k : ℕ) (o : Left State) → moment_of before ≤ k → k ≤ moment_of after → CrashAt after k o
+      → IsTrue (is_settled_by k runs) → (later : List Change) × GoesOn (found_at before) (lasting k runs ++ later) o

@@ -1,7 +1,7 @@
 -- What each run of a list did to the store, and what a crash on the way leaves.
 use Rattle.std.proofs.Common.{inl, inr}
-use Rattle.std.specs.Prelude.{◌≡◌, ◌⊎◌, ℕ, ◌<◌, ◌≤◌, Bool, true, false, ◌&&◌, List, [], ◌∷◌, ◌++◌, take, Result, Ok}
-use Rattle.std.specs.Prelude.{Err}
+use Rattle.std.specs.Prelude.{◌≡◌, ◌⊎◌, ℕ, ◌<◌, ◌≤◌, nat_le, Bool, true, false, ◌&&◌, ◌||◌, if◌then◌else◌, List, []}
+use Rattle.std.specs.Prelude.{◌∷◌, ◌++◌, take, Result, Ok, Err}
 use Rattle.cli_words.specs.Words.{command_in}
 use Rattle.cli_words.specs.declared.command.Command.{Command}
 use Rattle.cli_words.specs.declared.fault.WordsFault.{WordsFault}
@@ -86,3 +86,16 @@ MayLeave P k found [] o = P o
 MayLeave P k found (s ∷ more) o =
     ((k < s.end) × LeavesIn P found s o)
     ⊎ ((s.end ≤ k) × MayLeave (LeavesBehind P found s) k (after_all found (take s.stood s.changes)) more o)
+
+-- ---- what stands whatever a crash leaves
+
+-- a run that settled the store ended by this moment
+abbrev pub is_settled_by : ℕ → List Share → Bool
+is_settled_by k [] = false
+is_settled_by k (s ∷ more) = nat_le s.end k && (s.settled || is_settled_by k more)
+
+-- the changes that stand after a crash at the k-th moment, whatever it leaves: those that were made up to the last run
+-- that settled the store by then
+abbrev pub lasting : ℕ → List Share → List Change
+lasting k [] = []
+lasting k (s ∷ more) = if is_settled_by k (s ∷ more) then take s.stood s.changes ++ lasting k more else []

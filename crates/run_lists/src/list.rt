@@ -1,10 +1,9 @@
 //! A list of runs.
-ghost use Rattle.std.specs.Prelude.{◌≡◌, ◌+◌, ◌<◌, ◌≤◌, ◌++◌, ◌∷◌, [], IfOk, IsTrue, OnErr, map};
+ghost use Rattle.std.specs.Prelude.{◌≡◌, ◌+◌, ◌<◌, ◌≤◌, ◌++◌, ◌∷◌, [], IfOk, OnErr, map};
 ghost use Rattle.std.specs.Prelude.{vec_capacity, vec_len};
 ghost use Rattle.disks.specs.Joint.{Devices};
-ghost use Rattle.run_lists.specs.Kept.{KeepsAll};
 ghost use Rattle.run_lists.specs.Lists.{RunInTurn, asked, between};
-ghost use Rattle.run_lists.specs.Shares.{shares};
+ghost use Rattle.run_lists.specs.Promise.{HaveRun};
 
 use command_lines::Outcome;
 use conflicts::{law_members, law_state};
@@ -12,6 +11,7 @@ use disk_model::Disk;
 use disks::Disks;
 use link::{Sink, Source};
 use replica_cli::run;
+use replica_reads::law_answers;
 use std::alloc::Global;
 use u1_base::{Memory, Texts};
 
@@ -37,14 +37,13 @@ pub fn run_all<D: Disk, S: Source + Drop, K: Sink>(
 ) -> (Result<Vec<Outcome>, Memory>, Disks<D>)
     ensures memory { OnErr result.0 ((result.1 ≡ disks) × (out.new ≡ out.old)) }
     ensures runs { IfOk result.0 (λ outcomes.
-        (x : RunInTurn D.tells (map (asked S.known) requests.items)
+        HaveRun D.tells (map (asked S.known) requests.items)
         (between D.known disks (K.known out.old))
-        (between D.known result.1 (K.known out.new)) outcomes.items)
-        × (IsTrue D.tells → KeepsAll (between D.known disks (K.known out.old))
-        (between D.known result.1 (K.known out.new)) (shares _ _ _ _ _ x))) }
+        (between D.known result.1 (K.known out.new)) outcomes.items) }
 {
     law_state();
     law_members();
+    law_answers();
     run_each(alloc, requests, disks, out)
 }
 
