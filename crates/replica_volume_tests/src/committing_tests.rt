@@ -317,6 +317,53 @@ fn leaves_the_step_once_it_is_committed(rt: HostRuntime) {
     assert!(rt; leaves(rt.alloc(), 7, &DONE, &[ONE]));
 }
 
+// ---- a commit after one that failed
+
+// A content of 80 bytes: the body with it is longer than that of a revision that is taken.
+const LONG: &[u8] =
+    b"{\"t\":\"0123456789012345678901234567890123456789012345678901234567890123456789ab\"}";
+
+// What the two commits leave, if both steps are there.
+const TWO: Found = Ok((2, 2));
+
+// A commit fails at the call of this number of the left disk. Over the same disks three calls open
+// the store again, and four add another body: the call that comes so many later fails too, but the
+// eighth is not made. Whether a crash leaves just what is listed.
+fn leaves_again(alloc: Global, number: u64, later: u64, is: &[Found]) -> bool {
+    let failing = [number, number.saturating_add(later)];
+    match disks_of(alloc, FILES, DiskName::Left, &failing) {
+        Ok(disks) => {
+            let (disks, is_failed) = open_and(alloc, disks, Act::Put(LONG, &FAILED));
+            let (mut disks, is_taken) = open_and(alloc, disks, Act::Take(&SECOND));
+            is_failed && is_taken == (later == 8) && leave(alloc, &mut disks, is)
+        }
+        Err(_) => false,
+    }
+}
+
+// Until its gate is opened the second step is not there.
+fn leaves_each_again(alloc: Global, number: u64, before: Found, after: Found) -> bool {
+    leaves_again(alloc, number, 4, &[before])
+        && leaves_again(alloc, number, 5, &[before])
+        && leaves_again(alloc, number, 6, &[before, after])
+        && leaves_again(alloc, number, 7, &[before, after])
+        && leaves_again(alloc, number, 8, &[after])
+}
+
+// The gate of the first one was not opened.
+#[test]
+fn leaves_the_second_step_alone(rt: HostRuntime) {
+    for number in 3..6u64 {
+        assert!(rt; leaves_each_again(rt.alloc(), number, NOTHING, ONE));
+    }
+}
+
+// Its gate was opened, and only the last sync failed: the opening settles it.
+#[test]
+fn leaves_the_second_step_behind_the_first(rt: HostRuntime) {
+    assert!(rt; leaves_each_again(rt.alloc(), 6, ONE, TWO));
+}
+
 // ---- revisions of a peer are taken
 
 /// An entry of the log of b, which makes a document: its generation, its transaction id and the id
@@ -473,13 +520,25 @@ fn leave_first(alloc: Global, disks: &mut Disks<MemDisk>, count: u64, or: u64) -
     }
 }
 
-// Whether all are taken unless this call fails, and a crash leaves so many.
+// Takes the three once more over the same disks. Some may be there already, so no answer counts but
+// whether all are there then.
+fn goes_on(alloc: Global, disks: Disks<MemDisk>) -> bool {
+    let (disks, _) = open_and(alloc, disks, Act::Take(&FIRST));
+    let (disks, _) = open_and(alloc, disks, Act::Take(&SECOND));
+    let (disks, _) = open_and(alloc, disks, Act::Take(&THIRD));
+    opens_and(alloc, disks, Act::HasEither(3, 3))
+}
+
+// Whether all are taken unless this call fails, a crash leaves so many, and all are there once they
+// were taken again.
 fn takes_first(alloc: Global, failing: (DiskName, u64), count: u64, or: u64) -> bool {
     let (name, number) = failing;
     match disks_of(alloc, (&[0], EMPTY, b""), name, &[number]) {
         Ok(disks) => {
             let (mut disks, done) = take_three(alloc, disks);
-            done == (count == 3) && leave_first(alloc, &mut disks, count, or)
+            done == (count == 3)
+                && leave_first(alloc, &mut disks, count, or)
+                && goes_on(alloc, disks)
         }
         Err(_) => false,
     }

@@ -1,5 +1,6 @@
 //! Opening: worked damage, each byte of the root, cuts and changed bytes, each call that fails.
-use crate::plain_tests::plain;
+use crate::acts::{Act, opens_and};
+use crate::plain_tests::{PlainState, plain};
 use crate::tests::{
     CREATED, CREATED_FIRST, EMPTY, Found, NOTHING, ONE, Three, changed, damaged, disks_of, got,
     hold, is_found, leave, look,
@@ -126,9 +127,20 @@ fn replaced<'a>(files: Three<'a>, name: DiskName, file: &'a [u8]) -> Three<'a> {
     }
 }
 
+// Whether opening finds of these files this state.
+fn finds_state(alloc: Global, files: Three, state: &PlainState) -> bool {
+    match disks_of(alloc, files, DiskName::Root, &[]) {
+        Ok(disks) => opens_and(alloc, disks, Act::IsPlain(state)),
+        Err(_) => false,
+    }
+}
+
 // Whether opening finds of these files what the plain reading finds.
 fn finds_plain(alloc: Global, files: Three) -> bool {
-    is_found(alloc, files, plain(alloc, files))
+    match plain(alloc, files) {
+        Ok(state) => finds_state(alloc, files, &state),
+        Err(fault) => is_found(alloc, files, Err(fault)),
+    }
 }
 
 fn finds_cut(alloc: Global, files: Three, name: DiskName, length: usize) -> bool {

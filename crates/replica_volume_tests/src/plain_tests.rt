@@ -2,8 +2,9 @@
 //!
 //! It calls no reader of the crates below. Of the clocks of format 1, the contents and the
 //! expressions it knows those that the images of the tests have, also with another byte.
-use crate::tests::{Found, Three, are, damaged};
+use crate::tests::{Three, are, has};
 use disks::DiskName;
+use replica_state::State;
 use replica_volume::VolumeFault;
 use std::alloc::Global;
 
@@ -60,10 +61,13 @@ fn is_below(one: &[u8], other: &[u8]) -> bool {
     one.len() < other.len()
 }
 
+fn is_among(list: &[&[u8]], text: &[u8]) -> bool {
+    list.iter().any(|other| are(*other, text))
+}
+
 // Adds a text that the list does not have, and tells whether it did.
 fn add<'a>(list: &mut Vec<&'a [u8]>, text: &'a [u8]) -> bool {
-    let known = list.as_slice().iter().any(|other| are(*other, text));
-    !known && list.push(text).is_ok()
+    !is_among(list.as_slice(), text) && list.push(text).is_ok()
 }
 
 // ---- texts of some forms
@@ -342,7 +346,36 @@ impl<'a> Reading<'a> {
     }
 }
 
-fn read(alloc: Global, image: &[u8]) -> Result<(u64, u64), usize> {
+/// What the steps of an image leave: the generation of the log, and the ids of the documents.
+#[derive(Drop)]
+pub(crate) struct PlainState<'a> {
+    generation: u64,
+    docs: Vec<&'a [u8]>,
+}
+
+impl PlainState<'_> {
+    /// Whether a state has this generation and the documents with these ids.
+    pub(crate) fn is_of(&self, state: &State) -> bool {
+        has(state) == (self.generation, self.docs.len() as u64)
+            && are_among(state, self.docs.as_slice())
+    }
+}
+
+// Whether each document of the state has one of these ids.
+fn are_among(state: &State, ids: &[&[u8]]) -> bool {
+    let mut walk = state.docs().walk();
+    for place in 0..state.docs().length() {
+        let Some((id, _)) = walk.pair(place) else {
+            return false;
+        };
+        if !is_among(ids, id.as_str().as_bytes()) {
+            return false;
+        }
+    }
+    true
+}
+
+fn read(alloc: Global, image: &[u8]) -> Result<PlainState<'_>, usize> {
     let mut reading = Reading {
         bytes: image,
         at: 0,
@@ -352,24 +385,37 @@ fn read(alloc: Global, image: &[u8]) -> Result<(u64, u64), usize> {
         docs: Vec::new(alloc),
     };
     match reading.image() {
-        Some(()) => Ok((reading.generation, reading.docs.len() as u64)),
+        Some(()) => {
+            let Reading {
+                generation,
+                docs,
+                ..
+            } = reading;
+            Ok(PlainState { generation, docs })
+        }
         None => Err(reading.at),
     }
 }
 
-fn plain_image(alloc: Global, disk: DiskName, image: &[u8]) -> Found {
+fn plain_image(alloc: Global, disk: DiskName, image: &[u8]) -> Result<PlainState<'_>, VolumeFault> {
     match read(alloc, image) {
-        Ok(found) => Ok(found),
-        Err(place) => damaged(disk, place as u64),
+        Ok(state) => Ok(state),
+        Err(place) => Err(VolumeFault::Damaged {
+            disk,
+            place: place as u64,
+        }),
     }
 }
 
 /// What the plain reading finds of these files.
-pub(crate) fn plain(alloc: Global, files: Three) -> Found {
+pub(crate) fn plain(alloc: Global, files: Three<'_>) -> Result<PlainState<'_>, VolumeFault> {
     match files.0 {
         [] => Err(VolumeFault::Blank),
         [byte] if byte % 2 == 0 => plain_image(alloc, DiskName::Left, files.1),
         [_] => plain_image(alloc, DiskName::Right, files.2),
-        _ => damaged(DiskName::Root, 1),
+        _ => Err(VolumeFault::Damaged {
+            disk: DiskName::Root,
+            place: 1,
+        }),
     }
 }
