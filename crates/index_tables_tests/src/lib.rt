@@ -2,4 +2,10 @@
 #![tactic(auto)]
 
 #[cfg(test)]
+mod large_tests;
+#[cfg(test)]
+mod looks;
+#[cfg(test)]
+mod made;
+#[cfg(test)]
 mod tests;

@@ -2,7 +2,7 @@
 use Rattle.std.proofs.Common.{List, refl, sym, subst}
 use Rattle.index_tables.specs.Entries.{AreNew, entries_of}
 use Rattle.index_tables.specs.Order.{Entry}
-use Rattle.index_tables_tests.proofs.tests.gathered.Goals as goal
+use Rattle.index_tables_tests.proofs.made.gathered.Goals as goal
 
 pub with-requires-clause-fresh : goal.with-requires-clause-fresh
 with-requires-clause-fresh c =

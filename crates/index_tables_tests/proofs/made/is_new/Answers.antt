@@ -5,7 +5,7 @@ use Rattle.std.proofs.lemmas.List.{get_or_read}
 use Rattle.std.specs.Ordering.{is_eq}
 use Rattle.index_tables.specs.Order.{key_cmp}
 use Rattle.index_tables.proofs.Laws.{other_key}
-use Rattle.index_tables_tests.proofs.tests.is_new.Goals as goal
+use Rattle.index_tables_tests.proofs.made.is_new.Goals as goal
 
 pub loop-other-preserved : goal.loop-other-preserved
 loop-other-preserved c k d lt =

@@ -3,7 +3,7 @@ use Rattle.std.proofs.Common.{List, sym, subst}
 use Rattle.index_tables.specs.Entries.{AreNew, entries_of}
 use Rattle.index_tables.specs.Order.{Entry}
 use Rattle.index_tables.proofs.Laws.{new_after_remove}
-use Rattle.index_tables_tests.proofs.tests.put.Goals as goal
+use Rattle.index_tables_tests.proofs.made.put.Goals as goal
 
 pub add-requires-clause-fresh : goal.add-requires-clause-fresh
 add-requires-clause-fresh c =
