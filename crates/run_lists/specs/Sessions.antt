@@ -1,6 +1,6 @@
 -- Lists of runs on one store, each begun with what the one before left: at its end, or where a stop of the machine cut
 -- it short.
-use Rattle.std.specs.Prelude.{◌≡◌, ◌⊎◌, ℕ, ◌≤◌, true, List, [], ◌∷◌, ◌++◌}
+use Rattle.std.specs.Prelude.{◌≡◌, ◌⊎◌, ℕ, ◌≤◌, Bool, true, List, [], ◌∷◌, ◌++◌}
 use Rattle.command_lines.specs.declared.outcome.Outcome.{Outcome}
 use Rattle.conflicts.specs.State.{State}
 use Rattle.disks.specs.Joint.{AreCrashImages, AreSettled, moment_at, seen_of}
@@ -8,6 +8,7 @@ use Rattle.replica_core.specs.Replica.{Found as Left}
 use Rattle.store_commands.specs.Changes.{Change}
 use Rattle.run_lists.specs.Kept.{CrashAt, GoesOn, found_at, moment_of}
 use Rattle.run_lists.specs.Lists.{Asked, Between, RunInTurn}
+use Rattle.run_lists.specs.Questions.{AnswersInTurn}
 use Rattle.run_lists.specs.Shares.{Share, lasting, made, shares}
 
 -- A list came to its end, and left what stands there; or it was stopped at a moment, and left what a crash leaves then.
@@ -61,3 +62,10 @@ abbrev pub SessionsGoOn : Type 0
 SessionsGoOn =
     (lists : List (List Change)) (found left : Left State) → InSessions lists found left
     → (whole : List Change) × HasAll lists whole × GoesOn found whole left
+
+-- each run of a list, also of one that is stopped later, showed what its command shows: of an index the filter of the
+-- live documents that stood then
+abbrev pub ListsAnswer : Type 0
+ListsAnswer =
+    (tells : Bool) (list : List Asked) (before after : Between) (outcomes : List Outcome)
+    (runs : RunInTurn tells list before after outcomes) → AnswersInTurn tells list before after outcomes runs

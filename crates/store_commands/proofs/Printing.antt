@@ -4,6 +4,7 @@ use Rattle.std.proofs.Common.{Err, false, refl, sym, ◌∙◌, inl, inr, arith,
 use Rattle.std.proofs.KnownBytes.{Appends-trans}
 use Rattle.std.proofs.Math.Seq.{take-length}
 use Rattle.std.specs.Io.KnownBytes.{Appends, Keeps}
+use Rattle.std.specs.Prelude.{◌≢◌}
 use Rattle.u1_base.specs.Causes.{Rose}
 use Rattle.link.specs.Streams.{AppendsFront, Output}
 use Rattle.command_lines.specs.LastLines.{last_line}
@@ -19,7 +20,7 @@ use Rattle.command_lines.specs.declared.outcome.Outcome.TheVariants.{LogCheck, M
 use Rattle.store_commands.specs.Answer.{text_of}
 use Rattle.store_commands.specs.Carries.{Answers}
 use Rattle.store_commands.specs.Deeds.{Deed}
-use Rattle.store_commands.specs.Prints.{Prints, PrintsFront, PutsPart, PutsWhole, outcome_of, printed}
+use Rattle.store_commands.specs.Prints.{Prints, PrintsFront, PutsPart, PutsWhole, broken_end, outcome_of, printed}
 use Rattle.store_commands.proofs.Moving.{Rose-since}
 
 -- ---- fronts and wholes
@@ -57,10 +58,30 @@ pub ended_well : (text : List ℕ) (a b : Output) (decided result : Outcome) →
     → PutsWhole text a b (Ok tt) → Prints text a b decided result
 ended_well text a b decided result is whole = inl (is, whole)
 
-pub ended_badly : (text : List ℕ) (a b : Output) (decided : Outcome) (fault : PrintFault)
+-- the output broke of a run that was not decided by want of memory
+broke : (text : List ℕ) (a b : Output) (decided : Outcome) (fault : PrintFault) → decided ≢ Memory
     → PutsWhole text a b (Err fault) → Prints text a b decided (print_end fault)
-ended_badly text a b decided print.Sink puts = inr (inl (refl, puts.0, puts.1))
-ended_badly text a b decided print.Memory puts = inr (inr (refl, puts))
+broke text a b decided print.Sink other puts = inr (inl (refl, puts.0, puts.1, other))
+broke text a b decided print.Memory other puts = inr (inr (refl, puts))
+
+pub ended_badly : (text : List ℕ) (a b : Output) (decided : Outcome) (fault : PrintFault)
+    → PutsWhole text a b (Err fault) → Prints text a b decided (broken_end decided fault)
+ended_badly text a b Memory print.Sink puts = inr (inr (refl, puts.0))
+ended_badly text a b Memory print.Memory puts = inr (inr (refl, puts))
+ended_badly text a b Done fault puts = broke _ _ _ _ fault (λ is. cc is) puts
+ended_badly text a b (Usage kind) fault puts = broke _ _ _ _ fault (λ is. cc is) puts
+ended_badly text a b (BadContent why) fault puts = broke _ _ _ _ fault (λ is. cc is) puts
+ended_badly text a b (Refused refusal) fault puts = broke _ _ _ _ fault (λ is. cc is) puts
+ended_badly text a b (Damaged disk place) fault puts = broke _ _ _ _ fault (λ is. cc is) puts
+ended_badly text a b (StoreFull need limit) fault puts = broke _ _ _ _ fault (λ is. cc is) puts
+ended_badly text a b DiskFault fault puts = broke _ _ _ _ fault (λ is. cc is) puts
+ended_badly text a b SourceFault fault puts = broke _ _ _ _ fault (λ is. cc is) puts
+ended_badly text a b SinkFault fault puts = broke _ _ _ _ fault (λ is. cc is) puts
+ended_badly text a b LinkFault fault puts = broke _ _ _ _ fault (λ is. cc is) puts
+ended_badly text a b AcceptFault fault puts = broke _ _ _ _ fault (λ is. cc is) puts
+ended_badly text a b (Peer status) fault puts = broke _ _ _ _ fault (λ is. cc is) puts
+ended_badly text a b (BrokenReply line) fault puts = broke _ _ _ _ fault (λ is. cc is) puts
+ended_badly text a b (LogCheck mine theirs) fault puts = broke _ _ _ _ fault (λ is. cc is) puts
 
 -- ---- the last line of a printing call
 
@@ -102,7 +123,7 @@ module _ (a : Result Deed Outcome) (o p q : Output) (result : Outcome) where
         },
       )
   printed_whole puts (inr (inl failed)) =
-      inr (inl (failed.0, front failed.1, Rose-since o.faults p.faults q.faults puts.1 failed.2))
+      inr (inl (failed.0, front failed.1, Rose-since o.faults p.faults q.faults puts.1 failed.2, failed.3))
     where
       front : PrintsFront [] p q → PrintsFront (text_of a ++ []) o q
       front f = record {
@@ -131,23 +152,24 @@ module _ (a : Result Deed Outcome) (o p q : Output) (result : Outcome) where
       → (decided ≡ SinkFault) × Rose o.faults p.faults ⊎ (decided ≡ Memory) → Prints [] p q decided result
       → Prints (text_of a ++ []) o q Done result
   printed_broken decided front later (inl sink) (inl whole) =
-      inr (inl (whole.0 ∙ sink.0, front_on front later whole.1.taken whole.1.later, rose_on sink.1 whole.1.later))
+      inr (inl (
+        whole.0 ∙ sink.0,
+        front_on front later whole.1.taken whole.1.later,
+        rose_on sink.1 whole.1.later,
+        λ is. cc is,
+      ))
   printed_broken decided front later (inl sink) (inr (inl failed)) =
       inr (inl (
         failed.0,
         front_on front later (nothing_more p.taken q.taken failed.1.taken) failed.1.later,
         rose_on sink.1 failed.1.later,
+        λ is. cc is,
       ))
   printed_broken decided front later (inl sink) (inr (inr starved)) =
       inr (inr (starved.0, front_on front later (nothing_more p.taken q.taken starved.1.taken) starved.1.later))
   printed_broken decided front later (inr memory) (inl whole) =
       inr (inr (whole.0 ∙ memory, front_on front later whole.1.taken whole.1.later))
-  printed_broken decided front later (inr memory) (inr (inl failed)) =
-      inr (inl (
-        failed.0,
-        front_on front later (nothing_more p.taken q.taken failed.1.taken) failed.1.later,
-        Rose-since o.faults p.faults q.faults later failed.2,
-      ))
+  printed_broken decided front later (inr memory) (inr (inl failed)) = absurd (failed.3 memory)
   printed_broken decided front later (inr memory) (inr (inr starved)) =
       inr (inr (starved.0, front_on front later (nothing_more p.taken q.taken starved.1.taken) starved.1.later))
 

@@ -1,9 +1,10 @@
 -- What is printed.
-use Rattle.std.specs.Prelude.{◌≡◌, ◌⊎◌, ℕ, ◌≤◌, false, List, [], ◌++◌, Result, Ok, Err}
+use Rattle.std.specs.Prelude.{◌≡◌, ◌≢◌, ◌⊎◌, ℕ, ◌≤◌, false, List, [], ◌++◌, Result, Ok, Err}
 use Rattle.std.specs.Io.KnownBytes.{Appends}
 use Rattle.u1_base.specs.Causes.{Rose}
 use Rattle.link.specs.Streams.{AppendsFront, Output}
 use Rattle.command_lines.specs.LastLines.{last_line}
+use Rattle.command_lines.specs.Outcomes.{print_end}
 use Rattle.command_lines.specs.Puts.{Puts}
 use Rattle.command_lines.specs.declared.put.PrintFault.{PrintFault}
 use Rattle.command_lines.specs.declared.put.PrintFault.TheVariants as print
@@ -32,12 +33,18 @@ pub record PrintsFront (text : List ℕ) (before after : Output) : Type 0 where
   pub taken : AppendsFront before.taken after.taken text
   pub later : before.faults ≤ after.faults
 
--- the whole text was printed, and the run ended as it was decided; or the output failed, or memory ran out
+-- The whole text was printed, and the run ended as it was decided; or the output failed, or memory ran out. A run that
+-- was decided by want of memory never tells of its output: where that failed, all stands that was decided.
 abbrev pub Prints : List ℕ → Output → Output → Outcome → Outcome → Type 0
 Prints text before after decided result =
     ((result ≡ decided) × PrintsWhole text before after)
-    ⊎ ((result ≡ SinkFault) × PrintsFront text before after × Rose before.faults after.faults)
+    ⊎ ((result ≡ SinkFault) × PrintsFront text before after × Rose before.faults after.faults × (decided ≢ Memory))
     ⊎ ((result ≡ Memory) × PrintsFront text before after)
+
+-- how a run ends whose output broke
+abbrev pub broken_end : Outcome → PrintFault → Outcome
+broken_end Memory fault = Memory
+broken_end decided fault = print_end fault
 
 -- printing a part of the text, as a call ends that may go on
 abbrev pub PutsPart : List ℕ → Output → Output → Result (Unit {0}) Outcome → Type 0

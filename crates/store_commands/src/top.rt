@@ -2,7 +2,7 @@
 ghost use Rattle.std.specs.Prelude.{◌≡◌};
 ghost use Rattle.command_lines.specs.LastLines.{last_line};
 ghost use Rattle.store_commands.specs.Complete.{RunsWhole};
-ghost use Rattle.store_commands.specs.Prints.{Prints, PutsWhole, outcome_of};
+ghost use Rattle.store_commands.specs.Prints.{Prints, PutsWhole, broken_end, outcome_of};
 
 use crate::carrying::carry_out;
 use crate::{Ended, Store};
@@ -40,7 +40,18 @@ pub fn finish<K: Sink>(ended: Ended, out: &mut K) -> Outcome
     let outcome = ended_as(ended);
     match print_end(&outcome, out) {
         Ok(()) => outcome,
-        Err(fault) => Outcome::from(fault),
+        Err(fault) => broken_end(outcome, fault),
+    }
+}
+
+// Where memory had run out before, that is told also of an output that failed: an output is blamed
+// only where all was done that was decided.
+fn broken_end(decided: Outcome, fault: PrintFault) -> Outcome
+    ensures { result ≡ broken_end decided fault }
+{
+    match decided {
+        Outcome::Memory => Outcome::Memory,
+        _ => Outcome::from(fault),
     }
 }
 
