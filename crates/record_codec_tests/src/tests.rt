@@ -1,10 +1,10 @@
 //! Worked bodies of both formats byte for byte, each fault at its place, and each cut.
-use conflicts::{Accept, Making};
+use conflicts::{Accept, Making, Move, PosTable};
 use json::Scratch;
-use record_codec::{RecordFault, Uids, decode, decode_first, encode};
+use record_codec::{Decoded, RecordFault, Uids, decode, decode_first, encode};
 use replica_state::Step;
 use std::alloc::Global;
-use u1_base::{Memory, ReplicaUid};
+use u1_base::{Memory, Position, ReplicaUid};
 
 // The first body of an image, which creates a document: 81 bytes.
 const CREATED: &[u8] =
@@ -29,17 +29,21 @@ const TAKEN_FIRST: &[u8] =
 // What is gone, with a move of b.
 const GONE: &[u8] = b"\x02\0\x01d\0\x01T\x01\0\0\0\x01\0\x01b\0\0\0\0\0\0\0\x07\0\x01U";
 
-// A merge with two parents, which is not current and has no content; what is gone; a move; an
-// index; a dropped index; the two bodies above.
-const BODIES: &[&[u8]] = &[
+// A merge with two parents, which is not current and has no content.
+const MERGED: &[u8] =
     b"\x01\0\x01d\x02\0\0\0\0\0\0\0\0\0\0\0\x02\0\0\0\x01\0\x01c\0\0\0\0\0\0\0\x01\x02\0\0\0\x02\
-      \x01\0\0\0\x01\0\0\0\0\0\0\0\x03\x01\0\0\0\x02\0\x01b\0\0\0\0\0\0\0\x04\0\0\0\x01T\0",
-    GONE,
-    b"\x03\x02\0\0\0\0\0\0\0\0\0\0\0\0\0\0",
-    b"\x04\0\x01i\x02\0\x08lower(n)\0\x03a.b",
-    b"\x05\0\x01i",
-    CREATED,
-    TAKEN,
+      \x01\0\0\0\x01\0\0\0\0\0\0\0\x03\x01\0\0\0\x02\0\x01b\0\0\0\0\0\0\0\x04\0\0\0\x01T\0";
+
+// The bodies above, a move, an index and a dropped index, and how many uids each adds where a has
+// the number 0.
+const BODIES: &[(&[u8], usize)] = &[
+    (MERGED, 2),
+    (GONE, 1),
+    (b"\x03\x02\0\0\0\0\0\0\0\0\0\0\0\0\0\0", 0),
+    (b"\x04\0\x01i\x02\0\x08lower(n)\0\x03a.b", 0),
+    (b"\x05\0\x01i", 0),
+    (CREATED, 0),
+    (TAKEN, 1),
 ];
 
 // Compared in a function of its own, which keeps the proofs of its callers short.
@@ -65,10 +69,12 @@ fn is_spelled(alloc: Global, step: &Step, uids: &Uids, body: &[u8], added: usize
     }
 }
 
-// The body is read as a step, whose body it is.
-fn reads_back(alloc: Global, body: &[u8], uids: &Uids) -> bool {
+// The body is read as a step, whose body it is, and adds so many uids.
+fn reads_back(alloc: Global, body: &[u8], uids: &Uids, added: usize) -> bool {
     match decode(alloc, &mut Scratch::new(alloc), body, uids) {
-        Ok(decoded) => is_spelled(alloc, &decoded.step, uids, body, decoded.added.len()),
+        Ok(decoded) => {
+            decoded.added.len() == added && is_spelled(alloc, &decoded.step, uids, body, added)
+        }
         Err(_) => false,
     }
 }
@@ -89,8 +95,8 @@ fn is_moved(alloc: Global, first: &[u8], body: &[u8], added: usize) -> bool {
 }
 
 fn reads_all_back(alloc: Global, uids: &Uids) -> bool {
-    for body in BODIES {
-        if !reads_back(alloc, body, uids) {
+    for row in BODIES {
+        if !reads_back(alloc, row.0, uids, row.1) {
             return false;
         }
     }
@@ -117,22 +123,209 @@ fn reads_format_1(rt: HostRuntime) {
     );
 }
 
-// Whether this is the revision a:1 of a document made by an edit.
+// ---- what a body says
+
+const TRANS: &[u8] = b"T-a12aa9bff3485ffcbd67876eea76a865";
+
+fn has_rev(accept: &Accept, want: &[u8]) -> bool {
+    match accept.rev.text() {
+        Ok(rev) => are_same(rev.as_str().as_bytes(), want),
+        Err(_) => false,
+    }
+}
+
+fn has_content(accept: &Accept, want: &[u8]) -> bool {
+    match &accept.content {
+        Some(content) => are_same(content.as_str().as_bytes(), want),
+        None => false,
+    }
+}
+
+fn has_parent(accept: &Accept, place: usize, want: &[u8]) -> bool {
+    match accept.parents.as_slice().get(place) {
+        Some(parent) => match parent.text() {
+            Ok(rev) => are_same(rev.as_str().as_bytes(), want),
+            Err(_) => false,
+        },
+        None => false,
+    }
+}
+
+// Whether this is a current revision without parents.
+fn is_alone(accept: &Accept, rev: &[u8], content: &[u8]) -> bool {
+    accept.current
+        && accept.parents.len() == 0
+        && has_rev(accept, rev)
+        && has_content(accept, content)
+}
+
 fn is_created(accept: &Accept) -> bool {
     let is_edit = matches!(accept.making, Making::Edit);
-    match accept.rev.text() {
-        Ok(rev) => are_same(rev.as_str().as_bytes(), b"a:1") && is_edit && accept.current,
-        Err(_) => false,
+    is_edit && is_alone(accept, b"a:1", b"{\"a\":\"x\",\"b\":1}")
+}
+
+fn is_taken(accept: &Accept) -> bool {
+    let is_received = matches!(accept.making, Making::Received);
+    is_received && is_alone(accept, b"b:1", b"{}")
+}
+
+fn is_merged(accept: &Accept) -> bool {
+    let is_merge = matches!(accept.making, Making::Merge);
+    is_merge
+        && !accept.current
+        && accept.content.is_none()
+        && has_rev(accept, b"a:2|c:1")
+        && accept.parents.len() == 2
+        && has_parent(accept, 0, b"c:3")
+        && has_parent(accept, 1, b"b:4")
+}
+
+fn is_at(at: &Position, generation: u64, trans: &[u8]) -> bool {
+    match &at.trans {
+        Some(id) => at.generation == generation && are_same(id.as_str().as_bytes(), trans),
+        None => false,
+    }
+}
+
+// Whether the position of b moves to this place.
+fn moves_b(moved: &Option<Move>, table: PosTable, generation: u64, trans: &[u8]) -> bool {
+    match moved {
+        Some(moved) => {
+            moved.table == table
+                && are_same(moved.uid.as_str().as_bytes(), b"b")
+                && is_at(&moved.at, generation, trans)
+        }
+        None => false,
     }
 }
 
 fn is_the_creation(step: &Step) -> bool {
     match step {
-        Step::Accept { doc, accept, .. } => {
-            are_same(doc.as_str().as_bytes(), b"d1") && is_created(accept)
+        Step::Accept {
+            doc,
+            accept,
+            trans,
+            moved,
+        } => {
+            are_same(doc.as_str().as_bytes(), b"d1")
+                && is_created(accept)
+                && are_same(trans.as_str().as_bytes(), TRANS)
+                && moved.is_none()
         }
         _ => false,
     }
+}
+
+fn is_the_taking(step: &Step) -> bool {
+    match step {
+        Step::Accept {
+            doc,
+            accept,
+            trans,
+            moved,
+        } => {
+            are_same(doc.as_str().as_bytes(), b"d1")
+                && is_taken(accept)
+                && are_same(trans.as_str().as_bytes(), TRANS)
+                && moves_b(moved, PosTable::Told, 1, TRANS)
+        }
+        _ => false,
+    }
+}
+
+fn is_the_merge(step: &Step) -> bool {
+    match step {
+        Step::Accept {
+            doc,
+            accept,
+            trans,
+            moved,
+        } => {
+            are_same(doc.as_str().as_bytes(), b"d")
+                && is_merged(accept)
+                && are_same(trans.as_str().as_bytes(), b"T")
+                && moved.is_none()
+        }
+        _ => false,
+    }
+}
+
+fn is_what_is_gone(step: &Step) -> bool {
+    match step {
+        Step::Gone { doc, trans, moved } => {
+            are_same(doc.as_str().as_bytes(), b"d")
+                && are_same(trans.as_str().as_bytes(), b"T")
+                && moves_b(moved, PosTable::Known, 7, b"U")
+        }
+        _ => false,
+    }
+}
+
+// Whether the uid at this place among those that the body adds has this text.
+fn adds(decoded: &Decoded, place: usize, want: &[u8]) -> bool {
+    match decoded.added.as_slice().get(place) {
+        Some(uid) => are_same(uid.as_str().as_bytes(), want),
+        None => false,
+    }
+}
+
+#[derive(Clone, Copy)]
+enum Said {
+    Creation,
+    Taking,
+    Merge,
+    Gone,
+}
+
+// Whether the body said this step, and these uids in this order.
+fn is_said(decoded: &Decoded, said: Said) -> bool {
+    let count = decoded.added.len();
+    match said {
+        Said::Creation => is_the_creation(&decoded.step) && count == 0,
+        Said::Taking => is_the_taking(&decoded.step) && count == 1 && adds(decoded, 0, b"b"),
+        Said::Merge => {
+            is_the_merge(&decoded.step)
+                && count == 2
+                && adds(decoded, 0, b"c")
+                && adds(decoded, 1, b"b")
+        }
+        Said::Gone => is_what_is_gone(&decoded.step) && count == 1 && adds(decoded, 0, b"b"),
+    }
+}
+
+fn says_where(alloc: Global, body: &[u8], uids: &Uids, said: Said) -> bool {
+    match decode(alloc, &mut Scratch::new(alloc), body, uids) {
+        Ok(decoded) => is_said(&decoded, said),
+        Err(_) => false,
+    }
+}
+
+// Where a has the number 0.
+fn says(alloc: Global, body: &[u8], said: Said) -> bool {
+    match own(alloc) {
+        Ok(uids) => says_where(alloc, body, &uids, said),
+        Err(_) => false,
+    }
+}
+
+#[test]
+fn says_a_creation(rt: HostRuntime) {
+    assert!(rt; says(rt.alloc(), CREATED, Said::Creation));
+}
+
+#[test]
+fn says_a_revision_that_was_taken(rt: HostRuntime) {
+    assert!(rt; says(rt.alloc(), TAKEN, Said::Taking));
+}
+
+#[test]
+fn says_a_merge(rt: HostRuntime) {
+    assert!(rt; says(rt.alloc(), MERGED, Said::Merge));
+}
+
+#[test]
+fn says_what_is_gone(rt: HostRuntime) {
+    assert!(rt; says(rt.alloc(), GONE, Said::Gone));
 }
 
 fn says_created(alloc: Global, body: &[u8]) -> bool {
@@ -166,7 +359,7 @@ fn number(alloc: Global, uids: &mut Uids, body: &[u8]) -> bool {
 
 fn numbers_once(alloc: Global) -> bool {
     match own(alloc) {
-        Ok(mut uids) => number(alloc, &mut uids, GONE) && reads_back(alloc, NUMBERED, &uids),
+        Ok(mut uids) => number(alloc, &mut uids, GONE) && reads_back(alloc, NUMBERED, &uids, 0),
         Err(_) => false,
     }
 }
