@@ -1,13 +1,25 @@
 // Put before the C library by LD_PRELOAD: the call for memory whose number is in FAIL_MALLOC, from 1, finds none. So a
-// program that is run once for each number shows what it answers at each place where memory can run out.
+// program that is run once for each number shows what it answers at each place where memory can run out. Where that call
+// is reached the file that FAIL_MALLOC_MARK names is made, so that a caller sees which number is past the last one.
+#define _GNU_SOURCE
 #include <errno.h>
+#include <fcntl.h>
 #include <stddef.h>
 #include <stdlib.h>
+#include <sys/syscall.h>
+#include <unistd.h>
 
 extern void *__libc_malloc(size_t);
 extern void *__libc_calloc(size_t, size_t);
 extern void *__libc_realloc(void *, size_t);
 extern void *__libc_memalign(size_t, size_t);
+
+// by calls of the system alone, which take no memory
+static void mark(void) {
+    const char *name = getenv("FAIL_MALLOC_MARK");
+    long file = name ? syscall(SYS_openat, AT_FDCWD, name, O_WRONLY | O_CREAT | O_CLOEXEC, 0600) : -1;
+    if (file >= 0) syscall(SYS_close, file);
+}
 
 static int fails(void) {
     static long wanted = -1, calls = 0;
@@ -17,6 +29,7 @@ static int fails(void) {
     }
     calls += 1;
     if (calls != wanted) return 0;
+    mark();
     errno = ENOMEM;
     return 1;
 }
