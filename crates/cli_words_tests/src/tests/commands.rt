@@ -1,4 +1,5 @@
 //! Words that are commands.
+use super::operands::{has_number, has_operand};
 use super::{Wanted, is_line_read, is_list_read};
 use cli_words::{Command, operands_shown};
 use std::alloc::Global;
@@ -33,6 +34,7 @@ const LINES: &[&str] = &[
     "DIR range i [\"1\",\"2\",\"3\",\"4\",\"5\",\"6\",\"7\",\"8\"] open",
     "DIR keys i",
     "DIR keys -",
+    "DIR keys -- -i",
     "DIR all",
     "DIR all --deleted",
     "DIR changes 0",
@@ -177,6 +179,8 @@ pub fn is_wanted(command: &Command, wanted: Wanted) -> bool {
         Wanted::Node => is_node(command),
         Wanted::Range => is_range(command),
         Wanted::Query => is_query(command),
+        Wanted::Operand(kind, word) => has_operand(command, kind, word),
+        Wanted::Number(place, number) => has_number(command, place, number),
         Wanted::Fault(_) => false,
     }
 }
