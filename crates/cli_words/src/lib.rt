@@ -13,7 +13,7 @@ mod fault;
 mod fits;
 mod given;
 mod indexes;
-mod limits;
+pub mod limits;
 mod numbers;
 mod operands;
 mod parted;

@@ -1,5 +1,8 @@
 //! What is said where the words are no command: how they should be, and of a word that is refused
 //! what it has to be.
+use cli_words::limits::{
+    GREATEST_PORT, MOST_BETWEEN, MOST_CONNECTIONS, MOST_ROUNDS, MOST_WORKLOAD,
+};
 use cli_words::operands_shown;
 use command_lines::UsageKind;
 use std::alloc::Global;
@@ -97,12 +100,41 @@ fn push_refused(
         return Ok(());
     };
     text.push_str("u1db: ")?;
-    text.push_str(word.as_str())?;
+    push_shown(text, word.as_str())?;
     text.push_str(": ")?;
-    let rule = rule_of(alloc, operand_at(words, place))?;
+    let rule = rule_at(alloc, words, place)?;
     text.push_str(rule.as_str())?;
     text.push_str("\n")?;
     Ok(())
+}
+
+// The word as people can read it: what could steer a terminal, or is not seen, is escaped.
+fn push_shown(text: &mut String, word: &str) -> Result<(), Memory> {
+    for character in word.chars() {
+        push_character(text, character)?;
+    }
+    Ok(())
+}
+
+// Quotes stand as they are, since lists of texts have many.
+fn push_character(text: &mut String, character: char) -> Result<(), Memory> {
+    if character == '"' || character == '\'' {
+        text.push(character)?;
+        return Ok(());
+    }
+    for shown in character.escape_debug() {
+        text.push(shown)?;
+    }
+    Ok(())
+}
+
+// What the word at the place has to be.
+fn rule_at(alloc: Global, words: &[Text], place: usize) -> Result<String, Memory> {
+    let operand = operand_at(words, place);
+    match limits_of(words, operand) {
+        Some(limits) => limits.rule(alloc),
+        None => rule_of(alloc, operand),
+    }
 }
 
 // The name of the operand that stands at the place, as the usage shows it.
@@ -160,7 +192,56 @@ fn named(shown: &'static str, number: usize) -> &'static str {
     last
 }
 
-// What a word has to be that stands for the operand of this name.
+// What a number is, and its least and greatest value.
+#[derive(Clone, Copy)]
+struct Limits {
+    what: &'static str,
+    least: u64,
+    greatest: u64,
+}
+
+impl Limits {
+    fn rule(&self, alloc: Global) -> Result<String, Memory> {
+        let Limits {
+            what,
+            least,
+            greatest,
+        } = self;
+        Ok(format!(in alloc; "{what} is a number from {least} to {greatest}")?)
+    }
+}
+
+fn number(what: &'static str, least: u64, greatest: u64) -> Option<Limits> {
+    Some(Limits {
+        what,
+        least,
+        greatest,
+    })
+}
+
+// The limits of the number that stands for the operand of this name, where it is a number.
+fn limits_of(words: &[Text], name: &str) -> Option<Limits> {
+    match name {
+        "GENERATION" => number("a generation", 0, GREATEST_COUNT),
+        "PORT" => number("a port", 1, GREATEST_PORT),
+        "COUNT" if makes_workload(words) => number("a count of documents", 0, MOST_WORKLOAD),
+        "COUNT" => number("a count of connections", 1, MOST_CONNECTIONS),
+        "ROUNDS" => number("a count of rounds", 1, MOST_ROUNDS),
+        "BETWEEN" => number("a count of connections", 0, MOST_BETWEEN),
+        "SEED" => number("a seed", 0, u64::MAX),
+        _ => None,
+    }
+}
+
+fn makes_workload(words: &[Text]) -> bool {
+    match words.get(1) {
+        Some(word) => word.as_str() == "work",
+        None => false,
+    }
+}
+
+// What a word has to be that stands for the operand of this name, which is no number but that of
+// an option.
 fn rule_of(alloc: Global, name: &str) -> Result<String, Memory> {
     let rule = match name {
         "NAME" | "INDEX" => format!(in alloc;
@@ -181,9 +262,8 @@ fn rule_of(alloc: Global, name: &str) -> Result<String, Memory> {
         "START" | "END" => format!(in alloc;
             "an end is open, or a JSON list of 1 to {MOST_KEY_TEXTS} strings"
         ),
-        "GENERATION" => format!(in alloc; "a generation is a number from 0 to {GREATEST_COUNT}"),
         "ADDRESS" => String::from_str(alloc, "an address is a URL as http://host:8080/db"),
-        _ => String::from_str(alloc, "it is not a number within the limits"),
+        _ => String::from_str(alloc, "it cannot stand there"),
     };
     Ok(rule?)
 }
