@@ -7,7 +7,7 @@ use crate::committing_tests::{
 };
 use crate::compacting_tests::{Compacted, compacts, has_the_second, shrinks_and_puts};
 use crate::making_tests::is_empty;
-use crate::plain_tests::PlainState;
+use crate::plain_state_tests::PlainState;
 use crate::tests::header;
 use disk_model::{Disk, MemDisk};
 use disks::Disks;
@@ -56,7 +56,7 @@ fn sees<D: Disk>(alloc: Global, volume: &Volume<D>, act: Act) -> bool {
         Act::HasTheDocument => has_the_document(alloc, volume.state()),
         Act::HasTheSecond => has_the_second(alloc, volume.state()),
         Act::HasEither(one, other) => has_either(alloc, volume.state(), one, other),
-        Act::IsPlain(plain) => plain.is_of(volume.state()),
+        Act::IsPlain(plain) => plain.is_of(alloc, volume.state()),
         _ => false,
     }
 }

@@ -122,14 +122,13 @@ pub(crate) fn puts<R: Replica>(alloc: Global, replica: &mut R, text: &[u8], want
         && replica.is_open() == want.open
 }
 
-fn is_the_document(alloc: Global, state: &State, id: &DocId) -> bool {
+// Whether a document has this current revision with this content.
+fn has_document(state: &State, id: &DocId, rev: &[u8], text: &[u8]) -> bool {
     let Some(member) = get_doc(state, id, false) else {
         return false;
     };
     match &member.content {
-        Some(content) => {
-            reads_as(&member.rev, b"a:1") && has_text(content, b"{\"a\":\"x\",\"b\":1}")
-        }
+        Some(content) => reads_as(&member.rev, rev) && has_text(content, text),
         None => false,
     }
 }
@@ -137,7 +136,7 @@ fn is_the_document(alloc: Global, state: &State, id: &DocId) -> bool {
 /// Whether the document has its first revision.
 pub(crate) fn has_the_document(alloc: Global, state: &State) -> bool {
     match document(alloc) {
-        Ok(id) => is_the_document(alloc, state, &id),
+        Ok(id) => has_document(state, &id, b"a:1", b"{\"a\":\"x\",\"b\":1}"),
         Err(_) => false,
     }
 }
@@ -451,6 +450,26 @@ pub(crate) fn take<R: Replica>(alloc: Global, replica: &mut R, entry: &Entry) ->
     }
 }
 
+const ENTRIES: &[Entry] = &[FIRST, SECOND, THIRD];
+
+// Whether a state has the document of an entry, with the revision that was taken.
+fn has_taken(alloc: Global, state: &State, entry: &Entry) -> bool {
+    match DocId::read(alloc, entry.2) {
+        Ok(id) => has_document(state, &id, b"b:1", b"{}"),
+        Err(_) => false,
+    }
+}
+
+// Whether a state has the documents of the first entries, so many, and no others.
+fn has_first_documents(alloc: Global, state: &State, count: u64) -> bool {
+    for entry in ENTRIES {
+        if entry.0 <= count && !has_taken(alloc, state, entry) {
+            return false;
+        }
+    }
+    has(state) == (count, count)
+}
+
 // Whether a state has the first entries of the log of b, so many: their documents, as many entries
 // of its own, and the place of the last one.
 fn has_first(alloc: Global, state: &State, count: u64) -> bool {
@@ -458,7 +477,7 @@ fn has_first(alloc: Global, state: &State, count: u64) -> bool {
         return false;
     };
     match position_of(state, PosTable::Known, &uid) {
-        Ok(at) => has(state) == (count, count) && at.generation == count,
+        Ok(at) => at.generation == count && has_first_documents(alloc, state, count),
         Err(_) => false,
     }
 }
@@ -495,9 +514,22 @@ fn take_three(alloc: Global, disks: Disks<MemDisk>) -> (Disks<MemDisk>, bool) {
     open_if(done, alloc, disks, Act::Take(&THIRD))
 }
 
+// Takes the three once more over the same disks. Some may be there already, so no answer counts but
+// whether all are there then.
+fn goes_on(alloc: Global, disks: Disks<MemDisk>) -> bool {
+    let (disks, _) = open_and(alloc, disks, Act::Take(&FIRST));
+    let (disks, _) = open_and(alloc, disks, Act::Take(&SECOND));
+    let (disks, _) = open_and(alloc, disks, Act::Take(&THIRD));
+    opens_and(alloc, disks, Act::HasEither(3, 3))
+}
+
+// Whether one of two counts of entries is there, and all are once they were taken again.
 fn opens_as_first(alloc: Global, left: &[u8], count: u64, or: u64) -> bool {
     match disks_of(alloc, (&[0], left, b""), DiskName::Root, &[]) {
-        Ok(disks) => opens_and(alloc, disks, Act::HasEither(count, or)),
+        Ok(disks) => {
+            let (disks, is_first) = open_and(alloc, disks, Act::HasEither(count, or));
+            is_first && goes_on(alloc, disks)
+        }
         Err(_) => false,
     }
 }
@@ -511,22 +543,13 @@ fn all_open_as_first(alloc: Global, lefts: &Vec<Bytes>, count: u64, or: u64) -> 
     true
 }
 
-// Whether a crash now leaves so many entries, by each choice of lost writes. The other two disks
-// were not written.
+// Whether a crash now leaves so many entries, by each choice of lost writes, and all are taken
+// after it. The other two disks were not written.
 fn leave_first(alloc: Global, disks: &mut Disks<MemDisk>, count: u64, or: u64) -> bool {
     match all_left(alloc, disks, DiskName::Left) {
         Ok(lefts) => all_open_as_first(alloc, &lefts, count, or),
         Err(_) => false,
     }
-}
-
-// Takes the three once more over the same disks. Some may be there already, so no answer counts but
-// whether all are there then.
-fn goes_on(alloc: Global, disks: Disks<MemDisk>) -> bool {
-    let (disks, _) = open_and(alloc, disks, Act::Take(&FIRST));
-    let (disks, _) = open_and(alloc, disks, Act::Take(&SECOND));
-    let (disks, _) = open_and(alloc, disks, Act::Take(&THIRD));
-    opens_and(alloc, disks, Act::HasEither(3, 3))
 }
 
 // Whether all are taken unless this call fails, a crash leaves so many, and all are there once they

@@ -14,6 +14,8 @@ mod moving_tests;
 #[cfg(test)]
 mod opening_tests;
 #[cfg(test)]
+mod plain_state_tests;
+#[cfg(test)]
 mod plain_tests;
 #[cfg(test)]
 mod tests;

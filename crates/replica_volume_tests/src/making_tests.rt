@@ -134,3 +134,85 @@ fn leaves_no_store_or_the_empty_one(rt: HostRuntime) {
 fn leaves_the_empty_store_once_it_is_made(rt: HostRuntime) {
     assert!(rt; leaves(rt.alloc(), (DiskName::Root, 4), DONE, &[NOTHING]));
 }
+
+// ---- a making after one that failed
+
+const EXISTS: Result<bool, InitFault> = Err(InitFault::Exists);
+
+// The making fails at the call of this number of a disk, and is tried again over the same disks:
+// the call that comes so many later fails too. Whether this is answered then, and a crash leaves
+// just what is listed.
+fn leaves_again(
+    alloc: Global,
+    failing: (DiskName, u64),
+    later: u64,
+    answer: Result<bool, InitFault>,
+    is: &[Found],
+) -> bool {
+    let (name, number) = failing;
+    let failing = [number, number.saturating_add(later)];
+    match disks_of(alloc, (b"", b"old", EMPTY), name, &failing) {
+        Ok(disks) => {
+            let (disks, first) = make(alloc, disks);
+            let (mut disks, second) = make(alloc, disks);
+            first == FAILED && second == answer && leave(alloc, &mut disks, is)
+        }
+        Err(_) => false,
+    }
+}
+
+// An image is given three calls, so the fourth is not made.
+fn leaves_image_again(alloc: Global, name: DiskName, number: u64) -> bool {
+    let failing = (name, number);
+    leaves_again(alloc, failing, 1, FAILED, &[BLANK])
+        && leaves_again(alloc, failing, 2, FAILED, &[BLANK])
+        && leaves_again(alloc, failing, 3, FAILED, &[BLANK])
+        && leaves_again(alloc, failing, 4, DONE, &[NOTHING])
+}
+
+#[test]
+fn leaves_no_store_again_before_the_root_is_written(rt: HostRuntime) {
+    for number in 0..3u64 {
+        assert!(rt;
+            leaves_image_again(rt.alloc(), DiskName::Left, number)
+                && leaves_image_again(rt.alloc(), DiskName::Right, number)
+        );
+    }
+}
+
+// The root is synced, its length is asked, and it is written and synced. Until its first sync it is
+// what the first making left.
+fn leaves_root_again(alloc: Global, number: u64, before: &[Found]) -> bool {
+    let failing = (DiskName::Root, number);
+    leaves_again(alloc, failing, 1, FAILED, before)
+        && leaves_again(alloc, failing, 2, FAILED, &[BLANK])
+        && leaves_again(alloc, failing, 3, FAILED, &[BLANK, NOTHING])
+        && leaves_again(alloc, failing, 4, FAILED, &[BLANK, NOTHING])
+        && leaves_again(alloc, failing, 5, DONE, &[NOTHING])
+}
+
+// A write of one byte that fails puts none: the root is still empty, and its first sync settles it.
+#[test]
+fn leaves_no_store_or_the_empty_one_again(rt: HostRuntime) {
+    let alloc = rt.alloc();
+    assert!(rt;
+        leaves_root_again(alloc, 0, &[BLANK])
+            && leaves_root_again(alloc, 1, &[BLANK])
+            && leaves_root_again(alloc, 2, &[BLANK, NOTHING])
+    );
+}
+
+fn finds_the_root_again(alloc: Global) -> bool {
+    let failing = (DiskName::Root, 3);
+    leaves_again(alloc, failing, 1, FAILED, &[BLANK, NOTHING])
+        && leaves_again(alloc, failing, 2, FAILED, &[NOTHING])
+        && leaves_again(alloc, failing, 3, FAILED, &[NOTHING])
+        && leaves_again(alloc, failing, 4, EXISTS, &[NOTHING])
+}
+
+// Only the last sync failed: the root is written, and the sync of the second making settles it. Its
+// length is asked then, and its first byte is read.
+#[test]
+fn is_refused_once_the_root_is_written(rt: HostRuntime) {
+    assert!(rt; finds_the_root_again(rt.alloc()));
+}

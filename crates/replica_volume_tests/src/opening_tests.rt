@@ -1,6 +1,7 @@
 //! Opening: worked damage, each byte of the root, cuts and changed bytes, each call that fails.
 use crate::acts::{Act, opens_and};
-use crate::plain_tests::{PlainState, plain};
+use crate::plain_state_tests::PlainState;
+use crate::plain_tests::plain;
 use crate::tests::{
     CREATED, CREATED_FIRST, EMPTY, Found, NOTHING, ONE, Three, changed, damaged, disks_of, got,
     hold, is_found, leave, look,
@@ -231,15 +232,15 @@ fn reads_the_image_that_is_named(rt: HostRuntime) {
 
 const FILES: Three = (&[1], EMPTY, CREATED);
 
+const FAILED: Found = Err(VolumeFault::Disk);
+
 // Whether the opening fails where this call does, and nothing is written: a crash leaves the store
 // as it was.
 fn is_left(alloc: Global, name: DiskName, number: u64) -> bool {
     match disks_of(alloc, FILES, name, &[number]) {
         Ok(disks) => {
             let (mut disks, found) = look(alloc, disks);
-            found == Err(VolumeFault::Disk)
-                && hold(&disks, FILES)
-                && leave(alloc, &mut disks, &[ONE])
+            found == FAILED && hold(&disks, FILES) && leave(alloc, &mut disks, &[ONE])
         }
         Err(_) => false,
     }
@@ -251,6 +252,44 @@ fn leaves_the_store_as_it_was(rt: HostRuntime) {
         assert!(rt;
             is_left(rt.alloc(), DiskName::Root, number)
                 && is_left(rt.alloc(), DiskName::Right, number)
+        );
+    }
+}
+
+// The opening fails at the call of this number of the disk. Over the same disks three calls of it
+// open the store again: the call that comes so many later fails too, but the fourth is not made.
+// Whether nothing is written, and a crash leaves the store as it was.
+fn is_left_again(alloc: Global, name: DiskName, number: u64, later: u64) -> bool {
+    let failing = [number, number.saturating_add(later)];
+    match disks_of(alloc, FILES, name, &failing) {
+        Ok(disks) => {
+            let want = if later == 4 { ONE } else { FAILED };
+            let (disks, first) = look(alloc, disks);
+            let (mut disks, second) = look(alloc, disks);
+            first == FAILED
+                && second == want
+                && hold(&disks, FILES)
+                && leave(alloc, &mut disks, &[ONE])
+        }
+        Err(_) => false,
+    }
+}
+
+fn is_left_each_time(alloc: Global, name: DiskName, number: u64) -> bool {
+    for later in 1..5u64 {
+        if !is_left_again(alloc, name, number, later) {
+            return false;
+        }
+    }
+    true
+}
+
+#[test]
+fn leaves_the_store_as_it_was_again(rt: HostRuntime) {
+    for number in 0..3u64 {
+        assert!(rt;
+            is_left_each_time(rt.alloc(), DiskName::Root, number)
+                && is_left_each_time(rt.alloc(), DiskName::Right, number)
         );
     }
 }

@@ -2,9 +2,10 @@
 //!
 //! It calls no reader of the crates below. Of the clocks of format 1, the contents and the
 //! expressions it knows those that the images of the tests have, also with another byte.
-use crate::tests::{Three, are, has};
+use crate::plain_state_tests::{Accepted, Counter, Logged, Named, Place, PlainState};
+use crate::tests::{Three, are};
+use conflicts::PosTable;
 use disks::DiskName;
-use replica_state::State;
 use replica_volume::VolumeFault;
 use std::alloc::Global;
 
@@ -65,6 +66,10 @@ fn is_among(list: &[&[u8]], text: &[u8]) -> bool {
     list.iter().any(|other| are(*other, text))
 }
 
+fn if_so(is: bool) -> Option<()> {
+    if is { Some(()) } else { None }
+}
+
 // Adds a text that the list does not have, and tells whether it did.
 fn add<'a>(list: &mut Vec<&'a [u8]>, text: &'a [u8]) -> bool {
     !is_among(list.as_slice(), text) && list.push(text).is_ok()
@@ -105,6 +110,16 @@ fn is_clock(text: &[u8]) -> bool {
     has_form(text, b"U:1") || has_form(text, b"U:1|U:1") && rises(text, 0, 4)
 }
 
+// The entry of a clock that stands at this place of its text.
+fn counter_at(text: &[u8], at: usize) -> Option<Counter<'_>> {
+    let uid = text.get(at..)?.get(..1)?;
+    let digit = *text.get(at.saturating_add(2))?;
+    Some(Counter {
+        uid,
+        counter: digit.saturating_sub(b'0') as usize,
+    })
+}
+
 fn is_content(text: &[u8]) -> bool {
     let has_two = has_form(text, b"{\"C\":\"C\",\"C\":0}");
     has_form(text, b"{}") || has_two && rises(text, 2, 10)
@@ -129,9 +144,7 @@ struct Reading<'a> {
     format: u8,
     // The uids that have numbers, each at its number.
     uids: Vec<&'a [u8]>,
-    // What the steps leave: the generation of the log, and the ids of the documents.
-    generation: u64,
-    docs: Vec<&'a [u8]>,
+    state: PlainState<'a>,
 }
 
 impl<'a> Reading<'a> {
@@ -192,20 +205,34 @@ impl<'a> Reading<'a> {
 
     fn clock_parts(&mut self) -> Option<()> {
         if self.format == 1 {
-            let (text, end) = text_at(self.bytes, self.at, 2)?;
-            return self.pass(is_clock(text), end);
+            return self.clock_text();
         }
         let count = self.number(1, 1, 64)?;
         let mut before: &'a [u8] = b"";
         for _ in 0..count {
             let uid = self.uid()?;
-            self.number(8, 1, GREATEST)?;
+            let counter = self.number(8, 1, GREATEST)?;
             if !is_below(before, uid) {
                 return None;
             }
+            self.keep_counter(Counter { uid, counter })?;
             before = uid;
         }
         Some(())
+    }
+
+    fn clock_text(&mut self) -> Option<()> {
+        let (text, end) = text_at(self.bytes, self.at, 2)?;
+        self.pass(is_clock(text), end)?;
+        self.keep_counter(counter_at(text, 0)?)?;
+        match counter_at(text, 4) {
+            Some(counter) => self.keep_counter(counter),
+            None => Some(()),
+        }
+    }
+
+    fn keep_counter(&mut self, counter: Counter<'a>) -> Option<()> {
+        if_so(self.state.counters.push(counter).is_ok())
     }
 
     fn clocks(&mut self) -> Option<()> {
@@ -216,12 +243,14 @@ impl<'a> Reading<'a> {
         Some(())
     }
 
-    fn content(&mut self) -> Option<()> {
+    // The text, or none of a deletion.
+    fn content(&mut self) -> Option<Option<&'a [u8]>> {
         if self.number(1, 0, 1)? == 0 {
-            return Some(());
+            return Some(None);
         }
         let (text, end) = text_at(self.bytes, self.at, 4)?;
-        self.pass(is_content(text), end)
+        self.pass(is_content(text), end)?;
+        Some(Some(text))
     }
 
     fn expressions(&mut self) -> Option<()> {
@@ -229,57 +258,93 @@ impl<'a> Reading<'a> {
         for _ in 0..count {
             let (text, end) = text_at(self.bytes, self.at, 2)?;
             self.pass(is_expression(text), end)?;
+            if_so(self.state.expressions.push(text).is_ok())?;
         }
         Some(())
     }
 
     // A move. It may be none where the least table is 0.
     fn moved(&mut self, least: usize) -> Option<()> {
-        if self.number(1, least, 2)? == 0 {
-            return Some(());
+        match self.number(1, least, 2)? {
+            0 => Some(()),
+            1 => self.place(PosTable::Known),
+            _ => self.place(PosTable::Told),
         }
-        self.uid()?;
-        if self.number(8, 0, GREATEST)? == 0 {
-            self.number(2, 0, 0)?;
-        } else {
-            self.word(64, b"-")?;
+    }
+
+    fn place(&mut self, table: PosTable) -> Option<()> {
+        let uid = self.uid()?;
+        let generation = self.number(8, 0, GREATEST)?;
+        let trans = self.trans_of(generation)?;
+        if_so(
+            self.state.place(Place {
+                table,
+                uid,
+                generation,
+                trans,
+            }),
+        )
+    }
+
+    // The transaction id of a position, which is empty at generation 0.
+    fn trans_of(&mut self, generation: usize) -> Option<&'a [u8]> {
+        if generation != 0 {
+            return self.word(64, b"-");
         }
-        Some(())
+        self.number(2, 0, 0)?;
+        let none: &'a [u8] = b"";
+        Some(none)
     }
 
     // ---- bodies
 
     // A transaction id and a move, which make an entry of the log.
-    fn logged(&mut self) -> Option<()> {
-        self.word(64, b"-")?;
+    fn logged(&mut self, doc: &'a [u8]) -> Option<()> {
+        let trans = self.word(64, b"-")?;
         self.moved(0)?;
-        self.generation = self.generation.saturating_add(1);
-        Some(())
+        if_so(self.state.entries.push(Logged { doc, trans }).is_ok())
     }
 
     fn accepted(&mut self) -> Option<()> {
         let doc = self.word(128, b"._-%")?;
-        let _is_new = add(&mut self.docs, doc);
+        let from = self.state.counters.len();
         self.clock()?;
+        let clock = (from, self.state.counters.len());
+        self.revision(doc, clock)?;
+        self.logged(doc)
+    }
+
+    // What stands between the clock of a revision and its transaction id.
+    fn revision(&mut self, doc: &'a [u8], clock: (usize, usize)) -> Option<()> {
         self.number(1, 0, 3)?;
         self.clocks()?;
-        self.number(1, 0, 1)?;
-        self.content()?;
-        self.logged()
+        let is_current = self.number(1, 0, 1)? == 1;
+        let content = self.content()?;
+        let revision = Accepted {
+            doc,
+            clock,
+            is_current,
+            content,
+        };
+        if_so(self.state.accepted.push(revision).is_ok())
     }
 
     fn gone(&mut self) -> Option<()> {
-        self.word(128, b"._-%")?;
-        self.logged()
+        let doc = self.word(128, b"._-%")?;
+        self.logged(doc)
     }
 
     fn index_created(&mut self) -> Option<()> {
-        self.word(64, b"._-")?;
-        self.expressions()
+        let name = self.word(64, b"._-")?;
+        let from = self.state.expressions.len();
+        self.expressions()?;
+        let expressions = (from, self.state.expressions.len());
+        if_so(self.state.create_index(Named { name, expressions }))
     }
 
     fn index_deleted(&mut self) -> Option<()> {
-        self.word(64, b"._-")?;
+        let name = self.word(64, b"._-")?;
+        self.state.drop_index(name);
         Some(())
     }
 
@@ -299,8 +364,9 @@ impl<'a> Reading<'a> {
         let begins = self.bytes.get(..7) == Some(b"U1DBVOL");
         self.format = *self.bytes.get(7)?;
         self.pass(begins && matches!(self.format, 1..=2), 8)?;
-        self.word(64, b"._-")?;
+        self.state.name = self.word(64, b"._-")?;
         let uid = self.word(64, b"_-")?;
+        self.state.uid = uid;
         self.number(8, 1024, 0x100_0000_0000)?;
         let _is_new = add(&mut self.uids, uid);
         Some(())
@@ -346,52 +412,18 @@ impl<'a> Reading<'a> {
     }
 }
 
-/// What the steps of an image leave: the generation of the log, and the ids of the documents.
-#[derive(Drop)]
-pub(crate) struct PlainState<'a> {
-    generation: u64,
-    docs: Vec<&'a [u8]>,
-}
-
-impl PlainState<'_> {
-    /// Whether a state has this generation and the documents with these ids.
-    pub(crate) fn is_of(&self, state: &State) -> bool {
-        has(state) == (self.generation, self.docs.len() as u64)
-            && are_among(state, self.docs.as_slice())
-    }
-}
-
-// Whether each document of the state has one of these ids.
-fn are_among(state: &State, ids: &[&[u8]]) -> bool {
-    let mut walk = state.docs().walk();
-    for place in 0..state.docs().length() {
-        let Some((id, _)) = walk.pair(place) else {
-            return false;
-        };
-        if !is_among(ids, id.as_str().as_bytes()) {
-            return false;
-        }
-    }
-    true
-}
-
 fn read(alloc: Global, image: &[u8]) -> Result<PlainState<'_>, usize> {
     let mut reading = Reading {
         bytes: image,
         at: 0,
         format: 0,
         uids: Vec::new(alloc),
-        generation: 0,
-        docs: Vec::new(alloc),
+        state: PlainState::new(alloc),
     };
     match reading.image() {
         Some(()) => {
-            let Reading {
-                generation,
-                docs,
-                ..
-            } = reading;
-            Ok(PlainState { generation, docs })
+            let Reading { state, .. } = reading;
+            Ok(state)
         }
         None => Err(reading.at),
     }
