@@ -27,7 +27,7 @@ enum Writing {
 }
 
 /// What a call answered: the failure of its commit where it failed, and none where it was refused.
-type Answer = Result<(), Option<CommitFault>>;
+pub type Answer = Result<(), Option<CommitFault>>;
 
 /// Makes the call of this name, and tells what it answered and what stands then: the state before
 /// the call, the one after it, or another. Where memory ran out in the call the same is told of
@@ -51,7 +51,8 @@ fn is_memory(answer: &Answer) -> bool {
     }
 }
 
-fn word_of(answer: &Answer) -> &'static str {
+/// The word of an answer.
+pub fn word_of(answer: &Answer) -> &'static str {
     match answer {
         Ok(()) => "ok",
         Err(None) => "refused",
@@ -63,11 +64,11 @@ fn word_of(answer: &Answer) -> &'static str {
 
 // ---- what stands
 
-// What is read of the state before a call, and of the one after it.
+/// What is read of the state before a call, and of the one after it.
 #[derive(Drop)]
-struct Wanted {
-    before: MemSink,
-    after: MemSink,
+pub struct Wanted {
+    pub before: MemSink,
+    pub after: MemSink,
 }
 
 impl Wanted {
@@ -114,12 +115,13 @@ impl Wanted {
         Ok(())
     }
 
-    fn found(&self, alloc: Global, state: &State) -> Result<&'static str, Memory> {
+    /// Which of the two is read of this state, or that it is neither.
+    pub fn found(&self, alloc: Global, state: &State) -> Result<&'static str, Memory> {
         let found = readings_of(alloc, state)?;
         Ok(self.place_of(found.bytes()))
     }
 
-    fn place_of(&self, found: &[u8]) -> &'static str {
+    pub fn place_of(&self, found: &[u8]) -> &'static str {
         if found == self.before.bytes() {
             "before"
         } else if found == self.after.bytes() {

@@ -4,7 +4,7 @@
 use crate::checks::{are, ended, same};
 use crate::crashes::leaves;
 use crate::harness::{BLANK, Failing, Files, Ran, run_on};
-use crate::images::{CREATED, REPLACED, image, on_the_left, prepared};
+use crate::images::{CREATED, REPLACED, changed, image, on_the_left, prepared};
 use crate::order::former;
 use crate::table::{COMMANDS, Command, INIT};
 use command_lines::Outcome;
@@ -56,12 +56,12 @@ const ASKED: Command = Command {
     question: "get d1",
 };
 
-// Over the image of a document that was put: the first acceptance is left out.
-fn compacting(question: &'static str) -> Command {
+// Over the image of a document that was put: its first acceptance is left out.
+fn compacting(printed: &'static str, question: &'static str) -> Command {
     Command {
         words: "compact",
         input: b"",
-        printed: "compacted 196 157\n",
+        printed,
         question,
     }
 }
@@ -78,10 +78,18 @@ fn each_device_call_of_a_compaction_fails_in_turn(rt: HostRuntime) {
     let alloc = rt.alloc();
     for question in ["get d1", "changes 0", "info"] {
         let replaced = image(alloc, &[CREATED, REPLACED]);
-        assert!(rt;
-            fails_over(alloc, replaced, &compacting(question)),
-            "{question}"
-        );
+        let command = compacting("compacted 196 157\n", question);
+        assert!(rt; fails_over(alloc, replaced, &command), "{question}");
+    }
+}
+
+// And so are an index, a conflict and the position of a peer.
+#[test]
+fn each_device_call_of_a_larger_compaction_fails_in_turn(rt: HostRuntime) {
+    let alloc = rt.alloc();
+    for question in ["query i b*", "conflicts d3", "info"] {
+        let command = compacting("compacted 508 475\n", question);
+        assert!(rt; fails_over(alloc, changed(alloc), &command), "{question}");
     }
 }
 

@@ -71,7 +71,12 @@ fn disk_of(
     Ok(MemDisk::new(alloc, bytes_of(alloc, bytes)?, numbers))
 }
 
-fn disks_of(alloc: Global, stored: Files<'_>, failing: Failing) -> Result<Disks<MemDisk>, Memory> {
+/// Disks with these bytes.
+pub fn disks_of(
+    alloc: Global,
+    stored: Files<'_>,
+    failing: Failing,
+) -> Result<Disks<MemDisk>, Memory> {
     Ok(Disks::new(
         disk_of(alloc, DiskName::Root, stored.root, failing)?,
         disk_of(alloc, DiskName::Left, stored.left, failing)?,

@@ -29,6 +29,10 @@ pub const RECEIVED: &[u8] =
     \0\"T-a12aa9bff3485ffcbd67876eea76a865";
 /// `index-create i t`.
 pub const INDEX: &[u8] = b"\x01\0\0\0\x08\x04\0\x01i\x01\0\x01t";
+/// `put d2 a:1` with `{"t":"bc"}`, after these.
+pub const CHANGED: &[u8] =
+    b"\x01\0\0\0Y\x01\0\x02d2\x01\0\0\0\0\0\0\0\0\0\0\0\x02\0\0\0\0\x01\x01\0\0\0\0\0\0\0\0\0\0\0\
+    \x01\x01\x01\0\0\0\x0a{\"t\":\"bc\"}\0\"T-5a58563efd525018a50d31c0d3f37e93\0";
 /// `create d1` with `{"v":"a"}`.
 pub const OWN: &[u8] =
     b"\x01\0\0\0K\x01\0\x02d1\x01\0\0\0\0\0\0\0\0\0\0\0\x01\0\0\0\0\0\x01\x01\0\0\0\x09{\"v\":\
@@ -65,4 +69,9 @@ pub fn on_the_left(image: &[u8]) -> Files<'_> {
 /// The image of a store with three documents, of which one is in conflict, and an index.
 pub fn prepared(alloc: Global) -> Result<Bytes, Memory> {
     image(alloc, &[CREATED, SECOND, THIRD, RECEIVED, INDEX])
+}
+
+/// The same, in which `d2` was put.
+pub fn changed(alloc: Global) -> Result<Bytes, Memory> {
+    image(alloc, &[CREATED, SECOND, THIRD, RECEIVED, INDEX, CHANGED])
 }

@@ -15,7 +15,8 @@
 //! name, as `put-doc`. It prints `ANSWER STATE`: what the call answered, `ok`, `memory`, `refused`,
 //! `full` or `disk`; and whether the state is the one `before` the call, the one `after` it, or an
 //! `other`. Where memory ran out in the call it is made once more, and the line goes on with
-//! `ANSWER STATE` of that. Where memory ran out outside of the call it prints `unprepared`.
+//! `ANSWER STATE` of that. Where memory ran out outside of the call it prints `unprepared`. The name
+//! `put-doc-on-disks` is of a put into a store on three disks in memory.
 #![tactic(auto)]
 
 mod calls;
@@ -34,6 +35,7 @@ mod starved;
 #[cfg(test)]
 mod stories;
 mod table;
+mod volumes;
 
 use std::alloc::Global;
 use std::process::ExitCode;
@@ -57,6 +59,7 @@ fn main(rt: HostRuntime) -> ExitCode {
 // Does what the order says, and tells what came of it.
 fn line_of(alloc: Global, order: &str) -> Result<String, Memory> {
     match order.trim().split_once(' ') {
+        Some(("call", "put-doc-on-disks")) => volumes::line_of(alloc),
         Some(("call", name)) => calls::line_of(alloc, name),
         Some((command, spent)) => starved::line_of(alloc, command, spent),
         None => Ok(String::from_str(alloc, "no order")?),

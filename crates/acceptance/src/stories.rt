@@ -1,10 +1,13 @@
 //! Stories: commands one after the other over one store, each with what it prints and its status.
 use crate::checks::{Row, are, fails_at, prints, story_fails_at};
 use crate::harness::{BLANK, Failing, Ran, run_on};
-use crate::images::{CREATED, LAST, OTHER, OWN, image, on_the_left};
+use crate::images::{
+    CHANGED, CREATED, INDEX, LAST, OTHER, OWN, RECEIVED, SECOND, THIRD, image, on_the_left,
+};
 use std::alloc::Global;
 
-// A document is made, shown and put.
+// A document is made, shown and put. The least number stands as it was written, and of a name that
+// stands twice the last value.
 const EDITS: &[Row] = &[
     ("get d1", b"", "refused no-database\n", 1),
     ("init db a", b"", "database db replica a\n", 0),
@@ -55,6 +58,10 @@ const EDITS: &[Row] = &[
     ("compact", b"", "compacted 157 157\n", 0),
     ("put d1 a:2", b"{\"a\":1}", "d1 a:3\n", 0),
     ("get d1", b"", "d1 a:3 - {\"a\":1}\n", 0),
+    ("create d2", b"{\"a\":-9223372036854775808}", "d2 a:1\n", 0),
+    ("get d2", b"", "d2 a:1 - {\"a\":-9223372036854775808}\n", 0),
+    ("create d3", b"{\"a\":1,\"a\":2}", "d3 a:1\n", 0),
+    ("get d3", b"", "d3 a:1 - {\"a\":2}\n", 0),
 ];
 
 // One is deleted, and made again.
@@ -119,6 +126,41 @@ const AT_THE_END: &[Row] = &[
     ),
     ("get d1", b"", "d1 a:9223372036854775807 - {}\n", 0),
 ];
+
+// A compaction leaves the first content of d2 out, and changes no answer: of the index, of the
+// conflict, of the log and of the position.
+const COMPACTED: &[Row] = &[
+    ("query i b*", b"", "d2 a:2 - {\"t\":\"bc\"}\n", 0),
+    (
+        "conflicts d3",
+        b"",
+        "b:1 {\"v\":\"b\"}\na:1 {\"v\":\"a\"}\n",
+        0,
+    ),
+    ("changes 1", b"", CHANGES, 0),
+    ("info", b"", INFO, 0),
+    ("compact", b"", "compacted 508 475\n", 0),
+    ("query i b*", b"", "d2 a:2 - {\"t\":\"bc\"}\n", 0),
+    ("query i b", b"", "", 0),
+    ("keys i", b"", "[\"bc\"]\n", 0),
+    (
+        "conflicts d3",
+        b"",
+        "b:1 {\"v\":\"b\"}\na:1 {\"v\":\"a\"}\n",
+        0,
+    ),
+    ("changes 1", b"", CHANGES, 0),
+    ("info", b"", INFO, 0),
+];
+
+const CHANGES: &str = "generation 5 T-5a58563efd525018a50d31c0d3f37e93\n\
+    d3 4 T-bab20aaca9315ef39202d7e5eb9bdc33\n\
+    d2 5 T-5a58563efd525018a50d31c0d3f37e93\n";
+
+const INFO: &str = "replica a\n\
+    database db\n\
+    generation 5 T-5a58563efd525018a50d31c0d3f37e93\n\
+    known b 1 T-a12aa9bff3485ffcbd67876eea76a865\n";
 
 // Indexes: what is refused, what is found, and the keys.
 const PATTERNS: &[Row] = &[
@@ -329,6 +371,12 @@ fn conflicts_are_resolved(rt: HostRuntime) {
         None
     );
     assert_eq!(rt; fails_over(rt.alloc(), &[LAST], AT_THE_END), None);
+}
+
+#[test]
+fn a_compaction_changes_no_answer(rt: HostRuntime) {
+    let entries = [CREATED, SECOND, THIRD, RECEIVED, INDEX, CHANGED];
+    assert_eq!(rt; fails_over(rt.alloc(), &entries, COMPACTED), None);
 }
 
 // The three files, byte for byte: empty, and with one document.
