@@ -14,8 +14,8 @@ use u1_base::{DocId, Memory};
 use vector_rev::Clock;
 
 /// Puts `d2` into the prepared store, and tells what was answered and what stands then, as `calls`
-/// does. `after` is told only where the disks have the worked image and were called for no more
-/// than one call that was never refused takes, and where the store reads so when it is opened again.
+/// does. `after` is told only where the disks have the worked image and were called no more often
+/// than for one put, and where the store reads so when it is opened again.
 ///
 /// A disk that finds no memory for its own list of calls fails. Then `before` is told if the store
 /// that is opened again reads as before the call or as after it.

@@ -1,5 +1,6 @@
 //! What holds of every store, as the contract of a function that does nothing.
-ghost use Rattle.run_lists.specs.Sessions.{ChangesCompose, FilesAreFound, ListsAnswer, SessionsGoOn};
+ghost use Rattle.run_lists.specs.Sessions.{ChangesCompose, FilesAreFound};
+ghost use Rattle.run_lists.specs.Sessions.{ListsAnswer, SessionsGoOn};
 
 use conflicts::{law_members, law_state};
 use replica_reads::law_answers;
