@@ -13,8 +13,6 @@ mod flat;
 mod laws;
 mod made;
 mod parts;
-#[cfg(test)]
-mod passes_tests;
 mod plain;
 mod put;
 mod scan;
