@@ -7,4 +7,7 @@ pub mod Querying
 pub mod Listing
 pub mod ListedDocuments
 pub mod Placing
+pub mod SameKept
+pub mod SameStates
+pub mod LentAnswers
 mod Worked

@@ -6,3 +6,5 @@ pub mod Faults
 pub mod Patterns
 pub mod Answers
 pub mod Indexes
+pub mod SameLists
+pub mod IndexAnswers

@@ -16,5 +16,5 @@ pub use changes::{Changed, check_log, whats_changed};
 pub use documents::{all_docs, doc_conflicts, get_doc};
 pub use fault::QueryFault;
 pub use indexes::{from_index, index_at, index_keys, index_table, range_from_index};
-pub use laws::{law_answers, law_documents};
+pub use laws::{law_answers, law_documents, law_index_answers, law_lists};
 pub use positions::{kept_at, position_of};

@@ -5,7 +5,7 @@ use Rattle.conflicts.specs.Document.{member_of}
 use Rattle.conflicts.specs.Lists.{In}
 use Rattle.conflicts.specs.State.{accepts_in, state_of, after_all}
 use Rattle.conflicts.proofs.States.{goes_on}
-use Rattle.replica_laws.proofs.SameStates.{same_lists}
+use Rattle.replica_reads.proofs.SameStates.{same_lists}
 use Rattle.compaction.specs.Compaction.{compaction}
 use Rattle.compaction.proofs.Kept.{from_kept, kept_are_members}
 use Rattle.compaction.proofs.Parts.{accepts_left, index_created}

@@ -19,7 +19,7 @@ use Rattle.replica_reads.specs.Indexes.{for_pattern, for_range, looked_up, queri
 use Rattle.replica_reads.specs.Patterns.{pattern_in}
 use Rattle.replica_reads.proofs.AnswersBy.{filter_by}
 use Rattle.replica_reads.proofs.KeysBy.{table_keys}
-use Rattle.replica_laws.specs.IndexAnswers.{AnswersOfLists}
+use Rattle.replica_reads.specs.IndexAnswers.{AnswersOfLists}
 
 -- ---- an order is one of ids, whatever stands at them
 

@@ -7,8 +7,8 @@ use Rattle.u1_base.proofs.SameIds.{id_tied}
 use Rattle.conflicts.specs.State.{State, Text}
 use Rattle.conflicts.specs.declared.moves.PosTable.TheVariants.{Known, Told}
 use Rattle.replica_state.specs.Held.{Held, meaning, named}
-use Rattle.replica_laws.specs.SameLists.{MeaningTellsLists}
-use Rattle.replica_laws.proofs.SameKept.{kept_told}
+use Rattle.replica_reads.specs.SameLists.{MeaningTellsLists}
+use Rattle.replica_reads.proofs.SameKept.{kept_told}
 
 same_pairs : {V : Type 0} (xs ys : List (Text × V)) → T (is_sorted id_cmp xs) → T (is_sorted id_cmp ys)
     → ((id : Text) → find id_cmp id xs ≡ find id_cmp id ys) → xs ≡ ys

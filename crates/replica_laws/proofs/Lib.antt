@@ -1,3 +1,0 @@
-pub mod SameKept
-pub mod SameStates
-pub mod LentAnswers

@@ -1,3 +1,0 @@
--- What holds of all states.
-pub mod SameLists
-pub mod IndexAnswers
