@@ -1,7 +1,7 @@
 -- A run that begins with a settled file, and one that ends with a sync.
 use Rattle.std.proofs.Common.{◌≡◌, ℕ, List, refl, sym, subst, Result, Ok, Err, OnOk, OnErr}
 use Rattle.disk_model.specs.Disk.{Unsynced, IsCrashImage, settled, wrote, was_cut, Torn, Cut}
-use Rattle.disk_model.specs.Device.{Device, IsSettled, file_of}
+use Rattle.disk_model.specs.Device.{Device}
 use Rattle.disk_model.specs.Moments.{Took, Looked, LeavesOnly}
 use Rattle.disk_model.proofs.Images.{only_settled, torn_image, cut_image}
 use Rattle.disk_model.proofs.Runs.{started, took, looked}

@@ -50,3 +50,7 @@ mem_left_after d n choice = left_of choice (take n d.log.items) (before (drop n 
 -- what a stop during the call of this number leaves by a choice
 abbrev pub mem_left : MemDisk → ℕ → Choice → List ℕ
 mem_left d call choice = mem_left_after d (call + begun (slice_index_or d.log.items call Look)) choice
+
+-- what a stop after the last call leaves by a choice
+abbrev pub mem_left_now : MemDisk → Choice → List ℕ
+mem_left_now d choice = left_of choice d.log.items d.bytes.items

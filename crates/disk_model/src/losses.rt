@@ -43,8 +43,13 @@ pub(crate) fn image_at(
     image_after(alloc, &log[..end], &file, choice)
 }
 
-// The image that a crash after these calls leaves; `file` is what a read gives then.
-fn image_after(alloc: Global, calls: &[Call], file: &[u8], choice: Choice) -> Result<Bytes, Memory>
+/// The image that a crash after these calls leaves; `file` is what a read gives then.
+pub(crate) fn image_after(
+    alloc: Global,
+    calls: &[Call],
+    file: &[u8],
+    choice: Choice,
+) -> Result<Bytes, Memory>
     ensures may_be { IfOk result (λ image. IsCrashImage (now_of calls.now file.now) image) }
     ensures by_choice { IfOk result (λ image. image ≡ left_of choice calls.now file.now) }
 {

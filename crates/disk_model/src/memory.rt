@@ -5,7 +5,7 @@ ghost use Rattle.disk_model.specs.Disk.{IsCrashImage};
 ghost use Rattle.disk_model.specs.Log.{now_of};
 
 use crate::calls::{Call, note_cut, note_look, note_sync, note_write};
-use crate::losses::{Choice, image_at};
+use crate::losses::{Choice, image_after, image_at};
 use crate::{Disk, DiskFailed};
 use std::alloc::Global;
 use u1_base::{Bytes, Memory, Numbers};
@@ -34,7 +34,7 @@ impl MemDisk {
     ghost use Rattle.disk_model.specs.Counts.{called};
     ghost use Rattle.disk_model.specs.Moments.{Looked};
     ghost use Rattle.disk_model.specs.MemDisk.{FailsAsTold, IsToFail, mem_calls, mem_failing};
-    ghost use Rattle.disk_model.specs.MemDisk.{mem_known, mem_left, mem_left_after};
+    ghost use Rattle.disk_model.specs.MemDisk.{mem_known, mem_left, mem_left_after, mem_left_now};
 
     /// A disk that holds these bytes. `failing` has the numbers, from 0, of the calls that fail.
     pub fn new(alloc: Global, bytes: Bytes, failing: Numbers) -> MemDisk
@@ -78,6 +78,15 @@ impl MemDisk {
             Call::Write(_, _, _, _) | Call::Cut(_, _) => self.image(alloc, place + 1, choice),
             Call::Look | Call::Sync => self.image(alloc, place, choice),
         }
+    }
+
+    /// The image that a stop now leaves by this choice: one that a crash after the last call may
+    /// leave.
+    pub fn crash_image_now(&self, alloc: Global, choice: Choice) -> Result<Bytes, Memory>
+        ensures may_be { IfOk result (λ image. IsCrashImage (mem_known self.now).now image) }
+        ensures by_choice { IfOk result (λ image. image ≡ mem_left_now self.now choice) }
+    {
+        image_after(alloc, &self.log, &self.bytes, choice)
     }
 
     // The image at the moment before the call of this number, or now.
