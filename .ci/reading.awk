@@ -113,6 +113,11 @@ FILENAME ~ /\.antt$/ {
     sub(/[ :({].*/, "", word)
     begin(word, is_public)
     in_data = text ~ /data /
+  } else if (at == 0 && text ~ /^pub [A-Za-z_0-9]+ +:/) {
+    word = substr(text, 5)
+    sub(/[ :].*/, "", word)
+    begin(word, 1)
+    in_data = 0
   } else if (mutual && at == 2 && text ~ /^  (pub )?[A-Za-z_0-9]+ +:/) {
     word = text
     sub(/^ *(pub )?/, "", word)
