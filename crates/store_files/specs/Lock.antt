@@ -1,0 +1,11 @@
+-- Why a folder was not locked.
+use Rattle.std.specs.Prelude.{◌≡◌, ◌⊎◌}
+use Rattle.std.specs.IoError.{error_kind}
+use Rattle.std.specs.declared.io.ErrorKind.TheVariants.{OutOfMemory, WouldBlock}
+use Rattle.disk_model.specs.declared.file_fault.FileCall.TheVariants.{Lock}
+use Rattle.disk_model.specs.declared.file_fault.FileFault.{FileFault}
+
+-- a lock was tried; another process holds it, or there is no memory
+abbrev pub IsNotLocked : FileFault → Type 0
+IsNotLocked fault = (fault.call ≡ Lock)
+    × ((error_kind fault.error ≡ WouldBlock) ⊎ (error_kind fault.error ≡ OutOfMemory))
