@@ -1,7 +1,7 @@
 //! The lock under which a store is made: before there is a root, nothing of the store itself can be
 //! locked.
 ghost use Rattle.std.specs.Prelude.{◌≡◌, IfErr};
-ghost use Rattle.store_files.specs.Lock.{IsNotLocked};
+ghost use Rattle.store_files.specs.Lock.{IsNotLocked, holds};
 
 use crate::files::folder_at;
 use disk_model::{FileCall, FileFault, LOCK_TRIES, LOCK_WAIT};
@@ -21,7 +21,9 @@ pub struct FolderLock {
 impl FolderLock {
     /// Whether a folder is locked. It is not where there is no folder yet that can be opened, and
     /// where the system locks no folders.
-    pub fn is_held(&self) -> bool {
+    pub fn is_held(&self) -> bool
+        ensures { result ≡ holds self.now }
+    {
         self.folder.is_some()
     }
 }
