@@ -1,7 +1,7 @@
 //! Each example is run. The expected values were worked out by hand.
 use crate::{
-    KeepFault, PrintFault, content_in_pieces, index_notes, keep_note, notes_with, print_canonical,
-    settle_note, take_note, write_note,
+    KeepFault, PrintFault, content_in_pieces, index_notes, keep_note, notes_with, open_notes,
+    print_canonical, settle_note, take_note, write_note,
 };
 use conflicts::{Member, Move, Outcome4, PosTable};
 use content::{Content, ContentFault};
@@ -14,6 +14,8 @@ use replica_core::{MemReplica, Replica, get_doc};
 use replica_state::State;
 use replica_volume::{InitFault, Volume};
 use std::alloc::Global;
+use std::fs;
+use std::test::Fail;
 use u1_base::limits::GREATEST_IMAGE_LIMIT;
 use u1_base::{Bytes, DbName, DocId, Ids, IndexName, Numbers, Position, ReplicaUid, TransId};
 use vector_rev::Clock;
@@ -317,4 +319,33 @@ fn fails_at_once(kept: Option<Result<Volume<MemDisk>, KeepFault>>) -> bool {
 fn a_note_is_kept(rt: HostRuntime) {
     assert!(rt; is_kept(rt.alloc()));
     assert!(rt; is_not_made(rt.alloc()));
+}
+
+// ---- a store in a folder
+
+fn written(rt: &HostRuntime, header: Header, id: &DocId, text: &Content) -> Option<Clock> {
+    match open_notes(rt, "notes", header) {
+        Ok(mut notes) => write_note(rt.alloc(), &mut notes, SEED, id, text).ok(),
+        Err(_) => None,
+    }
+}
+
+// Whether the note gets the text at this revision, in the store of the folder `notes`.
+fn is_written(rt: &HostRuntime, text: &str, rev: &str) -> bool {
+    let Some(header) = header_of(rt.alloc()) else {
+        return false;
+    };
+    match note_of(rt.alloc(), "n1", text) {
+        Some((id, text)) => is_rev(written(rt, header, &id, &text), rev),
+        None => false,
+    }
+}
+
+// The second call finds the store of the first one.
+#[test]
+fn a_folder_keeps_notes(rt: HostRuntime) -> Result<(), Fail> {
+    let _ = fs::remove_dir_all(&rt, "notes");
+    assert!(rt; is_written(&rt, MILK, "laptop:1") && is_written(&rt, BREAD, "laptop:2"));
+    fs::remove_dir_all(&rt, "notes")?;
+    Ok(())
 }
