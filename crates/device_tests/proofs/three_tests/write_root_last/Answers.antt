@@ -2,7 +2,7 @@
 use Rattle.disks.specs.Disks.{disks_known}
 use Rattle.disks.proofs.RootLast.{begun, image_left, image_right, left_fails, right_fails, root_written}
 use Rattle.disks.proofs.RootLast.{root_whole}
-use Rattle.disks_tests.proofs.root_last_tests.write_root_last.Goals as goal
+use Rattle.device_tests.proofs.three_tests.write_root_last.Goals as goal
 
 pub returns-in_err-write_synced_on-clause-any_moment : goal.returns-in_err-write_synced_on-clause-any_moment
 returns-in_err-write_synced_on-clause-any_moment g c t =

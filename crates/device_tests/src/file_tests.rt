@@ -1,5 +1,5 @@
 //! What `FileDisk` does with a real file.
-use crate::tests::are;
+use crash_harness::are;
 use disk_model::{
     Disk, DiskFailed, FileCall, FileDisk, cut_synced, cut_write_synced, read_synced, write_synced,
 };

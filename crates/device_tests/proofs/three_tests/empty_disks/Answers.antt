@@ -3,7 +3,7 @@ use Rattle.std.proofs.Common.{◌∙◌, ap}
 use Rattle.disk_model.specs.Device.{File, Device, file_of}
 use Rattle.disk_model.specs.MemDisk.{mem_known}
 use Rattle.disk_model.specs.declared.memory.MemDisk.{MemDisk}
-use Rattle.disks_tests.proofs.root_last_tests.empty_disks.Goals as goal
+use Rattle.device_tests.proofs.three_tests.empty_disks.Goals as goal
 
 -- the file of a disk in memory
 abbrev file_in : MemDisk → File
@@ -11,7 +11,7 @@ file_in d = file_of (mem_known d)
 
 pub returns : goal.returns
 returns c = record {
-  root = ap file_in c.new.ensures.root ∙ ap (λ (d : Device). file_of d) c.in_ok-root.ensures;
-  left = ap file_in c.new.ensures.left ∙ ap (λ (d : Device). file_of d) c.in_ok-left.ensures;
-  right = ap file_in c.new.ensures.right ∙ ap (λ (d : Device). file_of d) c.in_ok-right.ensures;
+  root = ap file_in c.new.ensures.root ∙ ap (λ (d : Device). file_of d) c.in_ok-root.ensures.known;
+  left = ap file_in c.new.ensures.left ∙ ap (λ (d : Device). file_of d) c.in_ok-left.ensures.known;
+  right = ap file_in c.new.ensures.right ∙ ap (λ (d : Device). file_of d) c.in_ok-right.ensures.known;
 }
