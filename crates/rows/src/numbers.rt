@@ -34,3 +34,8 @@ pub(crate) fn byte_of(high: u32, low: u32) -> u8 {
     let byte = high.wrapping_mul(16).wrapping_add(low) % 256;
     byte as u8
 }
+
+pub(crate) fn push_number(text: &mut String, number: u64) -> Result<(), Memory> {
+    write!(text, "{number}")?;
+    Ok(())
+}

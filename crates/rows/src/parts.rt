@@ -1,5 +1,5 @@
 //! The words of a line.
-use crate::numbers::byte_of;
+use crate::numbers::{byte_of, push_number};
 use std::alloc::Global;
 use std::mem;
 use u1_base::{Memory, Text, Texts};
@@ -17,7 +17,8 @@ pub struct Parts {
 /// `"`, and there
 /// - `\n`, `\t`, `\r` are the line feed, tabulator and carriage return, `\"` and `\\` themselves;
 /// - `\xHH` is the character of this number in base 16;
-/// - `\(N TEXT)` is the text up to the next `)`, as it stands, N times.
+/// - `\(N TEXT)` is the text up to the next `)`, N times; in `\(A-B TEXT)` it stands once for each
+///   number from A up to, but without, B, and each `#` in it is that number.
 ///
 /// Every other text stands for itself: `{"a":1}` is one word, since it does not begin with `"`.
 pub fn parts_of(alloc: Global, line: &str) -> Result<Parts, Memory> {
@@ -25,6 +26,8 @@ pub fn parts_of(alloc: Global, line: &str) -> Result<Parts, Memory> {
         place: Place::Between,
         word: String::new(alloc),
         piece: String::new(alloc),
+        from: 0,
+        to: 0,
         is_input: false,
         parts: Parts {
             words: Texts::new(alloc),
@@ -51,15 +54,18 @@ enum Place {
     Escaped,
     High,
     Low(u32),
-    Count(u32),
-    Repeated(u32),
+    Count,
+    Repeated,
 }
 
 #[derive(Drop)]
 struct Parting {
     place: Place,
     word: String,
+    // The repeated text, and the numbers that it stands for.
     piece: String,
+    from: u32,
+    to: u32,
     is_input: bool,
     parts: Parts,
 }
@@ -73,7 +79,8 @@ impl Parting {
             Place::Quoted => self.quoted(c),
             Place::Escaped => self.escaped(c),
             Place::High | Place::Low(_) => self.digit(c),
-            Place::Count(_) | Place::Repeated(_) => self.repeated(c),
+            Place::Count => self.count(c),
+            Place::Repeated => self.repeated(c),
         }
     }
 
@@ -124,7 +131,7 @@ impl Parting {
             't' => self.word.push('\t')?,
             'r' => self.word.push('\r')?,
             'x' => self.place = Place::High,
-            '(' => self.place = Place::Count(0),
+            '(' => self.place = Place::Count,
             _ => self.word.push(c)?,
         }
         Ok(())
@@ -142,22 +149,33 @@ impl Parting {
         Ok(())
     }
 
-    fn repeated(&mut self, c: char) -> Result<(), Memory> {
-        match (self.place, c) {
-            (Place::Count(count), ' ') => self.place = Place::Repeated(count),
-            (Place::Count(count), _) => {
+    fn count(&mut self, c: char) -> Result<(), Memory> {
+        match c {
+            ' ' => self.place = Place::Repeated,
+            '-' => {
+                self.from = self.to;
+                self.to = 0;
+            }
+            _ => {
                 let digit = c.to_digit(10).unwrap_or(0);
-                self.place = Place::Count(count.wrapping_mul(10).wrapping_add(digit));
+                self.to = self.to.wrapping_mul(10).wrapping_add(digit);
             }
-            (Place::Repeated(count), ')') => {
-                self.place = Place::Quoted;
-                for _ in 0..count {
-                    self.word.push_str(self.piece.as_str())?;
-                }
-                self.piece.clear();
-            }
-            _ => self.piece.push(c)?,
         }
+        Ok(())
+    }
+
+    fn repeated(&mut self, c: char) -> Result<(), Memory> {
+        if c != ')' {
+            self.piece.push(c)?;
+            return Ok(());
+        }
+        self.place = Place::Quoted;
+        for number in self.from..self.to {
+            push_piece(&mut self.word, self.piece.as_str(), number)?;
+        }
+        self.piece.clear();
+        self.from = 0;
+        self.to = 0;
         Ok(())
     }
 
@@ -172,4 +190,16 @@ impl Parting {
         }
         self.parts.words.push(word)
     }
+}
+
+// The text, with the number for each `#`.
+fn push_piece(word: &mut String, piece: &str, number: u32) -> Result<(), Memory> {
+    for c in piece.chars() {
+        if c == '#' {
+            push_number(word, u64::from(number))?;
+        } else {
+            word.push(c)?;
+        }
+    }
+    Ok(())
 }

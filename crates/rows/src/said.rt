@@ -1,4 +1,5 @@
 //! The answers to one line.
+use crate::numbers::push_number;
 use std::alloc::Global;
 use u1_base::Memory;
 
@@ -41,7 +42,7 @@ impl Said {
             return Ok(());
         }
         self.word("[")?;
-        write_number(&mut self.text, u64::from(status))?;
+        push_number(&mut self.text, u64::from(status))?;
         self.join("]")?;
         self.end()
     }
@@ -65,7 +66,7 @@ impl Said {
 
     pub fn number(&mut self, number: u64) -> Result<(), Memory> {
         self.word("")?;
-        write_number(&mut self.text, number)
+        push_number(&mut self.text, number)
     }
 
     /// A word in quotes, with the escapes that `parts_of` reads: for a text that may have blanks, be
@@ -136,11 +137,6 @@ impl Said {
         self.text.push(hex_digit(byte % 16))?;
         Ok(())
     }
-}
-
-fn write_number(text: &mut String, number: u64) -> Result<(), Memory> {
-    write!(text, "{number}")?;
-    Ok(())
 }
 
 fn hex_digit(digit: u8) -> char {
