@@ -13,12 +13,13 @@ pub struct Parts {
 }
 
 /// The words of a line, which blanks part, up to one that begins with `<`: what follows that sign,
-/// up to the end of the line, is the input. A word or an input that begins with `"` goes to the next
-/// `"`, and there
+/// up to the end of the line, is the input. A word or an input that begins with `"` goes to the
+/// next `"`, and there
 /// - `\n`, `\t`, `\r` are the line feed, tabulator and carriage return, `\"` and `\\` themselves;
 /// - `\xHH` is the character of this number in base 16;
-/// - `\(N TEXT)` is the text up to the next `)`, N times; in `\(A-B TEXT)` it stands once for each
-///   number from A up to, but without, B, and each `#` in it is that number.
+/// - `\(N TEXT)` is N times the text up to the next `)`, which has one character or more; in
+///   `\(A-B TEXT)` it stands once for each number from A up to, but without, B, and each `#` in it
+///   is that number.
 ///
 /// Every other text stands for itself: `{"a":1}` is one word, since it does not begin with `"`.
 pub fn parts_of(alloc: Global, line: &str) -> Result<Parts, Memory> {
@@ -165,7 +166,7 @@ impl Parting {
     }
 
     fn repeated(&mut self, c: char) -> Result<(), Memory> {
-        if c != ')' {
+        if c != ')' || self.piece.is_empty() {
             self.piece.push(c)?;
             return Ok(());
         }

@@ -69,8 +69,8 @@ impl Said {
         push_number(&mut self.text, number)
     }
 
-    /// A word in quotes, with the escapes that `parts_of` reads: for a text that may have blanks, be
-    /// empty or have lines.
+    /// A word in quotes, with the escapes that `parts_of` reads: for a text that may have blanks,
+    /// be empty or have lines.
     pub fn quoted(&mut self, text: &str) -> Result<(), Memory> {
         self.word("\"")?;
         for c in text.chars() {
@@ -122,7 +122,7 @@ impl Said {
             '"' => self.text.push_str("\\\"")?,
             '\\' => self.text.push_str("\\\\")?,
             _ => match u8::try_from(c) {
-                Ok(byte) if byte < 32 || byte > 126 => {
+                Ok(byte) if byte < 32 || (byte > 126 && byte < 160) => {
                     self.text.push_str("\\x")?;
                     self.hex_of(byte)?;
                 }
