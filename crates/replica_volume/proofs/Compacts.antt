@@ -26,9 +26,6 @@ use Rattle.journal.specs.Passing.{HasPassed}
 use Rattle.journal.specs.Stored.{StoredImage}
 use Rattle.journal.proofs.Entries.{length-entry, up_to_gate-push}
 use Rattle.record_codec.specs.Bodies.{added_of, body_of}
-use Rattle.record_codec.specs.Decoding.{recorded}
-use Rattle.record_codec.specs.Laws.{Says}
-use Rattle.record_codec.specs.declared.decoding.Decoded.{Decoded}
 use Rattle.record_codec.specs.declared.decoding.RecordFault.{RecordFault}
 use Rattle.record_codec.specs.declared.decoding.RecordFault.TheVariants.{Bad, Memory}
 use Rattle.replica_core.specs.Replica.Found.{Stands}
@@ -43,8 +40,9 @@ use Rattle.volume.specs.Store.{IsStore, found_of}
 use Rattle.volume.specs.Store.FoundImages.{Stands as StandingImage}
 use Rattle.volume.proofs.Opens.{still_stands}
 use Rattle.volume.proofs.Standing.{store_stands}
-use Rattle.replica_volume.specs.Compacting.{AreKept, AreThose, Compacts, HoldOldOrCompacted, IsCompacted, KeepsSteps}
-use Rattle.replica_volume.specs.Compacting.{IsLeftAlone, IsWrittenAnew, LeavesOldOrCompacted, LeavesState}
+use Rattle.replica_volume.specs.Compacting.{AreKept, AreKeptSoFar, AreThose, Compacts, HoldOldOrCompacted, IsCompacted}
+use Rattle.replica_volume.specs.Compacting.{IsLeftAlone, IsOneKept, IsWrittenAnew, KeepsAll, KeepsOne, KeepsSteps}
+use Rattle.replica_volume.specs.Compacting.{LeavesOldOrCompacted, LeavesState}
 use Rattle.replica_volume.specs.Compacting.{WritesAnew, other_side, sizes_of}
 use Rattle.replica_volume.specs.Faults.{fault_compacting, fault_reading}
 use Rattle.replica_volume.specs.Placing.{IsSpelled, LeavesOldOrSpelled, StandsWith}
@@ -53,6 +51,7 @@ use Rattle.replica_volume.specs.Steps.{Chronicle, body_in, state_at, steps_of}
 use Rattle.replica_volume.specs.Store.{holds_steps, opened_as, opens_as, store_of, with_steps}
 use Rattle.replica_volume.specs.Store.StoreFound.{Holds}
 use Rattle.replica_volume.specs.Volume.{KeepsHistory, devices, limit_in, volume_known}
+use Rattle.replica_volume.specs.declared.compact_fault.CompactFault.TheVariants as anew
 use Rattle.replica_volume.specs.declared.compact_fault.Sizes.{Sizes}
 use Rattle.replica_volume.specs.declared.compacting.KeptSteps.{KeptSteps}
 use Rattle.replica_volume.specs.declared.placing.PlaceFault.{PlaceFault}
@@ -63,13 +62,6 @@ use Rattle.replica_volume.proofs.Places.{spelled_says}
 use Rattle.replica_volume.proofs.Read.{bad_in, one_said}
 
 -- ---- reading
-
--- the first bodies of the image say a history, and of each of its steps there is what the state alone leaves of it
-pub record AreKeptSoFar (s : State) (image : StoredImage) (bodies : List (List ℕ)) (k : KeptSteps) : Type 0 where
-  pub history : History
-  pub says : steps_of image.format image.header bodies ≡ Ok (record { steps = history; uids = k.uids.uids })
-  pub kept : map step_of k.steps ≡ trimmed s history
-  pub spelled : image.format ≢ 1 → AreThose image.header.uid history bodies k.uids.uids
 
 -- no body yet
 pub kept_none : (s : State) (image : StoredImage) (k : KeptSteps) → k.steps ≡ [] → k.uids.uids ≡ image.header.uid ∷ []
@@ -102,24 +94,22 @@ those_more own h x bodies body uids added are spelled names = record {
 
 -- one body more
 pub kept_more : (s : State) (image : StoredImage) (bodies : List (List ℕ)) (body : List ℕ) (old new : KeptSteps)
-    (d : Decoded) → AreKeptSoFar s image bodies old
-    → body_in image.format old.uids.uids body ≡ Ok (recorded d)
-    → (image.format ≢ 1 → Says old.uids.uids body (recorded d)) → new.uids.uids ≡ old.uids.uids ++ d.added
-    → map step_of new.steps ≡ map step_of old.steps ++ left s nothing_later (step_of d.step)
+    (format : ℕ) → AreKeptSoFar s image bodies old → format ≡ image.format → IsOneKept s format body old new
     → AreKeptSoFar s image (bodies ++ body ∷ []) new
-kept_more s image bodies body old new d k said spelled uids steps = record {
-  history = k.history ++ step_of d.step ∷ [];
+kept_more s image bodies body old new format k same is = record {
+  history = k.history ++ is.said.step ∷ [];
   says = one_said image.format (image.header.uid ∷ []) bodies body
-      (record { steps = k.history; uids = old.uids.uids }) (recorded d) k.says said
-      ∙ ap (λ (us : List Text). Ok (record { steps = k.history ++ step_of d.step ∷ []; uids = us })) (sym uids);
-  kept = steps
-      ∙ ap (λ (l : History). l ++ left s nothing_later (step_of d.step)) k.kept
-      ∙ sym (flat_map-push (left s nothing_later) k.history (step_of d.step));
+      (record { steps = k.history; uids = old.uids.uids }) is.said k.says
+      (ap (λ (n : ℕ). body_in n old.uids.uids body) (sym same) ∙ is.reads)
+      ∙ ap (λ (us : List Text). Ok (record { steps = k.history ++ is.said.step ∷ []; uids = us })) (sym is.uids);
+  kept = is.steps
+      ∙ ap (λ (l : History). l ++ left s nothing_later is.said.step) k.kept
+      ∙ sym (flat_map-push (left s nothing_later) k.history is.said.step);
   spelled = λ other.
-      let says = spelled other in
-      subst (λ (us : List Text). AreThose image.header.uid (k.history ++ step_of d.step ∷ []) (bodies ++ body ∷ []) us)
-      (sym uids)
-      (those_more image.header.uid k.history (step_of d.step) bodies body old.uids.uids d.added (k.spelled other)
+      let says = is.spelled (λ e. other (sym same ∙ e)) in
+      subst (λ (us : List Text). AreThose image.header.uid (k.history ++ is.said.step ∷ []) (bodies ++ body ∷ []) us)
+      (sym is.uids)
+      (those_more image.header.uid k.history is.said.step bodies body old.uids.uids is.said.added (k.spelled other)
       says.spelled says.added);
 }
 
@@ -130,17 +120,29 @@ kept_all s image bodies k e is =
     let all = subst (λ (l : List (List ℕ)). AreKeptSoFar s image l k) (sym e) is in
     record { history = all.history; uids = k.uids.uids; says = all.says; kept = all.kept; spelled = all.spelled }
 
--- what reading the next body answered, where it has no reading or memory ran out
-pub kept_err : (s : State) (image : StoredImage) (bodies : List (List ℕ)) (body : List ℕ) (old : KeptSteps)
+-- the next body has no reading, or memory ran out
+pub kept_err : (s : State) (image : StoredImage) (bodies : List (List ℕ)) (body : List ℕ) (old new : KeptSteps)
     (place next start format : ℕ) (why : RecordFault)
     → HasPassed image bodies place → HasPassed image (bodies ++ body ∷ []) next → AreKeptSoFar s image bodies old
     → format ≡ image.format
-    → start ≡ place + 5 → DecodesAt start (body_in format old.uids.uids body) (Err why) → KeepsSteps s image (Err why)
-kept_err s image bodies body old place next start format (Bad here) before behind k f at said =
+    → start ≡ place + 5 → KeepsOne s format start body old new (Err why) → KeepsAll s image new (Err why)
+kept_err s image bodies body old new place next start format (Bad here) before behind k f at said =
     bad_in image bodies body place next said.0 here (record { steps = k.history; uids = old.uids.uids })
     before.there behind k.says
     (ap (λ (n : ℕ). body_in n old.uids.uids body) (sym f) ∙ said.1) (said.2 ∙ ap (λ (m : ℕ). m + said.0) at)
-kept_err s image bodies body old place next start format Memory before behind k f at said = tt
+kept_err s image bodies body old new place next start format Memory before behind k f at said = tt
+
+-- one body has no reading, or memory ran out
+pub one_err : (s : State) (format start : ℕ) (body : List ℕ) (old new : KeptSteps) (why : RecordFault)
+    → DecodesAt start (body_in format old.uids.uids body) (Err why) → KeepsOne s format start body old new (Err why)
+one_err s format start body old new (Bad here) said = said
+one_err s format start body old new Memory said = tt
+
+-- what all bodies leave is what the image says
+pub all_err : (s : State) (image : StoredImage) (k : KeptSteps) (why : RecordFault) → KeepsAll s image k (Err why)
+    → KeepsSteps s image (Err why)
+all_err s image k (Bad place) is = is
+all_err s image k Memory is = tt
 
 -- ---- the sides
 
@@ -470,3 +472,8 @@ module _ {D : Type 0} (known : D → Device) (v : Volume D) (k : KeepsHistory v 
       → WritesAnew tells known v new (Err (fault_compacting why))
   not_put tells mid new place.Disk leaves alone same = leaves
   not_put tells mid new place.Memory leaves alone same = subst (IsLeftAlone known v) (sym (same refl)) alone
+
+-- a failed disk is told only where it failed
+pub disk_compacting : (why : PlaceFault) → fault_compacting why ≡ anew.Disk → why ≡ place.Disk
+disk_compacting place.Disk e = refl
+disk_compacting place.Memory e = absurd (cc e)

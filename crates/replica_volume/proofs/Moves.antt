@@ -28,6 +28,7 @@ use Rattle.record_fields.specs.Table.{Numbers}
 use Rattle.replica_volume.specs.Placing.{IsSpelled, LeavesOldOrSpelled, SaysSteps, StandsWith}
 use Rattle.replica_volume.specs.Steps.{Chronicle, body_in, steps_in, steps_of, unnumbered}
 use Rattle.replica_volume.specs.Store.{IsMoved, IsSameOrMoved, MayOpenAs, holds_steps, opened_as, opens_as, with_steps}
+use Rattle.replica_volume.specs.declared.moving.Finished.{Finished}
 use Rattle.replica_volume.specs.declared.placing.Standing.{Standing}
 use Rattle.replica_volume.proofs.Read.{one_bad, one_said}
 use Rattle.replica_volume.proofs.Places.{spelled_says}
@@ -159,6 +160,18 @@ module _ (journal : Extent) (side : DiskName) (image : StoredImage) (h : History
         },
       )))
       left)
+
+-- what holds of the image that stands holds of it beside the state
+pub finished_with : {E : Type 0} (r : Result Finished E) (s t : Standing) (P : Standing → Type 0)
+    → IfOk r (λ f. f.standing ≡ s) → s ≡ t → P t → IfOk r (λ f. P f.standing)
+finished_with (Ok f) s t P same is p = subst P (sym (same ∙ is)) p
+finished_with (Err e) s t P same is p = tt
+
+pub moved_with : {E : Type 0} (image : StoredImage) (us : List Text) (files : Trio File) (r : Result Finished E)
+    → IfOk r (λ f. (h : History) (vs : List Text) → SaysSteps image h vs → StandsWith image.header h f.standing files)
+    → IfOk r (λ f. (h : History) → SaysSteps image h us → StandsWith image.header h f.standing files)
+moved_with image us files (Ok f) stands = λ h says. stands h us says
+moved_with image us files (Err e) stands = tt
 
 -- the image that was moved stands
 pub moved_stands : {E : Type 0} (image : StoredImage) (head : Head) (spelled : Spelled) (files : Trio File)

@@ -1,16 +1,14 @@
 -- Going through the bodies of an image, and making their steps.
-use Rattle.std.proofs.Common.{◌≡◌, ℕ, ◌+◌, List, [], ◌∷◌, ◌++◌, Ok, Err, sym, ◌∙◌, ap, subst}
+use Rattle.std.proofs.Common.{◌≡◌, ℕ, ◌+◌, List, [], ◌∷◌, ◌++◌, Result, Ok, Err, sym, ◌∙◌, ap, subst}
 use Rattle.conflicts.specs.State.{State, Text, after}
 use Rattle.conflicts.proofs.States.{goes_on}
 use Rattle.journal.specs.Stored.{StoredImage}
 use Rattle.journal.specs.Passing.{HasPassed}
-use Rattle.replica_state.specs.Steps.{step_of}
-use Rattle.record_codec.specs.Decoding.{recorded}
-use Rattle.record_codec.specs.declared.decoding.Decoded.{Decoded}
+use Rattle.record_codec.specs.Bodies.{Recorded}
 use Rattle.replica_volume.specs.Steps.{body_in, state_at}
 use Rattle.record_codec.specs.declared.decoding.RecordFault.{RecordFault}
 use Rattle.record_codec.specs.declared.decoding.RecordFault.TheVariants.{Bad, Memory}
-use Rattle.replica_volume.specs.Replaying.{AreMade, DecodesAt, IsBadAt, Leave, Replays}
+use Rattle.replica_volume.specs.Replaying.{AreMade, DecodesAt, IsOneMade, Leave, MakesAll, MakesOne, Replays}
 use Rattle.replica_volume.specs.declared.replaying.Made.{Made}
 use Rattle.replica_volume.proofs.Read.{bad_in, one_said}
 
@@ -24,42 +22,44 @@ replayed_none image state uids is numbered = record {
 }
 
 -- one body more
-pub replayed_more : (image : StoredImage) (bodies : List (List ℕ)) (body : List ℕ) (old new : State)
-    (before behind : List Text) (d : Decoded)
-    → Leave image bodies old before
-    → body_in image.format before body ≡ Ok (recorded d) → behind ≡ before ++ d.added
-    → new ≡ after old (step_of d.step) → Leave image (bodies ++ body ∷ []) new behind
-replayed_more image bodies body old new before behind d i said uids state = record {
-  history = i.history ++ step_of d.step ∷ [];
-  says = one_said image.format (image.header.uid ∷ []) bodies body (record { steps = i.history; uids = before })
-      (recorded d) i.says said
-      ∙ ap (λ (us : List Text). Ok (record { steps = i.history ++ step_of d.step ∷ []; uids = us })) (sym uids);
-  leaves = state ∙ ap (λ (s : State). after s (step_of d.step)) i.leaves
-      ∙ sym (goes_on.step image.header.name image.header.uid i.history (step_of d.step));
+pub made_more : (image : StoredImage) (bodies : List (List ℕ)) (body : List ℕ) (old new : Made) (format : ℕ)
+    → AreMade image bodies old → format ≡ image.format
+    → IsOneMade (body_in format old.uids.uids body) old new → AreMade image (bodies ++ body ∷ []) new
+made_more image bodies body old new format i same is = record {
+  history = i.history ++ is.said.step ∷ [];
+  says = one_said image.format (image.header.uid ∷ []) bodies body
+      (record { steps = i.history; uids = old.uids.uids }) is.said i.says
+      (ap (λ (n : ℕ). body_in n old.uids.uids body) (sym same) ∙ is.reads)
+      ∙ ap (λ (us : List Text). Ok (record { steps = i.history ++ is.said.step ∷ []; uids = us })) (sym is.uids);
+  leaves = is.state ∙ ap (λ (s : State). after s is.said.step) i.leaves
+      ∙ sym (goes_on.step image.header.name image.header.uid i.history is.said.step);
 }
 
 -- all bodies
-pub replayed_all : (image : StoredImage) (bodies : List (List ℕ)) (made : Made)
+pub made_all : (image : StoredImage) (bodies : List (List ℕ)) (made : Made)
     → image.bodies ≡ bodies → AreMade image bodies made → AreMade image image.bodies made
-replayed_all image bodies made e is = subst (λ (l : List (List ℕ)). AreMade image l made) (sym e) is
+made_all image bodies made e is = subst (λ (l : List (List ℕ)). AreMade image l made) (sym e) is
 
--- a body that has no reading
-pub replayed_bad : (image : StoredImage) (bodies : List (List ℕ)) (body : List ℕ) (made : State) (uids : List Text)
-    (place next at start here : ℕ)
-    → HasPassed image bodies place → HasPassed image (bodies ++ body ∷ []) next → Leave image bodies made uids
-    → body_in image.format uids body ≡ Err at → start ≡ place + 5 → here ≡ start + at → IsBadAt image here
-replayed_bad image bodies body made uids place next at start here before after_ i said s n =
-    bad_in image bodies body place next at here
-    (record { steps = i.history; uids = uids }) before.there after_ i.says said
-    (n ∙ ap (λ (m : ℕ). m + at) s)
-
--- what reading the next body answered, where it has no reading or memory ran out
-pub replayed_err : (image : StoredImage) (bodies : List (List ℕ)) (body : List ℕ) (made : State) (uids : List Text)
+-- the next body has no reading, or memory ran out
+pub made_err : (image : StoredImage) (bodies : List (List ℕ)) (body : List ℕ) (old new : Made)
     (place next start format : ℕ) (why : RecordFault)
-    → HasPassed image bodies place → HasPassed image (bodies ++ body ∷ []) next → Leave image bodies made uids
-    → format ≡ image.format
-    → start ≡ place + 5 → DecodesAt start (body_in format uids body) (Err why) → Replays image (Err why)
-replayed_err image bodies body made uids place next start format (Bad here) before after_ i f s said =
-    replayed_bad image bodies body made uids place next said.0 start here before after_ i
-    (ap (λ (n : ℕ). body_in n uids body) (sym f) ∙ said.1) s said.2
-replayed_err image bodies body made uids place next start format Memory before after_ i f s said = tt
+    → HasPassed image bodies place → HasPassed image (bodies ++ body ∷ []) next → AreMade image bodies old
+    → format ≡ image.format → start ≡ place + 5
+    → MakesOne start (body_in format old.uids.uids body) old new (Err why) → MakesAll image new (Err why)
+made_err image bodies body old new place next start format (Bad here) before behind i f at said =
+    bad_in image bodies body place next said.0 here (record { steps = i.history; uids = old.uids.uids })
+    before.there behind i.says
+    (ap (λ (n : ℕ). body_in n old.uids.uids body) (sym f) ∙ said.1) (said.2 ∙ ap (λ (m : ℕ). m + said.0) at)
+made_err image bodies body old new place next start format Memory before behind i f at said = tt
+
+-- one body has no reading, or memory ran out
+pub one_err : (start : ℕ) (read : Result Recorded ℕ) (old new : Made) (why : RecordFault)
+    → DecodesAt start read (Err why) → MakesOne start read old new (Err why)
+one_err start read old new (Bad here) said = said
+one_err start read old new Memory said = tt
+
+-- what all bodies leave is what the image says
+pub all_err : (image : StoredImage) (made : Made) (why : RecordFault) → MakesAll image made (Err why)
+    → Replays image (Err why)
+all_err image made (Bad place) is = is
+all_err image made Memory is = tt

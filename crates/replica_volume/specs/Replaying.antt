@@ -1,6 +1,6 @@
 -- Private words: what going through the bodies of an image leaves.
-use Rattle.std.specs.Prelude.{◌≡◌, ℕ, ◌+◌, List, length, Result, Ok, Err}
-use Rattle.conflicts.specs.State.{History, State, Text}
+use Rattle.std.specs.Prelude.{◌≡◌, ℕ, ◌+◌, List, ◌++◌, length, Result, Ok, Err}
+use Rattle.conflicts.specs.State.{History, State, Text, after}
 use Rattle.disks.specs.declared.name.DiskName.{DiskName}
 use Rattle.journal.specs.Image.{header_bytes}
 use Rattle.journal.specs.Stored.{StoredImage}
@@ -42,6 +42,25 @@ abbrev pub Replays : StoredImage → Result Made RecordFault → Type 0
 Replays image (Ok m) = AreMade image image.bodies m
 Replays image (Err (record_fault.Bad place)) = IsBadAt image place
 Replays image (Err record_fault.Memory) = Unit {0}
+
+-- the same of the steps that were made so far
+abbrev pub MakesAll : StoredImage → Made → Result (Unit {0}) RecordFault → Type 0
+MakesAll image made (Ok done) = AreMade image image.bodies made
+MakesAll image made (Err (record_fault.Bad place)) = IsBadAt image place
+MakesAll image made (Err record_fault.Memory) = Unit {0}
+
+-- the step that a body says was made, and the uids that it adds got numbers
+pub record IsOneMade (read : Result Recorded ℕ) (old new : Made) : Type 0 where
+  pub said : Recorded
+  pub reads : read ≡ Ok said
+  pub uids : new.uids.uids ≡ old.uids.uids ++ said.added
+  pub state : replayed new.steps ≡ after (replayed old.steps) said.step
+
+-- or the body, which begins at this place of the file, has no reading
+abbrev pub MakesOne : ℕ → Result Recorded ℕ → Made → Made → Result (Unit {0}) RecordFault → Type 0
+MakesOne start read old new (Ok done) = IsOneMade read old new
+MakesOne start read old new (Err (record_fault.Bad place)) = (at : ℕ) × (read ≡ Err at) × (place ≡ start + at)
+MakesOne start read old new (Err record_fault.Memory) = Unit {0}
 
 -- the same of an image on this side
 abbrev pub ReplaysOn : DiskName → StoredImage → Result Made VolumeFault → Type 0

@@ -1,15 +1,24 @@
 //! A volume takes a step: its body is added to the image, and then the step is made.
-ghost use Rattle.std.specs.Prelude.{IfOk};
-ghost use Rattle.replica_volume.specs.Committing.{IsAsBefore, IsSpelled};
+ghost use Rattle.std.specs.Prelude.{◌≡◌, IfOk};
+ghost use Rattle.replica_volume.specs.Committing.{CanTake, IsAsBefore, IsOfStep, IsSpelled};
+ghost use Rattle.replica_volume.specs.Committing.{WritesStep, fault_adding, opened_behind};
+ghost use Rattle.replica_volume.specs.Volume.{IsOpenVolume};
 
 use crate::Volume;
 use disk_model::Disk;
 use journal::AppendFault;
 use record_codec::{Encoded, encode};
 use replica_core::{CommitFault, Replica};
-use replica_state::{State, Step};
+use replica_state::{Prepared, State, Step};
 use u1_base::Memory;
 use volume::append_on;
+
+// What a step needs, made ahead: its body, and its parts of the state.
+#[derive(Drop)]
+struct Ready {
+    encoded: Encoded,
+    prepared: Prepared,
+}
 
 impl<D: Disk> Replica for Volume<D> {
     ghost use Rattle.std.specs.Prelude.{◌≡◌, ◌≢◌, ◌<◌, ◌≤◌, Err, IfErr, OnErr, OnOk, Some};
@@ -72,8 +81,64 @@ impl<D: Disk> Replica for Volume<D> {
         ensures untouched { OnErr result (result ≢ Err CommitFault.Disk
             → devices D.known self.new ≡ devices D.known self.old) }
     {
-        let encoded = self.spell(&step)?;
-        let prepared = self.state.prepare(step)?;
+        let ready = self.make_ready(step)?;
+        self.write(ready)
+    }
+
+    ghost opened = { λ v is. is.ready };
+
+    ghost settled = { leaves_its_state D.tells D.known };
+}
+
+impl<D: Disk> Volume<D> {
+    // All memory that the step takes. No disk is called.
+    fn make_ready(&mut self, step: Step) -> Result<Ready, Memory>
+        ensures same { IsAsBefore self.old self.new }
+        ensures takes { IfOk result (CanTake self.new) }
+        ensures step { IfOk result (IsOfStep self.new step) }
+    {
+        match self.spell(&step) {
+            Ok(encoded) => self.prepare(step, encoded),
+            Err(memory) => {
+                drop(step);
+                Err(memory)
+            }
+        }
+    }
+
+    // The parts of the state behind the body that is spelled.
+    fn prepare(&mut self, step: Step, encoded: Encoded) -> Result<Ready, Memory>
+        requires { IsSpelled self.old step encoded }
+        ensures same { IsAsBefore self.old self.new }
+        ensures takes { IfOk result (CanTake self.new) }
+        ensures step { IfOk result (IsOfStep self.new step) }
+    {
+        match self.state.prepare(step) {
+            Ok(prepared) => Ok(Ready { encoded, prepared }),
+            Err(memory) => {
+                drop(encoded);
+                Err(memory)
+            }
+        }
+    }
+
+    // The body of the step, with room for the uids that it adds. No disk is called.
+    fn spell(&mut self, step: &Step) -> Result<Encoded, Memory>
+        ensures same { IsAsBefore self.old self.new }
+        ensures ok { IfOk result (IsSpelled self.new step.now) }
+    {
+        let encoded = encode(self.alloc, step, &self.uids)?;
+        self.uids.reserve(encoded.added.len() as u64)?;
+        Ok(encoded)
+    }
+
+    // Adds the body of the step to the image, and makes the step then. It takes no memory.
+    fn write(&mut self, ready: Ready) -> Result<(), CommitFault>
+        requires open { IsOpenVolume D.tells D.known self.old }
+        requires takes { CanTake self.old ready }
+        ensures { WritesStep D.tells D.known self.old ready self.new result }
+    {
+        let Ready { encoded, prepared } = ready;
         match append_on(
             self.alloc,
             &mut self.disks,
@@ -86,28 +151,27 @@ impl<D: Disk> Replica for Volume<D> {
                 self.state.apply(prepared);
                 Ok(())
             }
-            Err(AppendFault::Full { need, limit }) => Err(CommitFault::Full { need, limit }),
-            Err(AppendFault::Disk) => {
-                self.open = false;
-                Err(CommitFault::Disk)
+            Err(fault) => {
+                drop(encoded);
+                drop(prepared);
+                Err(self.leave_off(fault))
             }
-            Err(AppendFault::Memory) => Err(CommitFault::Memory),
         }
     }
 
-    ghost opened = { λ v is. is.ready };
-
-    ghost settled = { leaves_its_state D.tells D.known };
-}
-
-impl<D: Disk> Volume<D> {
-    // The body of the step, with room for the uids that it adds. No disk is called.
-    fn spell(&mut self, step: &Step) -> Result<Encoded, Memory>
-        ensures same { IsAsBefore self.old self.new }
-        ensures ok { IfOk result (IsSpelled self.new step.now) }
+    // Why the body was not added. The volume is closed where a disk failed.
+    fn leave_off(&mut self, fault: AppendFault) -> CommitFault
+        ensures fault { result ≡ fault_adding fault }
+        ensures stays { self.new
+            ≡ record self.old { «open» = opened_behind fault self.old.open } }
     {
-        let encoded = encode(self.alloc, step, &self.uids)?;
-        self.uids.reserve(encoded.added.len() as u64)?;
-        Ok(encoded)
+        match fault {
+            AppendFault::Full { need, limit } => CommitFault::Full { need, limit },
+            AppendFault::Disk => {
+                self.open = false;
+                CommitFault::Disk
+            }
+            AppendFault::Memory => CommitFault::Memory,
+        }
     }
 }

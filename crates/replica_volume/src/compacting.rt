@@ -1,7 +1,7 @@
 //! The image of a volume is written anew, with what a compaction leaves of its steps.
-ghost use Rattle.std.specs.Prelude.{◌≡◌, ◌≢◌, ◌≤◌, ℕ, [], ◌∷◌, ◌++◌, Err, IfOk, IsTrue, OnErr};
-ghost use Rattle.std.specs.Prelude.{OnOk};
-ghost use Rattle.std.specs.Prelude.{map};
+ghost use Rattle.std.specs.Prelude.{◌≡◌, ◌≢◌, ◌+◌, ◌<◌, ◌≤◌, ◌^◌, ℕ, [], ◌∷◌, ◌++◌, Err, IfOk};
+ghost use Rattle.std.specs.Prelude.{IsTrue, OnErr, OnOk, length, map, option_map};
+ghost use Rattle.std.specs.Option.{option_to_list};
 ghost use Rattle.u1_base.specs.Causes.{HasCauseOf};
 ghost use Rattle.compaction.specs.Compaction.{compacted, left, nothing_later};
 ghost use Rattle.disks.specs.declared.name.DiskName.{DiskName as Name};
@@ -11,7 +11,8 @@ ghost use Rattle.record_fields.specs.Table.{AreNumbered};
 ghost use Rattle.replica_state.specs.Held.{meaning};
 ghost use Rattle.replica_state.specs.Steps.{step_of};
 ghost use Rattle.volume.specs.Crashes.{OnlyLooks};
-ghost use Rattle.replica_volume.specs.Compacting.{Compacts, KeepsSteps, LeavesOldOrCompacted};
+ghost use Rattle.replica_volume.specs.Compacting.{AreKeptSoFar, Compacts, KeepsAll, KeepsOne};
+ghost use Rattle.replica_volume.specs.Compacting.{KeepsSteps, LeavesOldOrCompacted};
 ghost use Rattle.replica_volume.specs.Compacting.{LeavesState, StaysOpen, WritesAnew, sizes_of};
 ghost use Rattle.replica_volume.specs.Placing.{IsSpelled};
 ghost use Rattle.replica_volume.specs.Volume.{IsOpenVolume, devices};
@@ -22,10 +23,10 @@ use crate::{CompactFault, Sizes, Volume};
 use compaction::{Spelled, Steps, compact, spell, trim};
 use disk_model::Disk;
 use disks::DiskName;
-use journal::{Header, Stored};
+use journal::{Entry, Header, Stored};
 use json::Scratch;
 use record_codec::{Decoded, RecordFault, Uids};
-use replica_state::State;
+use replica_state::{State, Step};
 use std::alloc::Global;
 use u1_base::Memory;
 use volume::{OpenedImages, open_images, other_side};
@@ -95,18 +96,37 @@ impl<D: Disk> Volume<D> {
         let OpenedImages { side, image } = opened;
         let steps = match kept_steps(self.alloc, &self.state, &image) {
             Ok(steps) => steps,
-            Err(RecordFault::Bad(place)) => return Err(CompactFault::Damaged { disk: side, place }),
-            Err(RecordFault::Memory) => return Err(CompactFault::Memory),
+            Err(RecordFault::Bad(place)) => {
+                drop(image);
+                return Err(CompactFault::Damaged { disk: side, place });
+            }
+            Err(RecordFault::Memory) => {
+                drop(image);
+                return Err(CompactFault::Memory);
+            }
         };
         let header = with_limit(image.into_header(), self.journal.limit());
-        let spelled = compacted_bodies(self.alloc, &self.state, &header, steps)?;
-        let standing = put_spelled(
+        let spelled = match compacted_bodies(self.alloc, &self.state, &header, steps) {
+            Ok(spelled) => spelled,
+            Err(Memory) => {
+                drop(header);
+                return Err(CompactFault::Memory);
+            }
+        };
+        let standing = match put_spelled(
             self.alloc,
             &mut self.disks,
             &header,
             spelled,
             other_side(side),
-        )?;
+        ) {
+            Ok(standing) => standing,
+            Err(fault) => {
+                drop(header);
+                return Err(CompactFault::from(fault));
+            }
+        };
+        drop(header);
         let Standing {
             side,
             journal,
@@ -151,15 +171,69 @@ fn kept_steps(alloc: Global, state: &State, image: &Stored) -> Result<Steps, Rec
     ensures { KeepsSteps (meaning state.now) image.now result }
 {
     let mut kept = nothing_kept(alloc, image)?;
+    match keep_all(alloc, state, image, &mut kept) {
+        Ok(()) => {
+            let KeptSteps { steps, uids } = kept;
+            drop(uids);
+            Ok(steps)
+        }
+        Err(fault) => {
+            drop(kept);
+            Err(fault)
+        }
+    }
+}
+
+// The same behind what holds no step yet.
+fn keep_all(
+    alloc: Global,
+    state: &State,
+    image: &Stored,
+    kept: &mut KeptSteps,
+) -> Result<(), RecordFault>
+    requires { AreKeptSoFar (meaning state.now) image.now [] kept.old }
+    ensures { KeepsAll (meaning state.now) image.now kept.new result }
+{
     let mut scratch = Scratch::new(alloc);
+    let done = keep_each(alloc, &mut scratch, state, image, kept);
+    drop(scratch);
+    done
+}
+
+fn keep_each(
+    alloc: Global,
+    scratch: &mut Scratch<Global>,
+    state: &State,
+    image: &Stored,
+    kept: &mut KeptSteps,
+) -> Result<(), RecordFault>
+    requires { AreKeptSoFar (meaning state.now) image.now [] kept.old }
+    ensures { KeepsAll (meaning state.now) image.now kept.new result }
+{
     let mut place = image.start();
     while let Some(entry) = image.entry_at(place) {
-        let decoded = step_at(alloc, &mut scratch, image.format(), &entry, &kept.uids)?;
-        keep(&mut kept, state, decoded)?;
+        keep_one(alloc, scratch, state, image.format(), &entry, kept)?;
         place = entry.next;
     }
-    let KeptSteps { steps, .. } = kept;
-    Ok(steps)
+    Ok(())
+}
+
+// Keeps what may be left of the step that the entry's body says in this format.
+fn keep_one(
+    alloc: Global,
+    scratch: &mut Scratch<Global>,
+    state: &State,
+    format: u8,
+    entry: &Entry<'_>,
+    kept: &mut KeptSteps,
+) -> Result<(), RecordFault>
+    requires { entry.now.place + length entry.now.body.now < 2 ^ 64 }
+    ensures { KeepsOne (meaning state.now) format entry.now.place entry.now.body.now
+        kept.old kept.new result }
+{
+    let decoded = step_at(alloc, scratch, format, entry, &kept.uids)?;
+    keep(kept, state, decoded)?;
+    Ok(())
 }
 
 // Of no step yet, at the replica of this image.
@@ -179,11 +253,42 @@ fn keep(kept: &mut KeptSteps, state: &State, decoded: Decoded) -> Result<(), Mem
         ++ left (meaning state.now) nothing_later (step_of decoded.step)) }
     ensures uids { OnOk result (kept.new.uids.uids ≡ kept.old.uids.uids ++ decoded.added) }
 {
-    let Decoded { step, added } = decoded;
-    kept.uids.reserve(added.len() as u64)?;
-    if let Some(step) = trim(state, step) {
-        kept.steps.push(step)?;
+    match kept.uids.reserve(decoded.added.len() as u64) {
+        Ok(()) => keep_in_room(kept, state, decoded),
+        Err(memory) => {
+            drop(decoded);
+            Err(memory)
+        }
     }
-    kept.uids.add(added);
+}
+
+// The same where the uids have room for those that come.
+fn keep_in_room(kept: &mut KeptSteps, state: &State, decoded: Decoded) -> Result<(), Memory>
+    requires numbered { AreNumbered (kept.old.uids.uids ++ decoded.added) }
+    requires room { length decoded.added ≤ kept.old.uids.room }
+    ensures steps { OnOk result (map step_of kept.new.steps ≡ map step_of kept.old.steps
+        ++ left (meaning state.now) nothing_later (step_of decoded.step)) }
+    ensures uids { OnOk result (kept.new.uids.uids ≡ kept.old.uids.uids ++ decoded.added) }
+{
+    let Decoded { step, added } = decoded;
+    match push_left(&mut kept.steps, trim(state, step)) {
+        Ok(()) => {
+            kept.uids.add(added);
+            Ok(())
+        }
+        Err(memory) => {
+            drop(added);
+            Err(memory)
+        }
+    }
+}
+
+fn push_left(steps: &mut Steps, step: Option<Step>) -> Result<(), Memory>
+    ensures { OnOk result (map step_of steps.new
+        ≡ map step_of steps.old ++ option_to_list (option_map step_of step)) }
+{
+    if let Some(step) = step {
+        steps.push(step)?;
+    }
     Ok(())
 }

@@ -1,5 +1,5 @@
 //! Letting an image stand in format 2, with its state: one of format 1 is moved to the other side.
-ghost use Rattle.std.specs.Prelude.{◌≡◌, ◌≢◌, List, [], ◌∷◌, Ok, IfOk, IsErrOf, IsOk, IsTrue, OnOk};
+ghost use Rattle.std.specs.Prelude.{◌≡◌, ◌≢◌, List, [], ◌∷◌, Ok, Err, IfOk, IsErrOf, IsOk, IsTrue, OnOk};
 ghost use Rattle.u1_base.specs.Causes.{HasCauseOf};
 ghost use Rattle.compaction.specs.Images.{IsOneMore};
 ghost use Rattle.conflicts.specs.State.{History, Text};
@@ -21,8 +21,8 @@ use disk_model::Disk;
 use disks::{DiskName, Disks};
 use journal::{FIRST_FORMAT, Stored};
 use json::Scratch;
-use record_codec::{RecordFault, decode_first};
-use replica_state::{State, Step};
+use record_codec::{RecordFault, Uids, decode_first};
+use replica_state::{Replay, State, Step};
 use std::alloc::Global;
 use u1_base::Memory;
 use volume::other_side;
@@ -66,21 +66,77 @@ pub(crate) fn bring_forward<D: Disk>(
 {
     let Made { steps, uids } = made;
     if image.format() != FIRST_FORMAT {
-        let journal = image.journal();
-        // Indexes take memory while they are built, so the image is given back first.
-        drop(image);
-        let state = steps.finish()?;
-        let standing = Standing {
-            side,
-            journal,
-            uids,
-        };
-        return Ok(Finished { standing, state });
+        return finish(steps, stay(side, image, uids));
     }
+    drop(uids);
+    let finished = move_and_finish(alloc, disks, side, &image, steps);
+    drop(image);
+    finished
+}
+
+// Lets an image of format 2 stay where it is.
+fn stay(side: DiskName, image: Stored, uids: Uids) -> Standing
+    ensures { result ≡ record { side = side; journal = image.journal; uids = uids } }
+{
+    let journal = image.journal();
+    // Indexes take memory while they are built, so the image is given back before.
+    drop(image);
+    Standing {
+        side,
+        journal,
+        uids,
+    }
+}
+
+// Builds the indexes of the steps.
+fn finish(steps: Replay, standing: Standing) -> Result<Finished, PlaceFault>
+    ensures standing { IfOk result (λ f. f.standing ≡ standing) }
+    ensures state { IfOk result (λ f. meaning f.state ≡ replayed steps) }
+    ensures memory { result ≢ Err PlaceFault.Disk }
+{
+    match steps.finish() {
+        Ok(state) => Ok(Finished { standing, state }),
+        Err(Memory) => {
+            drop(standing);
+            Err(PlaceFault::Memory)
+        }
+    }
+}
+
+// Builds the indexes of the steps, and moves their image, which has format 1.
+fn move_and_finish<D: Disk>(
+    alloc: Global,
+    disks: &mut Disks<D>,
+    side: DiskName,
+    image: &Stored,
+    steps: Replay,
+) -> Result<Finished, PlaceFault>
+    requires first { image.now.format ≡ FIRST_FORMAT }
+    requires side { side ≢ DiskName.Root }
+    requires store { IsTrue D.tells → IsStore image.now.journal side image.now.format
+        image.now.header image.now.bodies (disks_known D.known disks.old).files }
+    requires says { (h : History) × (us : List Text) × SaysSteps image.now h us }
+    ensures ok { IsTrue D.tells → IfOk result (λ f. (h : History) (us : List Text)
+        → SaysSteps image.now h us
+        → StandsWith image.now.header h f.standing (disks_known D.known disks.new).files) }
+    ensures side { IfOk result (λ f. f.standing.side ≢ DiskName.Root) }
+    ensures limit { IfOk result (λ f. f.standing.journal.limit ≡ image.now.header.limit) }
+    ensures state { IfOk result (λ f. meaning f.state ≡ replayed steps) }
+    ensures any_moment { IsTrue D.tells → LeavesSameOrMoved
+        (disks_known D.known disks.old) (disks_known D.known disks.new) }
+    ensures untouched { IsErrOf result PlaceFault.Memory → disks.new ≡ disks.old }
+    ensures cause { HasCauseOf PlaceFault.Disk
+        (disks_known D.known disks.old).faults (disks_known D.known disks.new).faults result }
+{
     // All memory is taken before a disk is written.
     let state = steps.finish()?;
-    let standing = move_image(alloc, disks, side, &image)?;
-    Ok(Finished { standing, state })
+    match move_image(alloc, disks, side, image) {
+        Ok(standing) => Ok(Finished { standing, state }),
+        Err(fault) => {
+            drop(state);
+            Err(fault)
+        }
+    }
 }
 
 // Moves an image of format 1.
@@ -118,13 +174,49 @@ fn respell(alloc: Global, image: &Stored) -> Result<Spelled, Memory>
         → IfOk result (IsSpelled image.now.header.uid h) }
 {
     let mut spelled = nothing_spelled(alloc, image)?;
+    match respell_all(alloc, image, &mut spelled) {
+        Ok(()) => Ok(spelled),
+        Err(memory) => {
+            drop(spelled);
+            Err(memory)
+        }
+    }
+}
+
+// Spells them where none was spelled yet.
+fn respell_all(alloc: Global, image: &Stored, spelled: &mut Spelled) -> Result<(), Memory>
+    requires first { image.now.format ≡ FIRST_FORMAT }
+    requires says { (h : History) × (us : List Text) × SaysSteps image.now h us }
+    requires bodies { spelled.old.bodies ≡ [] }
+    requires uids { spelled.old.uids.uids ≡ image.now.header.uid ∷ [] }
+    ensures { (h : History) (us : List Text) → SaysSteps image.now h us
+        → OnOk result (IsSpelled image.now.header.uid h spelled.new) }
+{
     let mut scratch = Scratch::new(alloc);
+    let done = respell_each(alloc, &mut scratch, image, spelled);
+    drop(scratch);
+    done
+}
+
+fn respell_each(
+    alloc: Global,
+    scratch: &mut Scratch<Global>,
+    image: &Stored,
+    spelled: &mut Spelled,
+) -> Result<(), Memory>
+    requires first { image.now.format ≡ FIRST_FORMAT }
+    requires says { (h : History) × (us : List Text) × SaysSteps image.now h us }
+    requires bodies { spelled.old.bodies ≡ [] }
+    requires uids { spelled.old.uids.uids ≡ image.now.header.uid ∷ [] }
+    ensures { (h : History) (us : List Text) → SaysSteps image.now h us
+        → OnOk result (IsSpelled image.now.header.uid h spelled.new) }
+{
     let mut place = image.start();
     while let Some(entry) = image.entry_at(place) {
-        spell_again(alloc, &mut scratch, &mut spelled, entry.body)?;
+        spell_again(alloc, scratch, spelled, entry.body)?;
         place = entry.next;
     }
-    Ok(spelled)
+    Ok(())
 }
 
 // Of no step yet, at the replica of this image.
@@ -147,7 +239,9 @@ fn spell_again(
         spelled.old.uids.uids step spelled.old.bodies spelled.new.bodies spelled.new.uids.uids)) }
 {
     let step = read_again(alloc, scratch, body)?;
-    spelled.add(alloc, &step)
+    let added = spelled.add(alloc, &step);
+    drop(step);
+    added
 }
 
 // The step of a body that was read before.

@@ -1,5 +1,5 @@
 //! Making the steps that the bodies of an image say.
-ghost use Rattle.std.specs.Prelude.{◌≡◌, ◌≢◌, ◌+◌, ◌<◌, ◌^◌, ◌++◌, ◌∷◌, [], IfOk, OnOk, length};
+ghost use Rattle.std.specs.Prelude.{◌≡◌, ◌≢◌, ◌+◌, ◌<◌, ◌≤◌, ◌^◌, ◌++◌, ◌∷◌, [], IfOk, OnOk, length};
 ghost use Rattle.conflicts.specs.State.{after};
 ghost use Rattle.replica_state.specs.Replayed.{replayed};
 ghost use Rattle.replica_state.specs.Steps.{step_of};
@@ -7,7 +7,7 @@ ghost use Rattle.journal.specs.declared.layout.TheConstants.{FIRST_FORMAT};
 ghost use Rattle.record_codec.specs.Decoding.{Decodes, IsBadWithin, recorded};
 ghost use Rattle.record_codec.specs.Laws.{Says};
 ghost use Rattle.record_fields.specs.Table.{AreNumbered};
-ghost use Rattle.replica_volume.specs.Replaying.{DecodesAt, Replays};
+ghost use Rattle.replica_volume.specs.Replaying.{AreMade, DecodesAt, MakesAll, MakesOne, Replays};
 ghost use Rattle.replica_volume.specs.Steps.{body_in, state_at};
 
 use journal::{Entry, FIRST_FORMAT, Stored};
@@ -34,15 +34,59 @@ pub(crate) fn replay(alloc: Global, image: &Stored) -> Result<Made, RecordFault>
     ensures { Replays image.now result }
 {
     let mut made = nothing_yet(alloc, image)?;
+    match make_all(alloc, image, &mut made) {
+        Ok(()) => Ok(made),
+        Err(fault) => {
+            drop(made);
+            Err(fault)
+        }
+    }
+}
+
+// Makes the steps of all bodies, where none was made yet.
+fn make_all(alloc: Global, image: &Stored, made: &mut Made) -> Result<(), RecordFault>
+    requires { AreMade image.now [] made.old }
+    ensures { MakesAll image.now made.new result }
+{
     // One for all contents: to make one is to clear 16 kilobytes.
     let mut scratch = Scratch::new(alloc);
+    let done = make_each(alloc, &mut scratch, image, made);
+    drop(scratch);
+    done
+}
+
+fn make_each(
+    alloc: Global,
+    scratch: &mut Scratch<Global>,
+    image: &Stored,
+    made: &mut Made,
+) -> Result<(), RecordFault>
+    requires { AreMade image.now [] made.old }
+    ensures { MakesAll image.now made.new result }
+{
     let mut place = image.start();
     while let Some(entry) = image.entry_at(place) {
-        let decoded = step_at(alloc, &mut scratch, image.format(), &entry, &made.uids)?;
-        make(&mut made, decoded)?;
+        make_one(alloc, scratch, image.format(), &entry, made)?;
         place = entry.next;
     }
-    Ok(made)
+    Ok(())
+}
+
+// Makes the step that the entry's body says in this format.
+fn make_one(
+    alloc: Global,
+    scratch: &mut Scratch<Global>,
+    format: u8,
+    entry: &Entry<'_>,
+    made: &mut Made,
+) -> Result<(), RecordFault>
+    requires { entry.now.place + length entry.now.body.now < 2 ^ 64 }
+    ensures { MakesOne entry.now.place
+        (body_in format made.old.uids.uids entry.now.body.now) made.old made.new result }
+{
+    let decoded = step_at(alloc, scratch, format, entry, &made.uids)?;
+    make(made, decoded)?;
+    Ok(())
 }
 
 // No step, at the replica of this image.
@@ -112,9 +156,32 @@ fn make(made: &mut Made, decoded: Decoded) -> Result<(), Memory>
         (replayed made.new.steps ≡ after (replayed made.old.steps) (step_of decoded.step)) }
     ensures uids { OnOk result (made.new.uids.uids ≡ made.old.uids.uids ++ decoded.added) }
 {
+    match made.uids.reserve(decoded.added.len() as u64) {
+        Ok(()) => make_in_room(made, decoded),
+        Err(memory) => {
+            drop(decoded);
+            Err(memory)
+        }
+    }
+}
+
+// The same where the uids have room for those that come.
+fn make_in_room(made: &mut Made, decoded: Decoded) -> Result<(), Memory>
+    requires numbered { AreNumbered (made.old.uids.uids ++ decoded.added) }
+    requires room { length decoded.added ≤ made.old.uids.room }
+    ensures state { OnOk result
+        (replayed made.new.steps ≡ after (replayed made.old.steps) (step_of decoded.step)) }
+    ensures uids { OnOk result (made.new.uids.uids ≡ made.old.uids.uids ++ decoded.added) }
+{
     let Decoded { step, added } = decoded;
-    made.uids.reserve(added.len() as u64)?;
-    made.steps.make(step)?;
-    made.uids.add(added);
-    Ok(())
+    match made.steps.make(step) {
+        Ok(()) => {
+            made.uids.add(added);
+            Ok(())
+        }
+        Err(memory) => {
+            drop(added);
+            Err(memory)
+        }
+    }
 }

@@ -1,8 +1,8 @@
 -- The image was written anew, or was not.
-use Rattle.std.proofs.Common.{Err, refl, sym, ap}
+use Rattle.std.proofs.Common.{Err, refl, sym, ap, arith}
 use Rattle.std.proofs.lemmas.Result.{err_from_is_err_and}
 use Rattle.disks.specs.Disks.{disks_known}
-use Rattle.replica_volume.proofs.Compacts.{apart, is_other, left_alone, never_bad, not_put, not_read, own_image}
+use Rattle.replica_volume.proofs.Compacts.{apart, disk_compacting, is_other, left_alone, never_bad, not_put, not_read, own_image}
 use Rattle.replica_volume.proofs.Compacts.{own_header, put_leaves_compacted, written_anew}
 use Rattle.replica_volume.proofs.replica.Volume.write_anew.Goals as goal
 
@@ -32,13 +32,11 @@ returns-in-Err-Memory-clause-writes g c t =
     left_alone known old k (record old { disks = c.open_images.new.disks }) (c.in_ok-opened.ensures.looks t)
     refl refl refl refl
 
-pub returns-in_err-spelled-clause-writes : goal.returns-in_err-spelled-clause-writes
-returns-in_err-spelled-clause-writes g c t =
+pub returns-in-Err-clause-writes : goal.returns-in-Err-clause-writes
+returns-in-Err-clause-writes g c t =
     let known = g.D.Disk.known in let old = c.args.self.now in let k = c.requires.«open».keeps t in
-    let why = err_from_is_err_and c.from_residual-in_err-spelled.result c.from_residual-in_err-spelled.ensures.1 in
-    rw (why.1, why.2)
-    (left_alone known old k (record old { disks = c.open_images.new.disks }) (c.in_ok-opened.ensures.looks t)
-    refl refl refl refl)
+    left_alone known old k (record old { disks = c.open_images.new.disks }) (c.in_ok-opened.ensures.looks t)
+    refl refl refl refl
 
 -- ---- the image was not put in place
 
@@ -51,8 +49,8 @@ put_spelled-requires-clause-store g c t =
       (image.format, image.header, image.bodies, c.in_ok-opened.ensures.ok t),
     )
 
-pub returns-in_err-standing-clause-writes : goal.returns-in_err-standing-clause-writes
-returns-in_err-standing-clause-writes g c t =
+pub returns-in-Err-put_spelled-clause-writes : goal.returns-in-Err-put_spelled-clause-writes
+returns-in-Err-put_spelled-clause-writes g c t =
     let known = g.D.Disk.known in let tells = g.D.Disk.tells in let old = c.args.self.now in
     let k = c.requires.«open».keeps t in
     let opened = c.in_ok-opened.opened in let image = opened.image in let read = c.in_ok-opened.ensures.reads in
@@ -64,16 +62,26 @@ returns-in_err-standing-clause-writes g c t =
     let new = record old { disks = c.put_spelled.new.disks } in
     let sides = is_other opened.side c.other_side.result c.in_ok-opened.ensures.side c.other_side.ensures.side
     c.other_side.ensures.other in
-    let why = err_from_is_err_and c.from_residual-in_err-standing.result c.from_residual-in_err-standing.ensures.1 in
-    rw (why.1, why.2)
-    (not_put known old k tells mid new c.in_err-standing.field-0.0
+    rw (c.from.ensures)
+    (not_put known old k tells mid new c.in-Err-put_spelled.fault
     (put_leaves_compacted known old k opened.side image o c.in-Ok.steps c.in-Ok.ensures c.other_side.result
-    head c.in_ok-spelled.spelled sides same c.in_ok-spelled.ensures
+    head c.in-Ok-compacted_bodies.spelled sides same c.in-Ok-compacted_bodies.ensures
     (disks_known known c.open_images.new.disks) (disks_known known c.put_spelled.new.disks)
     (apart opened.side c.other_side.result c.other_side.ensures.other) (c.in_ok-opened.ensures.looks t)
-    (c.in_ok-opened.ensures.ok t) (c.put_spelled.ensures.any_moment t _ c.in_ok-spelled.ensures))
+    (c.in_ok-opened.ensures.ok t) (c.put_spelled.ensures.any_moment t _ c.in-Ok-compacted_bodies.ensures))
     (left_alone known old k mid (c.in_ok-opened.ensures.looks t) refl refl refl refl)
-    (λ is. ap (λ d. record old { disks = d }) (c.in_err-standing.ensures.untouched (ap Err is))))
+    (λ is. ap (λ d. record old { disks = d }) (c.in-Err-put_spelled.ensures.untouched (ap Err is))))
+
+pub returns-in-Err-put_spelled-clause-cause : goal.returns-in-Err-put_spelled-clause-cause
+returns-in-Err-put_spelled-clause-cause g c =
+    let first = c.open_images.ensures.cause.later in let placed = c.in-Err-put_spelled.ensures.cause in record {
+      later = omega (arith, first, placed.later);
+      failed = λ e. omega (
+        arith,
+        first,
+        placed.failed (ap Err (disk_compacting c.in-Err-put_spelled.fault (cc (e, c.from.ensures)))),
+      );
+    }
 
 -- ---- it was put in place
 
@@ -86,22 +94,22 @@ returns-clause-writes g c t =
     let head = c.with_limit-header.result in
     let same = own_header known old k opened.side image head c.into_header.result c.limit.result o c.into_header.ensures
     c.limit.ensures.limit c.with_limit-header.ensures in
-    let standing = c.in_ok-standing.standing in let put = c.in_ok-standing.ensures in
+    let standing = c.in-Ok-put_spelled.standing in let put = c.in-Ok-put_spelled.ensures in
     let new = record old {
       disks = c.put_spelled.new.disks;
       side = standing.side;
       journal = standing.journal;
       uids = standing.uids;
     } in
-    let spells = c.in_ok-spelled.ensures in
+    let spells = c.in-Ok-compacted_bodies.ensures in
     let sides = is_other opened.side c.other_side.result c.in_ok-opened.ensures.side c.other_side.ensures.side
     c.other_side.ensures.other in
     written_anew known old k opened.side image o c.in-Ok.steps c.in-Ok.ensures c.other_side.result
-    head c.in_ok-spelled.spelled sides same spells
+    head c.in-Ok-compacted_bodies.spelled sides same spells
     new standing refl refl refl refl (put.ok t _ spells) tells t put.side put.uids (put.length _ spells)
     _ (λ i. record { before = c.length-before.ensures i; after = c.length-after.ensures i })
     (put_leaves_compacted known old k opened.side image o c.in-Ok.steps c.in-Ok.ensures c.other_side.result
-    head c.in_ok-spelled.spelled sides same spells
+    head c.in-Ok-compacted_bodies.spelled sides same spells
     (disks_known known c.open_images.new.disks) (disks_known known c.put_spelled.new.disks)
     (apart opened.side c.other_side.result c.other_side.ensures.other) (c.in_ok-opened.ensures.looks t)
     (c.in_ok-opened.ensures.ok t) (c.put_spelled.ensures.any_moment t _ spells))

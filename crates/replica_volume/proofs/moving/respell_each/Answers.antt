@@ -2,7 +2,7 @@
 use Rattle.std.proofs.Common.{[], ◌∷◌, ◌++◌, refl}
 use Rattle.record_codec.specs.Bodies.{first_step_in}
 use Rattle.replica_volume.proofs.Moves.{not_bad, respelled_all, respelled_more, respelled_none}
-use Rattle.replica_volume.proofs.moving.respell.Goals as goal
+use Rattle.replica_volume.proofs.moving.respell_each.Goals as goal
 
 pub spell_again-requires : goal.spell_again-requires
 spell_again-requires c =
@@ -14,7 +14,7 @@ pub loop-entry-init : goal.loop-entry-init
 loop-entry-init c = (
   [],
   c.start-place.ensures,
-  respelled_none c.args.image.now c.in_ok-spelled.spelled c.in_ok-spelled.ensures.bodies c.in_ok-spelled.ensures.uids,
+  respelled_none c.args.image.now c.args.spelled.now c.requires.bodies c.requires.uids,
 )
 
 pub loop-entry-preserved : goal.loop-entry-preserved
