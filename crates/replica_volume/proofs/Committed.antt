@@ -9,7 +9,6 @@ use Rattle.disk_model.specs.Device.{Device, File}
 use Rattle.disks.specs.declared.trio.Trio.{Trio}
 use Rattle.disks.specs.declared.three.Disks.{Disks}
 use Rattle.disks.specs.Joint.{AreCrashImages, Devices, now_of, seen_of}
-use Rattle.disks.specs.declared.name.DiskName.{DiskName}
 use Rattle.disks.specs.Disks.{disks_known, turned}
 use Rattle.journal.specs.Journal.{Extent, IsFull, need}
 use Rattle.journal.specs.declared.appending.AppendFault.{AppendFault}

@@ -2,7 +2,6 @@
 use Rattle.std.proofs.Common.{refl, ◌∙◌, ap}
 use Rattle.disks.proofs.Runs.{reads_may_stay}
 use Rattle.record_codec.specs.Bodies.{step_in}
-use Rattle.record_codec.specs.Encoding.{written}
 use Rattle.replica_state.specs.Steps.{step_of}
 use Rattle.replica_volume.specs.Committing.{opened_behind}
 use Rattle.replica_volume.proofs.Committed.{committed, left_off, same_commits}
