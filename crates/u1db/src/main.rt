@@ -4,30 +4,27 @@
 //! the status of its outcome. For people it says on standard error why a run gave no answer.
 #![tactic(auto)]
 
-mod files;
-mod folder;
+mod needs;
 mod output;
 mod sentence;
 mod usage;
 
-use crate::files::{Files, disks_of};
-use crate::folder::hold_folder;
+use crate::needs::{Needs, needs_of};
 use crate::output::{InPieces, Output, hold_closed};
-use crate::sentence::{damaged, disk_fault, failed, folder_fault, full, say};
+use crate::sentence::{damaged, disk_fault, failed, file_fault, folder_of, full, say};
 use crate::usage::usage;
-use cli_words::{Command, WordsFault, read_words};
 use command_lines::{Outcome, outcome_status};
 use disk_model::FileFault;
 use link::{StdSink, StdSource};
 use replica_cli::run;
 use std::alloc::Global;
-use std::env;
-use std::fs::File;
+use std::env::{self, Args};
 use std::io::{self, BufWriter, ErrorKind};
 use std::process::ExitCode;
 use std::random::RandomSource;
-use std::rt::Stdout;
+use std::rt::{Stdin, Stdout};
 use store_commands::finish;
+use store_files::{FolderLock, StoreFiles, files_in, lock_folder};
 use u1_base::{Memory, Text, Texts};
 
 /// The standard output. What is printed is handed on in pieces of 4 to 8 KiB, and the rest at the
@@ -37,117 +34,79 @@ type Printed = StdSink<InPieces<BufWriter<Output<Stdout>>>>;
 fn main(rt: HostRuntime) -> ExitCode {
     // Held until the end, so that no file of the store takes the number of a standard stream.
     let held = hold_closed(&rt);
-    let outcome = match &held {
+    let status = match &held {
         Ok(_) => do_command(&rt),
-        Err(_) => Outcome::SinkFault,
+        Err(_) => outcome_status(&Outcome::SinkFault),
     };
-    ExitCode::from(outcome_status(&outcome))
+    ExitCode::from(status)
 }
 
-// Does the command of the words, and says why where it gave no answer.
-fn do_command(rt: &HostRuntime) -> Outcome {
-    let outcome = match prepare(rt) {
-        Ok((words, disks, out)) => carry_out(rt, words.as_slice(), disks, out),
+// Does the command of the words, and gives the status of its outcome.
+fn do_command(rt: &HostRuntime) -> u8 {
+    let outcome = match words_of(rt) {
+        Ok(words) => do_words(rt, in_folder(words.as_slice())),
         Err(Memory) => Outcome::Memory,
     };
     if let Outcome::Memory = outcome {
         say(rt, Err(Memory));
     }
-    outcome
+    outcome_status(&outcome)
 }
 
-// The words, the store's files, and the standard output.
-fn prepare(rt: &HostRuntime) -> Result<(Texts, Files, Printed), Memory> {
-    let words = words_of(rt)?;
-    let disks = disks_of(rt, words.as_slice())?;
+// The words after the program's name. Words that are not all UTF-8 are none, and so wrong.
+fn words_of(rt: &HostRuntime) -> Result<Texts, Memory> {
+    match env::args(rt) {
+        Ok(args) => texts_of(rt.alloc(), args),
+        Err(error) if error.kind() == ErrorKind::OutOfMemory => Err(Memory),
+        Err(_) => Ok(Texts::new(rt.alloc())),
+    }
+}
+
+fn texts_of(alloc: Global, args: Args<Global>) -> Result<Texts, Memory> {
+    let mut words = Texts::new(alloc);
+    for word in args.skip(1) {
+        push_word(&mut words, word)?;
+    }
+    Ok(words)
+}
+
+fn push_word(words: &mut Texts, word: String) -> Result<(), Memory> {
+    words.push(Text::from_string(word)?)
+}
+
+// Words whose first, the folder of the store, is empty are none.
+fn in_folder(words: &[Text]) -> &[Text] {
+    match words.first() {
+        Some(folder) if folder.as_str().is_empty() => &words[..0],
+        _ => words,
+    }
+}
+
+fn do_words(rt: &HostRuntime, words: &[Text]) -> Outcome {
+    match printed(rt) {
+        Ok(mut out) => carry_out(rt, words, &mut out),
+        Err(Memory) => Outcome::Memory,
+    }
+}
+
+fn printed(rt: &HostRuntime) -> Result<Printed, Memory> {
     let output = Output::new(rt, rt.stdout(), "/proc/self/fd/1");
     match BufWriter::new(rt.alloc(), output) {
-        Ok(writer) => Ok((words, disks, StdSink::new(InPieces::new(writer)))),
+        Ok(writer) => Ok(StdSink::new(InPieces::new(writer))),
         Err(_) => Err(Memory),
     }
 }
 
-// The words after the program's name. Words that are not all UTF-8 are none, and so wrong; so are
-// those whose first, the folder of the store, is empty.
-fn words_of(rt: &HostRuntime) -> Result<Texts, Memory> {
-    let mut words = Texts::new(rt.alloc());
-    match env::args(rt) {
-        Ok(args) => {
-            for word in args.skip(1) {
-                words.push(Text::from_string(word)?)?;
-            }
-        }
-        Err(error) if error.kind() == ErrorKind::OutOfMemory => return Err(Memory),
-        Err(_) => {}
-    }
-    match words.as_slice().first() {
-        Some(folder) if folder.as_str().is_empty() => Ok(Texts::new(rt.alloc())),
-        _ => Ok(words),
-    }
-}
-
-// What a command needs before it is run.
-#[derive(Clone, Copy)]
-struct Needs {
-    // It makes an id: of a replica, of a document, or of a transaction.
-    seed: bool,
-    // It makes a store.
-    folder: bool,
-}
-
-// Words that are no command need nothing.
-fn needs_of(alloc: Global, words: &[Text]) -> Result<Needs, Memory> {
-    match read_words(alloc, words) {
-        Ok(command) => Ok(Needs {
-            seed: makes_ids(&command),
-            folder: makes_store(&command),
-        }),
-        Err(WordsFault::Memory) => Err(Memory),
-        Err(_) => Ok(Needs {
-            seed: false,
-            folder: false,
-        }),
-    }
-}
-
-fn makes_ids(command: &Command) -> bool {
-    match command {
-        Command::Init { uid, .. } => uid.is_none(),
-        Command::Create { .. }
-        | Command::Put { .. }
-        | Command::Delete { .. }
-        | Command::Resolve { .. }
-        | Command::ResolveDeleted { .. } => true,
-        _ => false,
-    }
-}
-
-fn makes_store(command: &Command) -> bool {
-    match command {
-        Command::Init { .. } => true,
-        _ => false,
-    }
-}
-
 // Runs the command with what it needs, or tells what of it the system did not give.
-fn carry_out(rt: &HostRuntime, words: &[Text], disks: Files, out: Printed) -> Outcome {
-    let mut out = out;
+fn carry_out(rt: &HostRuntime, words: &[Text], out: &mut Printed) -> Outcome {
     let Ok(needs) = needs_of(rt.alloc(), words) else {
         return Outcome::Memory;
     };
-    let seed = match seed_for(rt, needs) {
-        Ok(seed) => seed,
+    match seed_for(rt, needs) {
+        Ok(seed) => run_alone(rt, words, needs, seed, out),
         Err(error) => {
             say(rt, failed(rt.alloc(), "random bytes", Some(error)));
-            return finish(Err(Outcome::SourceFault), &mut out);
-        }
-    };
-    let held = folder_for(rt, words, needs);
-    match &held {
-        Ok(_) => run_on_files(rt, words, seed, disks, &mut out),
-        Err(fault) => {
-            say(rt, folder_fault(rt.alloc(), words, fault));
-            finish(Err(Outcome::DiskFault), &mut out)
+            finish(Err(Outcome::SourceFault), out)
         }
     }
 }
@@ -161,11 +120,41 @@ fn seed_for(rt: &HostRuntime, needs: Needs) -> io::Result<u128> {
     Ok(u128::from_le_bytes(seed))
 }
 
-// The lock under which a store is made.
-fn folder_for(rt: &HostRuntime, words: &[Text], needs: Needs) -> Result<Option<File>, FileFault> {
-    match words.first() {
-        Some(store) if needs.folder => hold_folder(rt, store.as_str()),
-        _ => Ok(None),
+// Runs it under the lock under which a store is made, where it makes one.
+fn run_alone(
+    rt: &HostRuntime,
+    words: &[Text],
+    needs: Needs,
+    seed: u128,
+    out: &mut Printed,
+) -> Outcome {
+    let held = lock_for(rt, words, needs);
+    match &held {
+        Ok(_) => run_in_folder(rt, words, seed, out),
+        Err(fault) => {
+            say(rt, file_fault(rt.alloc(), folder_of(words), fault));
+            finish(Err(Outcome::DiskFault), out)
+        }
+    }
+}
+
+fn lock_for(
+    rt: &HostRuntime,
+    words: &[Text],
+    needs: Needs,
+) -> Result<Option<FolderLock>, FileFault> {
+    if needs.folder {
+        Ok(Some(lock_folder(rt, folder_of(words))?))
+    } else {
+        Ok(None)
+    }
+}
+
+// Without words no file is ever used.
+fn run_in_folder(rt: &HostRuntime, words: &[Text], seed: u128, out: &mut Printed) -> Outcome {
+    match files_in(rt, folder_of(words)) {
+        Ok(files) => run_on_files(rt, words, seed, files, out),
+        Err(Memory) => Outcome::Memory,
     }
 }
 
@@ -173,23 +162,35 @@ fn run_on_files(
     rt: &HostRuntime,
     words: &[Text],
     seed: u128,
-    disks: Files,
+    files: StoreFiles<HostRuntime>,
     out: &mut Printed,
 ) -> Outcome {
-    let alloc = rt.alloc();
     let mut input = StdSource::new(rt.stdin());
-    let (outcome, disks) = run(alloc, words, seed, disks, &mut input, out);
-    match &outcome {
+    let (outcome, files) = run(rt.alloc(), words, seed, files, &mut input, out);
+    explain(rt, words, &outcome, &files, &input, out);
+    outcome
+}
+
+// Says why the run gave no answer.
+fn explain(
+    rt: &HostRuntime,
+    words: &[Text],
+    outcome: &Outcome,
+    files: &StoreFiles<HostRuntime>,
+    input: &StdSource<Stdin>,
+    out: &Printed,
+) {
+    let alloc = rt.alloc();
+    match outcome {
         Outcome::Usage(kind) => say(rt, usage(alloc, words, *kind)),
         Outcome::Damaged { disk, place } => say(
             rt,
-            damaged(alloc, disks.disk(*disk).path(), *place),
+            damaged(alloc, files.disk(*disk).path(), *place),
         ),
         Outcome::StoreFull { need, limit } => say(rt, full(alloc, words, *need, *limit)),
-        Outcome::DiskFault => say(rt, disk_fault(alloc, words, &disks)),
+        Outcome::DiskFault => say(rt, disk_fault(alloc, words, files)),
         Outcome::SourceFault => say(rt, failed(alloc, "standard input", input.fault())),
         Outcome::SinkFault => say(rt, failed(alloc, "standard output", out.fault())),
         _ => {}
     }
-    outcome
 }

@@ -1,11 +1,10 @@
 //! What is said on standard error, for people, where a run gave no answer: which file it was, what
 //! was tried, and why it failed. Where it cannot be said nothing else changes.
-use crate::files::Files;
 use crate::output::Output;
-use disk_model::{FileDisk, FileFault};
-use disks::DiskName;
+use disk_model::FileFault;
 use std::alloc::Global;
 use std::io::{self, Write};
+use store_files::{StoreFiles, failed_file};
 use u1_base::{Memory, Text};
 
 /// Says a sentence, and that there was no memory where there was none for it.
@@ -28,41 +27,39 @@ pub fn full(alloc: Global, words: &[Text], need: u64, limit: u64) -> Result<Stri
     )?)
 }
 
-pub fn disk_fault(alloc: Global, words: &[Text], disks: &Files) -> Result<String, Memory> {
-    for name in [DiskName::Root, DiskName::Left, DiskName::Right] {
-        let disk = disks.disk(name);
-        if let Some(fault) = disk.fault() {
-            return file_fault(alloc, disk, &fault);
+pub fn disk_fault(
+    alloc: Global,
+    words: &[Text],
+    files: &StoreFiles<HostRuntime>,
+) -> Result<String, Memory> {
+    if let Some(name) = failed_file(files) {
+        let file = files.disk(name);
+        if let Some(fault) = file.fault() {
+            return file_fault(alloc, file.path(), &fault);
         }
     }
-    let folder = folder_of(words);
-    Ok(format!(in alloc; "u1db: {folder}: a file failed\n")?)
+    failing(alloc, folder_of(words), "a file failed")
 }
 
-fn file_fault(
-    alloc: Global,
-    disk: &FileDisk<HostRuntime>,
-    fault: &FileFault,
-) -> Result<String, Memory> {
-    let path = disk.path();
+/// Of a file or a folder.
+pub fn file_fault(alloc: Global, path: &str, fault: &FileFault) -> Result<String, Memory> {
     Ok(format!(in alloc; "u1db: {path}: {fault}\n")?)
-}
-
-/// Of the store's folder.
-pub fn folder_fault(alloc: Global, words: &[Text], fault: &FileFault) -> Result<String, Memory> {
-    let folder = folder_of(words);
-    Ok(format!(in alloc; "u1db: {folder}: {fault}\n")?)
 }
 
 /// Of what has this name, which is no file of the store.
 pub fn failed(alloc: Global, name: &str, error: Option<io::Error>) -> Result<String, Memory> {
     match error {
         Some(error) => Ok(format!(in alloc; "u1db: {name}: {error}\n")?),
-        None => Ok(format!(in alloc; "u1db: {name}: it failed\n")?),
+        None => failing(alloc, name, "it failed"),
     }
 }
 
-fn folder_of(words: &[Text]) -> &str {
+fn failing(alloc: Global, name: &str, why: &str) -> Result<String, Memory> {
+    Ok(format!(in alloc; "u1db: {name}: {why}\n")?)
+}
+
+/// The folder of the store.
+pub fn folder_of(words: &[Text]) -> &str {
     match words.first() {
         Some(folder) => folder.as_str(),
         None => "",

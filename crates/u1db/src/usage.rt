@@ -38,14 +38,18 @@ const COMMANDS: [&str; 18] = [
 /// are built. For a word that is refused, that word comes first, and what it has to be.
 pub fn usage(alloc: Global, words: &[Text], kind: UsageKind) -> Result<String, Memory> {
     let mut text = String::new(alloc);
+    push_said(&mut text, words, kind)?;
+    Ok(text)
+}
+
+fn push_said(text: &mut String, words: &[Text], kind: UsageKind) -> Result<(), Memory> {
     if let UsageKind::Value(place) = kind {
-        push_refused(alloc, &mut text, words, place)?;
+        push_refused(text, words, place)?;
     }
     match words.get(1) {
-        Some(word) => push_usage(&mut text, word.as_str())?,
-        None => push_all(&mut text)?,
+        Some(word) => push_usage(text, word.as_str()),
+        None => push_all(text),
     }
-    Ok(text)
 }
 
 fn push_usage(text: &mut String, command: &str) -> Result<(), Memory> {
@@ -60,13 +64,20 @@ fn push_usage(text: &mut String, command: &str) -> Result<(), Memory> {
 
 fn push_all(text: &mut String) -> Result<(), Memory> {
     text.push_str("usage: u1db DIR COMMAND, with one of these commands:\n")?;
-    for command in COMMANDS {
-        if let Some(shown) = operands_shown(command) {
-            text.push_str("  ")?;
-            push_line(text, command, shown)?;
-        }
+    for command in COMMANDS.iter() {
+        push_listed(text, command)?;
     }
     Ok(())
+}
+
+fn push_listed(text: &mut String, command: &str) -> Result<(), Memory> {
+    match operands_shown(command) {
+        Some(shown) => {
+            text.push_str("  ")?;
+            push_line(text, command, shown)
+        }
+        None => Ok(()),
+    }
 }
 
 fn push_line(text: &mut String, command: &str, shown: &str) -> Result<(), Memory> {
@@ -83,16 +94,11 @@ fn push_line(text: &mut String, command: &str, shown: &str) -> Result<(), Memory
 }
 
 fn reads_content(command: &str) -> bool {
-    command == "create" || command == "put" || command == "resolve"
+    matches!(command, "create" | "put" | "resolve")
 }
 
 // The word at the place, and what it has to be.
-fn push_refused(
-    alloc: Global,
-    text: &mut String,
-    words: &[Text],
-    place: u64,
-) -> Result<(), Memory> {
+fn push_refused(text: &mut String, words: &[Text], place: u64) -> Result<(), Memory> {
     let Ok(place) = usize::try_from(place) else {
         return Ok(());
     };
@@ -102,8 +108,7 @@ fn push_refused(
     text.push_str("u1db: ")?;
     push_shown(text, word.as_str())?;
     text.push_str(": ")?;
-    let rule = rule_at(alloc, words, place)?;
-    text.push_str(rule.as_str())?;
+    push_rule(text, rule_at(words, place))?;
     text.push_str("\n")?;
     Ok(())
 }
@@ -118,22 +123,56 @@ fn push_shown(text: &mut String, word: &str) -> Result<(), Memory> {
 
 // Quotes stand as they are, since lists of texts have many.
 fn push_character(text: &mut String, character: char) -> Result<(), Memory> {
-    if character == '"' || character == '\'' {
-        text.push(character)?;
-        return Ok(());
-    }
-    for shown in character.escape_debug() {
-        text.push(shown)?;
+    match character {
+        '"' | '\'' => text.push(character)?,
+        _ => text.extend(character.escape_debug())?,
     }
     Ok(())
 }
 
+// What a word has to be.
+#[derive(Clone, Copy)]
+enum Rule {
+    Words(&'static str),
+    // Up to so many of something, as the words before and after the number say.
+    Most(&'static str, usize, &'static str),
+    // A number of this kind, from the least to the greatest.
+    Between(&'static str, u64, u64),
+}
+
+fn push_rule(text: &mut String, rule: Rule) -> Result<(), Memory> {
+    match rule {
+        Rule::Words(words) => text.push_str(words)?,
+        Rule::Most(before, most, after) => {
+            text.push_str(before)?;
+            push_number(text, most as u64)?;
+            text.push_str(after)?;
+        }
+        Rule::Between(what, least, greatest) => {
+            text.push_str(what)?;
+            text.push_str(" from ")?;
+            push_number(text, least)?;
+            text.push_str(" to ")?;
+            push_number(text, greatest)?;
+        }
+    }
+    Ok(())
+}
+
+fn push_number(text: &mut String, number: u64) -> Result<(), Memory> {
+    let digits = format!(in *text.allocator(); "{number}")?;
+    text.push_str(&digits)?;
+    Ok(())
+}
+
 // What the word at the place has to be.
-fn rule_at(alloc: Global, words: &[Text], place: usize) -> Result<String, Memory> {
-    let operand = operand_at(words, place);
-    match limits_of(words, operand) {
-        Some(limits) => limits.rule(alloc),
-        None => rule_of(alloc, operand),
+fn rule_at(words: &[Text], place: usize) -> Rule {
+    let name = operand_at(words, place);
+    match name {
+        "COUNT" if makes_workload(words) => {
+            Rule::Between("a count of documents is a number", 0, MOST_WORKLOAD)
+        }
+        _ => rule_of(name),
     }
 }
 
@@ -176,7 +215,7 @@ fn number_of(words: &[Text], place: usize) -> Option<usize> {
 // Whether the word at the place is the option together with its value.
 fn has_value(words: &[Text], place: usize) -> bool {
     match words.get(place) {
-        Some(word) => word.as_str().starts_with("--limit="),
+        Some(word) => word.as_str().as_bytes().starts_with(b"--limit="),
         None => false,
     }
 }
@@ -192,47 +231,6 @@ fn named(shown: &'static str, number: usize) -> &'static str {
     last
 }
 
-// What a number is, and its least and greatest value.
-#[derive(Clone, Copy)]
-struct Limits {
-    what: &'static str,
-    least: u64,
-    greatest: u64,
-}
-
-impl Limits {
-    fn rule(&self, alloc: Global) -> Result<String, Memory> {
-        let Limits {
-            what,
-            least,
-            greatest,
-        } = self;
-        Ok(format!(in alloc; "{what} is a number from {least} to {greatest}")?)
-    }
-}
-
-fn number(what: &'static str, least: u64, greatest: u64) -> Option<Limits> {
-    Some(Limits {
-        what,
-        least,
-        greatest,
-    })
-}
-
-// The limits of the number that stands for the operand of this name, where it is a number.
-fn limits_of(words: &[Text], name: &str) -> Option<Limits> {
-    match name {
-        "GENERATION" => number("a generation", 0, GREATEST_COUNT),
-        "PORT" => number("a port", 1, GREATEST_PORT),
-        "COUNT" if makes_workload(words) => number("a count of documents", 0, MOST_WORKLOAD),
-        "COUNT" => number("a count of connections", 1, MOST_CONNECTIONS),
-        "ROUNDS" => number("a count of rounds", 1, MOST_ROUNDS),
-        "BETWEEN" => number("a count of connections", 0, MOST_BETWEEN),
-        "SEED" => number("a seed", 0, u64::MAX),
-        _ => None,
-    }
-}
-
 fn makes_workload(words: &[Text]) -> bool {
     match words.get(1) {
         Some(word) => word.as_str() == "work",
@@ -240,30 +238,51 @@ fn makes_workload(words: &[Text]) -> bool {
     }
 }
 
-// What a word has to be that stands for the operand of this name, which is no number but that of
-// an option.
-fn rule_of(alloc: Global, name: &str) -> Result<String, Memory> {
-    let rule = match name {
-        "NAME" | "INDEX" => format!(in alloc;
-            "a name has 1 to {MOST_NAME_BYTES} letters, digits and . _ -"
+// What a word has to be that stands for the operand of this name, in a command that makes no
+// workload.
+fn rule_of(name: &str) -> Rule {
+    match name {
+        "GENERATION" => Rule::Between("a generation is a number", 0, GREATEST_COUNT),
+        "PORT" => Rule::Between("a port is a number", 1, GREATEST_PORT),
+        "COUNT" => Rule::Between("a count of connections is a number", 1, MOST_CONNECTIONS),
+        "ROUNDS" => Rule::Between("a count of rounds is a number", 1, MOST_ROUNDS),
+        "BETWEEN" => Rule::Between("a count of connections is a number", 0, MOST_BETWEEN),
+        "SEED" => Rule::Between("a seed is a number", 0, u64::MAX),
+        "N" => Rule::Between(
+            "a limit is a number of bytes",
+            LEAST_IMAGE_LIMIT,
+            GREATEST_IMAGE_LIMIT,
         ),
-        "[UID]" => format!(in alloc; "a uid has 1 to {MOST_NAME_BYTES} letters, digits and _ -"),
-        "ID" | "[ID]" => format!(in alloc;
-            "an id has 1 to {MOST_DOCUMENT_ID_BYTES} letters, digits and . _ - %"
+        "NAME" | "INDEX" => {
+            Rule::Most(
+                "a name has 1 to ",
+                MOST_NAME_BYTES,
+                " letters, digits and . _ -",
+            )
+        }
+        "[UID]" => Rule::Most(
+            "a uid has 1 to ",
+            MOST_NAME_BYTES,
+            " letters, digits and _ -",
         ),
-        "REV" | "[REV]" | "REV..." => format!(in alloc;
-            "a revision is 1 to {MOST_CLOCK_ENTRIES} times UID:COUNTER, sorted by UID \
-                and joined by |"
+        "ID" | "[ID]" => Rule::Most(
+            "an id has 1 to ",
+            MOST_DOCUMENT_ID_BYTES,
+            " letters, digits and . _ - %",
         ),
-        "N" => format!(in alloc;
-            "a limit is a number of bytes from {LEAST_IMAGE_LIMIT} to \
-                {GREATEST_IMAGE_LIMIT}"
+        "REV" | "[REV]" | "REV..." => Rule::Most(
+            "a revision is 1 to ",
+            MOST_CLOCK_ENTRIES,
+            " times UID:COUNTER, sorted by UID and joined by |",
         ),
-        "START" | "END" => format!(in alloc;
-            "an end is open, or a JSON list of 1 to {MOST_KEY_TEXTS} strings"
-        ),
-        "ADDRESS" => String::from_str(alloc, "an address is a URL as http://host:8080/db"),
-        _ => String::from_str(alloc, "it cannot stand there"),
-    };
-    Ok(rule?)
+        "START" | "END" => {
+            Rule::Most(
+                "an end is open, or a JSON list of 1 to ",
+                MOST_KEY_TEXTS,
+                " strings",
+            )
+        }
+        "ADDRESS" => Rule::Words("an address is a URL as http://host:8080/db"),
+        _ => Rule::Words("it cannot stand there"),
+    }
 }
