@@ -32,7 +32,7 @@ fn two_texts(alloc: Global, first: &str, second: &str) -> Option<Texts> {
     Some(texts)
 }
 
-// The key of a number below 1000: its first two digits, and the last one. Keys go as the numbers do.
+// The key of a number below 1000: its first two digits, and the last. Keys go as the numbers do.
 fn key(alloc: Global, number: u64) -> Option<Key> {
     let first = format!(in alloc; "{:02}", number / 10).ok()?;
     let second = format!(in alloc; "{}", number % 10).ok()?;

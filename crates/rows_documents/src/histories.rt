@@ -1,0 +1,299 @@
+//! `doc`: the history of a document. An answer is what is accepted, and behind `=` the members
+//! then, the current one first.
+//!
+//! - `new ID`: there is no document any more.
+//! - `edit UID REV CONTENT`, `delete UID REV`, `resolve UID REV,REV CONTENT`, and
+//!   `receive UID save|sent REV CONTENT`: the calls of a replica of this uid; `-` is none.
+//! - `take current|beside REV CONTENT`: an acceptance that no call makes.
+//! - `newer REV`: whether a member is newer. `current ID`: the revision of the current member.
+use crate::meant::say_fault;
+use conflicts::{
+    Accept, DocSet, EditFault, Making, Member, Outcome4, ResolveFault, Taken, delete, edit,
+    receive, resolve,
+};
+use content::Content;
+use rows::Said;
+use std::alloc::Global;
+use u1_base::ReplicaUid;
+use vector_rev::{Clock, Clocks};
+
+pub(crate) fn answer(
+    alloc: Global,
+    set: &mut Option<DocSet>,
+    call: &str,
+    row: &str,
+    said: &mut Said,
+) -> Option<()> {
+    match call {
+        "new" => {
+            *set = None;
+            said.line("none").ok()
+        }
+        "take" => take(alloc, set, row, said),
+        "newer" => {
+            let rev = Clock::read(alloc, row).ok()?;
+            said.line(if set.as_ref()?.has_newer(&rev) {
+                "yes"
+            } else {
+                "no"
+            })
+            .ok()
+        }
+        "current" => {
+            say_clock(&set.as_ref()?.current().rev, said)?;
+            said.end().ok()
+        }
+        _ => called(alloc, set, call, row, said),
+    }
+}
+
+// A call of a replica.
+fn called(
+    alloc: Global,
+    set: &mut Option<DocSet>,
+    call: &str,
+    row: &str,
+    said: &mut Said,
+) -> Option<()> {
+    let (own, row) = row.split_once(' ')?;
+    let own = ReplicaUid::read(alloc, own).ok()?;
+    let made = match call {
+        "edit" => edited(alloc, set.as_ref(), row, &own, said)?,
+        "delete" => deleted(alloc, set.as_ref(), row, &own, said)?,
+        "resolve" => resolved(alloc, set.as_ref(), row, &own, said)?,
+        "receive" => received(alloc, set.as_ref(), row, &own, said)?,
+        _ => return None,
+    };
+    match made {
+        Some(accept) => accepted(alloc, set, accept, said),
+        None => said.end().ok(),
+    }
+}
+
+fn edited(
+    alloc: Global,
+    set: Option<&DocSet>,
+    row: &str,
+    own: &ReplicaUid,
+    said: &mut Said,
+) -> Option<Option<Accept>> {
+    let (rev, text) = row.split_once(' ')?;
+    let rev = clock_or_none(alloc, rev)?;
+    let content = Content::read(alloc, text.as_bytes()).ok()?;
+    edit_told(alloc, edit(alloc, set, rev.as_ref(), &content, own), said)
+}
+
+fn deleted(
+    alloc: Global,
+    set: Option<&DocSet>,
+    rev: &str,
+    own: &ReplicaUid,
+    said: &mut Said,
+) -> Option<Option<Accept>> {
+    let rev = Clock::read(alloc, rev).ok()?;
+    edit_told(alloc, delete(alloc, set, &rev, own), said)
+}
+
+fn edit_told(
+    alloc: Global,
+    made: Result<Accept, EditFault>,
+    said: &mut Said,
+) -> Option<Option<Accept>> {
+    match made {
+        Ok(accept) => Some(Some(accept)),
+        Err(fault) => {
+            say_fault(alloc, &fault, said)?;
+            if let EditFault::RevisionConflict(rev) = &fault {
+                say_clock(rev, said)?;
+            }
+            Some(None)
+        }
+    }
+}
+
+fn resolved(
+    alloc: Global,
+    set: Option<&DocSet>,
+    row: &str,
+    own: &ReplicaUid,
+    said: &mut Said,
+) -> Option<Option<Accept>> {
+    let (revs, text) = row.split_once(' ')?;
+    let named = clocks(alloc, revs)?;
+    let content = content_or_none(alloc, text)?;
+    resolution_told(
+        alloc,
+        resolve(alloc, set, &named, content.as_ref(), own),
+        said,
+    )
+}
+
+fn resolution_told(
+    alloc: Global,
+    made: Result<Accept, ResolveFault>,
+    said: &mut Said,
+) -> Option<Option<Accept>> {
+    match made {
+        Ok(accept) => Some(Some(accept)),
+        Err(fault) => {
+            say_fault(alloc, &fault, said)?;
+            if let ResolveFault::Unnamed(rev) = &fault {
+                say_clock(rev, said)?;
+            }
+            Some(None)
+        }
+    }
+}
+
+fn received(
+    alloc: Global,
+    set: Option<&DocSet>,
+    row: &str,
+    own: &ReplicaUid,
+    said: &mut Said,
+) -> Option<Option<Accept>> {
+    let (how, row) = row.split_once(' ')?;
+    let incoming = member_of(alloc, row)?.copy().ok()?;
+    let Taken { outcome, accepted } = receive(alloc, set, &incoming, how == "save", own).ok()?;
+    said.word(word_of(outcome)).ok()?;
+    Some(accepted)
+}
+
+fn word_of(outcome: Outcome4) -> &'static str {
+    match outcome {
+        Outcome4::Inserted => "inserted",
+        Outcome4::Superseded => "superseded",
+        Outcome4::Converged => "converged",
+        Outcome4::Conflicted => "conflicted",
+    }
+}
+
+// What is accepted, and the members after it.
+fn accepted(
+    alloc: Global,
+    set: &mut Option<DocSet>,
+    accept: Accept,
+    said: &mut Said,
+) -> Option<()> {
+    say_accept(&accept, said)?;
+    said.end().ok()?;
+    if !DocSet::fits(set.as_ref(), &accept) {
+        return said.line("does not fit").ok();
+    }
+    let after = DocSet::after(alloc, set.as_ref(), accept.copy(alloc).ok()?).ok()?;
+    say_members(&after, said)?;
+    *set = Some(after);
+    Some(())
+}
+
+// The same of an acceptance from outside, in place.
+fn take(alloc: Global, set: &mut Option<DocSet>, row: &str, said: &mut Said) -> Option<()> {
+    let (how, row) = row.split_once(' ')?;
+    let Member { rev, content } = member_of(alloc, row)?;
+    let accept = Accept {
+        rev,
+        content,
+        making: Making::Received,
+        parents: Clocks::new(alloc),
+        current: how == "current",
+    };
+    if !DocSet::fits(set.as_ref(), &accept) {
+        return said.line("does not fit").ok();
+    }
+    let after = DocSet::apply(alloc, set.take(), accept).ok()?;
+    say_members(&after, said)?;
+    *set = Some(after);
+    Some(())
+}
+
+// The clock of a text; `-` is none.
+fn clock_or_none(alloc: Global, text: &str) -> Option<Option<Clock>> {
+    if text == "-" {
+        return Some(None);
+    }
+    Some(Some(Clock::read(alloc, text).ok()?))
+}
+
+// The clocks of a text, with commas between.
+fn clocks(alloc: Global, text: &str) -> Option<Clocks> {
+    let mut clocks = Clocks::new(alloc);
+    for text in text.split(',') {
+        clocks.push(Clock::read(alloc, text).ok()?).ok()?;
+    }
+    Some(clocks)
+}
+
+fn content_or_none(alloc: Global, text: &str) -> Option<Option<Content>> {
+    if text == "-" {
+        return Some(None);
+    }
+    Some(Some(Content::read(alloc, text.as_bytes()).ok()?))
+}
+
+// The member `REV CONTENT`.
+fn member_of(alloc: Global, row: &str) -> Option<Member> {
+    let (rev, text) = row.split_once(' ')?;
+    let content = content_or_none(alloc, text)?;
+    Some(Member {
+        rev: Clock::read(alloc, rev).ok()?,
+        content,
+    })
+}
+
+/// Adds the text of a clock.
+pub(crate) fn say_clock(clock: &Clock, said: &mut Said) -> Option<()> {
+    said.word(clock.text().ok()?.as_str()).ok()
+}
+
+// A longer content is told by its length.
+const LONG: usize = 1000;
+
+/// Adds the text of a content, or `-`.
+pub(crate) fn say_content(content: &Option<Content>, said: &mut Said) -> Option<()> {
+    let Some(content) = content else {
+        return said.word("-").ok();
+    };
+    let text = content.as_str();
+    if text.len() > LONG {
+        said.number(text.len() as u64).ok()?;
+        return said.word("bytes").ok();
+    }
+    said.word(text).ok()
+}
+
+/// Adds an acceptance as `REV CONTENT MAKING of PARENTS`, with `current` behind it where it is
+/// marked so.
+pub(crate) fn say_accept(accept: &Accept, said: &mut Said) -> Option<()> {
+    say_clock(&accept.rev, said)?;
+    say_content(&accept.content, said)?;
+    said.word(making(accept.making)).ok()?;
+    for parent in accept.parents.as_slice() {
+        say_clock(parent, said)?;
+    }
+    if accept.current {
+        said.word("current").ok()?;
+    }
+    Some(())
+}
+
+fn making(making: Making) -> &'static str {
+    match making {
+        Making::Edit => "edit of",
+        Making::Resolve => "resolve of",
+        Making::Merge => "merge of",
+        Making::Received => "received of",
+    }
+}
+
+// The members of a copy of the set.
+fn say_members(set: &DocSet, said: &mut Said) -> Option<()> {
+    let copy = set.copy().ok()?;
+    said.word("=").ok()?;
+    for place in 0..copy.length() {
+        let member = copy.member(place)?;
+        say_clock(&member.rev, said)?;
+        say_content(&member.content, said)?;
+        said.join(";").ok()?;
+    }
+    said.end().ok()
+}
