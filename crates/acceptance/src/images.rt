@@ -4,51 +4,34 @@ use crate::harness::{Files, bytes_of};
 use std::alloc::Global;
 use u1_base::{Bytes, Memory};
 
-/// The image of database `db`, replica `a` and the greatest limit, up to its first gate.
-pub const HEADER: &[u8] = b"U1DBVOL\x02\0\x02db\0\x01a\0\0\x01\0\0\0\0\0";
-/// The entry of `create d1` with the content `{"a":"x","b":1}`.
-pub const CREATED: &[u8] =
+// The image of database `db`, replica `a` and the greatest limit, up to its first gate.
+const HEADER: &[u8] = b"U1DBVOL\x02\0\x02db\0\x01a\0\0\x01\0\0\0\0\0";
+// The entry of `create d1` with the content `{"a":"x","b":1}`.
+const CREATED: &[u8] =
     b"\x01\0\0\0Q\x01\0\x02d1\x01\0\0\0\0\0\0\0\0\0\0\0\x01\0\0\0\0\0\x01\x01\0\0\0\x0f{\"a\":\
     \"x\",\"b\":1}\0\"T-a12aa9bff3485ffcbd67876eea76a865\0";
-/// `put d1 a:1` with `{}`.
-pub const REPLACED: &[u8] =
-    b"\x01\0\0\0Q\x01\0\x02d1\x01\0\0\0\0\0\0\0\0\0\0\0\x02\0\0\0\0\x01\x01\0\0\0\0\0\0\0\0\0\0\0\
-    \x01\x01\x01\0\0\0\x02{}\0\"T-98057cb70a845067a81e0635ab0cbc89\0";
-/// `create d2` with `{"t":"b"}`.
-pub const SECOND: &[u8] =
+// `create d2` with `{"t":"b"}`.
+const SECOND: &[u8] =
     b"\x01\0\0\0K\x01\0\x02d2\x01\0\0\0\0\0\0\0\0\0\0\0\x01\0\0\0\0\0\x01\x01\0\0\0\x09{\"t\":\
     \"b\"}\0\"T-98057cb70a845067a81e0635ab0cbc89\0";
-/// `create d3` with `{"v":"a"}`.
-pub const THIRD: &[u8] =
+// `create d3` with `{"v":"a"}`.
+const THIRD: &[u8] =
     b"\x01\0\0\0K\x01\0\x02d3\x01\0\0\0\0\0\0\0\0\0\0\0\x01\0\0\0\0\0\x01\x01\0\0\0\x09{\"v\":\
     \"a\"}\0\"T-4a2f05bda87d5e5da1aec07f076e0982\0";
-/// `d3` at `b:1` with `{"v":"b"}`, as the first entry of `b` is received: a conflict.
-pub const RECEIVED: &[u8] =
+// `d3` at `b:1` with `{"v":"b"}`, as the first entry of `b` is received: a conflict.
+const RECEIVED: &[u8] =
     b"\x01\0\0\0~\x01\0\x02d3\x01\0\0\0\x01\0\x01b\0\0\0\0\0\0\0\x01\x03\0\0\0\0\x01\x01\0\0\0\
     \x09{\"v\":\"b\"}\0\"T-bab20aaca9315ef39202d7e5eb9bdc33\x01\0\0\0\x01\0\0\0\0\0\0\0\x01\
     \0\"T-a12aa9bff3485ffcbd67876eea76a865";
-/// `index-create i t`.
-pub const INDEX: &[u8] = b"\x01\0\0\0\x08\x04\0\x01i\x01\0\x01t";
-/// `put d2 a:1` with `{"t":"bc"}`, after these.
-pub const CHANGED: &[u8] =
+// `index-create i t`.
+const INDEX: &[u8] = b"\x01\0\0\0\x08\x04\0\x01i\x01\0\x01t";
+// `put d2 a:1` with `{"t":"bc"}`, after these.
+const CHANGED: &[u8] =
     b"\x01\0\0\0Y\x01\0\x02d2\x01\0\0\0\0\0\0\0\0\0\0\0\x02\0\0\0\0\x01\x01\0\0\0\0\0\0\0\0\0\0\0\
     \x01\x01\x01\0\0\0\x0a{\"t\":\"bc\"}\0\"T-5a58563efd525018a50d31c0d3f37e93\0";
-/// `create d1` with `{"v":"a"}`.
-pub const OWN: &[u8] =
-    b"\x01\0\0\0K\x01\0\x02d1\x01\0\0\0\0\0\0\0\0\0\0\0\x01\0\0\0\0\0\x01\x01\0\0\0\x09{\"v\":\
-    \"a\"}\0\"T-a12aa9bff3485ffcbd67876eea76a865\0";
-/// `d1` at `b:1` with `{"v":"b"}`, received after it.
-pub const OTHER: &[u8] =
-    b"\x01\0\0\0~\x01\0\x02d1\x01\0\0\0\x01\0\x01b\0\0\0\0\0\0\0\x01\x03\0\0\0\0\x01\x01\0\0\0\
-    \x09{\"v\":\"b\"}\0\"T-98057cb70a845067a81e0635ab0cbc89\x01\0\0\0\x01\0\0\0\0\0\0\0\x01\
-    \0\"T-a12aa9bff3485ffcbd67876eea76a865";
-/// `d1` at the last counter of `a`, received.
-pub const LAST: &[u8] =
-    b"\x01\0\0\0D\x01\0\x02d1\x01\0\0\0\0\x7f\xff\xff\xff\xff\xff\xff\xff\x03\0\0\0\0\x01\x01\
-    \0\0\0\x02{}\0\"T-a12aa9bff3485ffcbd67876eea76a865\0";
 
-/// The image of these entries, after the header.
-pub fn image(alloc: Global, entries: &[&[u8]]) -> Result<Bytes, Memory> {
+// The image of these entries, after the header.
+fn image(alloc: Global, entries: &[&[u8]]) -> Result<Bytes, Memory> {
     let mut image = bytes_of(alloc, HEADER)?;
     for entry in entries {
         image.extend(entry)?;

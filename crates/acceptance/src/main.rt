@@ -1,8 +1,5 @@
-//! Tests that go through all crates: whole commands, every device call failing in turn, and what
-//! a stop at each moment may leave.
-//!
-//! The program runs one command over objects in memory, for the check in which each call for
-//! memory fails in turn. Standard input has `init`, or the number of a command of the table, and
+//! Runs one command over objects in memory, for the check in which each call for memory fails in
+//! turn. Standard input has `init`, or the number of a command of the table, and
 //! how many calls for memory are made before all else: where the call of one number fails, these
 //! move the failure to an earlier place of the command.
 //!
@@ -20,20 +17,10 @@
 #![tactic(auto)]
 
 mod calls;
-#[cfg(test)]
-mod checks;
-#[cfg(test)]
-mod crashes;
-#[cfg(test)]
-mod faults;
 mod harness;
 mod images;
-#[cfg(test)]
-mod order;
 mod readings;
 mod starved;
-#[cfg(test)]
-mod stories;
 mod table;
 mod volumes;
 

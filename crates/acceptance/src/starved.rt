@@ -1,5 +1,5 @@
 //! One command after a number of calls for memory.
-use crate::harness::{BLANK, Failing, Files, Ran, run_on};
+use crate::harness::{BLANK, Files, Ran, run_on};
 use crate::images::{on_the_left, prepared};
 use crate::table::{COMMANDS, Command, INIT};
 use command_lines::outcome_status;
@@ -35,13 +35,7 @@ fn call_for_memory(alloc: Global, number: u32) -> Result<(), Memory> {
 // Runs the command over these files, and tells its status, what it printed, and what the question
 // finds then.
 fn told(alloc: Global, command: &Command, stored: Files<'_>) -> Result<String, Memory> {
-    let ran = run_on(
-        alloc,
-        command.words,
-        stored,
-        command.input,
-        Failing::Nothing,
-    )?;
+    let ran = run_on(alloc, command.words, stored, command.input)?;
     let store = found_behind(alloc, command, stored, &ran)?;
     let status = outcome_status(&ran.outcome);
     let printed = printed_as(&ran, command);
@@ -68,7 +62,7 @@ fn answer_after(alloc: Global, command: &Command, stored: Files<'_>) -> Result<R
 
 // The same run where memory was ample: it is done, or refused.
 fn ample(alloc: Global, words: &str, stored: Files<'_>, input: &[u8]) -> Result<Ran, Memory> {
-    let ran = run_on(alloc, words, stored, input, Failing::Nothing)?;
+    let ran = run_on(alloc, words, stored, input)?;
     if outcome_status(&ran.outcome) > 1 {
         return Err(Memory);
     }

@@ -1,6 +1,6 @@
 //! A document is put into a store on three disks in memory, and put once more where memory ran out.
 use crate::calls::{Wanted, word_of};
-use crate::harness::{Failing, Files, disks_of};
+use crate::harness::{Files, disks_of};
 use crate::images::{changed, on_the_left, prepared};
 use crate::readings::readings_of;
 use content::Content;
@@ -28,7 +28,7 @@ pub fn line_of(alloc: Global) -> Result<String, Memory> {
         after: readings_over(alloc, on_the_left(image.as_slice()))?,
     };
     let put = Put::new(alloc)?;
-    let (disks, told) = put.told_on(alloc, disks_of(alloc, stored, Failing::Nothing)?, &wanted);
+    let (disks, told) = put.told_on(alloc, disks_of(alloc, stored)?, &wanted);
     let told = told?;
     let once = were_called_once(&disks) && hold(&disks, on_the_left(image.as_slice()));
     let found = found_on(alloc, disks, &wanted)?;
@@ -165,7 +165,7 @@ fn found_on(alloc: Global, disks: Disks<MemDisk>, wanted: &Wanted) -> Result<&'s
 }
 
 fn readings_over(alloc: Global, stored: Files<'_>) -> Result<MemSink, Memory> {
-    let (_disks, read) = read_on(alloc, disks_of(alloc, stored, Failing::Nothing)?);
+    let (_disks, read) = read_on(alloc, disks_of(alloc, stored)?);
     read
 }
 

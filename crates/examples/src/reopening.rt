@@ -8,7 +8,7 @@ ghost use Rattle.replica_state.specs.Held.{meaning};
 ghost use Rattle.replica_volume.specs.Volume.{IsOpenVolume};
 ghost use Rattle.examples.specs.Notes.{Reads};
 
-use crate::write_note;
+use crate::conflict::write_note;
 use content::Content;
 use disk_model::Disk;
 use disks::Disks;
