@@ -46,7 +46,6 @@ fn newer(alloc: Global, set: &DocSet, row: &str, said: &mut Said) -> Option<()> 
         .ok()
 }
 
-// A call of a replica.
 fn called(
     alloc: Global,
     set: &mut Option<DocSet>,
@@ -56,11 +55,16 @@ fn called(
 ) -> Option<()> {
     let (own, row) = row.split_once(' ')?;
     let own = ReplicaUid::read(alloc, own).ok()?;
+    let asked = Asked {
+        alloc,
+        own: &own,
+        row,
+    };
     let made = match call {
-        "edit" => edited(alloc, set.as_ref(), row, &own, said),
-        "delete" => deleted(alloc, set.as_ref(), row, &own, said),
-        "resolve" => resolved(alloc, set.as_ref(), row, &own, said),
-        "receive" => received(alloc, set.as_ref(), row, &own, said),
+        "edit" => asked.edit(set.as_ref(), said),
+        "delete" => asked.delete(set.as_ref(), said),
+        "resolve" => asked.resolve(set.as_ref(), said),
+        "receive" => asked.receive(set.as_ref(), said),
         _ => None,
     };
     drop(own);
@@ -74,45 +78,54 @@ fn called(
     }
 }
 
-fn edited(
+// A call of a replica of this uid, and what it is given.
+#[derive(Clone, Copy)]
+struct Asked<'a> {
     alloc: Global,
-    set: Option<&DocSet>,
-    row: &str,
-    own: &ReplicaUid,
-    said: &mut Said,
-) -> Option<Option<Accept>> {
-    let (rev, text) = row.split_once(' ')?;
-    let content = Content::read(alloc, text.as_bytes()).ok()?;
-    let rev = clock_or_none(alloc, rev)?;
-    made_or_told(alloc, edit(alloc, set, rev.as_ref(), &content, own), said)
+    own: &'a ReplicaUid,
+    row: &'a str,
 }
 
-fn deleted(
-    alloc: Global,
-    set: Option<&DocSet>,
-    rev: &str,
-    own: &ReplicaUid,
-    said: &mut Said,
-) -> Option<Option<Accept>> {
-    let rev = Clock::read(alloc, rev).ok()?;
-    made_or_told(alloc, delete(alloc, set, &rev, own), said)
-}
+impl Asked<'_> {
+    fn edit(self, set: Option<&DocSet>, said: &mut Said) -> Option<Option<Accept>> {
+        let (rev, text) = self.row.split_once(' ')?;
+        let content = Content::read(self.alloc, text.as_bytes()).ok()?;
+        let rev = clock_or_none(self.alloc, rev)?;
+        let made = edit(self.alloc, set, rev.as_ref(), &content, self.own);
+        made_or_told(self.alloc, made, said)
+    }
 
-fn resolved(
-    alloc: Global,
-    set: Option<&DocSet>,
-    row: &str,
-    own: &ReplicaUid,
-    said: &mut Said,
-) -> Option<Option<Accept>> {
-    let (revs, text) = row.split_once(' ')?;
-    let content = content_or_none(alloc, text)?;
-    let named = clocks(alloc, revs)?;
-    made_or_told(
-        alloc,
-        resolve(alloc, set, &named, content.as_ref(), own),
-        said,
-    )
+    fn delete(self, set: Option<&DocSet>, said: &mut Said) -> Option<Option<Accept>> {
+        let rev = Clock::read(self.alloc, self.row).ok()?;
+        made_or_told(self.alloc, delete(self.alloc, set, &rev, self.own), said)
+    }
+
+    fn resolve(self, set: Option<&DocSet>, said: &mut Said) -> Option<Option<Accept>> {
+        let (revs, text) = self.row.split_once(' ')?;
+        let content = content_or_none(self.alloc, text)?;
+        let named = clocks(self.alloc, revs)?;
+        let made = resolve(self.alloc, set, &named, content.as_ref(), self.own);
+        made_or_told(self.alloc, made, said)
+    }
+
+    fn receive(self, set: Option<&DocSet>, said: &mut Said) -> Option<Option<Accept>> {
+        let (how, row) = self.row.split_once(' ')?;
+        let Taken { outcome, accepted } = self.taken(set, row, how == "save")?;
+        match said.word(word_of(outcome)) {
+            Ok(()) => Some(accepted),
+            Err(_) => {
+                drop(accepted);
+                None
+            }
+        }
+    }
+
+    fn taken(self, set: Option<&DocSet>, row: &str, save: bool) -> Option<Taken> {
+        let incoming = copy_of_member(self.alloc, row)?;
+        let taken = receive(self.alloc, set, &incoming, save, self.own);
+        drop(incoming);
+        taken.ok()
+    }
 }
 
 /// A fault that may name a revision.
@@ -159,37 +172,6 @@ fn say_refusal<F: Refusal + fmt::Display>(alloc: Global, fault: &F, said: &mut S
         Some(rev) => say_clock(rev, said),
         None => Some(()),
     }
-}
-
-fn received(
-    alloc: Global,
-    set: Option<&DocSet>,
-    row: &str,
-    own: &ReplicaUid,
-    said: &mut Said,
-) -> Option<Option<Accept>> {
-    let (how, row) = row.split_once(' ')?;
-    let Taken { outcome, accepted } = taken(alloc, set, row, how == "save", own)?;
-    match said.word(word_of(outcome)) {
-        Ok(()) => Some(accepted),
-        Err(_) => {
-            drop(accepted);
-            None
-        }
-    }
-}
-
-fn taken(
-    alloc: Global,
-    set: Option<&DocSet>,
-    row: &str,
-    save: bool,
-    own: &ReplicaUid,
-) -> Option<Taken> {
-    let incoming = copy_of_member(alloc, row)?;
-    let taken = receive(alloc, set, &incoming, save, own);
-    drop(incoming);
-    taken.ok()
 }
 
 // A copy of the member `REV CONTENT`.
