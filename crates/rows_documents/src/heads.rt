@@ -9,7 +9,7 @@ ghost use Rattle.std.specs.Prelude.{◌≡◌, ◌≤◌};
 ghost use Rattle.u1_base.specs.declared.limits.TheConstants.{GREATEST_COUNT};
 ghost use Rattle.sync_http.specs.declared.heads.Verb.TheVariants.{Get};
 
-use crate::meant::{say_fault, say_text};
+use crate::meant::{say_bad, say_text_line};
 use rows::{Said, number_of};
 use std::alloc::Global;
 use sync_http::{
@@ -17,7 +17,7 @@ use sync_http::{
     write_reply, write_request,
 };
 use u1_base::limits::GREATEST_COUNT;
-use u1_base::{Bytes, DbName, ReplicaUid, Text};
+use u1_base::{Bytes, ReplicaUid};
 
 pub(crate) fn answer(alloc: Global, call: &str, meant: &[u8], said: &mut Said) -> Option<()> {
     match call {
@@ -41,17 +41,15 @@ fn request(alloc: Global, bytes: &[u8], said: &mut Said) -> Option<()> {
     match read_request(alloc, bytes) {
         Ok(Heard::NotYet) => said.line("more").ok(),
         Ok(Heard::Head { head, length }) => {
-            say_request(&head, said)?;
-            say_length(length, said)
+            let told = say_request(&head, length, said);
+            drop(head);
+            told
         }
-        Err(fault) => {
-            say_fault(alloc, &fault, said)?;
-            said.end().ok()
-        }
+        Err(fault) => say_bad(alloc, &fault, said),
     }
 }
 
-fn say_request(head: &RequestHead, said: &mut Said) -> Option<()> {
+fn say_request(head: &RequestHead, length: u64, said: &mut Said) -> Option<()> {
     said.word(match head.verb {
         Verb::Get => "get",
         Verb::Put => "put",
@@ -60,7 +58,8 @@ fn say_request(head: &RequestHead, said: &mut Said) -> Option<()> {
     .ok()?;
     said.word(head.db.as_str()).ok()?;
     said.word(head.source.as_str()).ok()?;
-    said.number(head.body).ok()
+    said.number(head.body).ok()?;
+    say_length(length, said)
 }
 
 fn say_length(length: u64, said: &mut Said) -> Option<()> {
@@ -77,10 +76,7 @@ fn reply(alloc: Global, bytes: &[u8], said: &mut Said) -> Option<()> {
             said.number(head.body).ok()?;
             say_length(length, said)
         }
-        Err(fault) => {
-            say_fault(alloc, &fault, said)?;
-            said.end().ok()
-        }
+        Err(fault) => say_bad(alloc, &fault, said),
     }
 }
 
@@ -118,25 +114,25 @@ fn ask(alloc: Global, row: &str, said: &mut Said) -> Option<()> {
         "POST" => request_of(alloc, Verb::Post, body)?,
         _ => return None,
     };
-    say_text(alloc, bytes.as_slice(), said)?;
-    said.end().ok()?;
+    say_text_line(alloc, bytes.as_slice(), said)?;
     request(alloc, bytes.as_slice(), said)
+}
+
+/// The database to which requests go.
+pub(crate) fn target(alloc: Global) -> Option<Address> {
+    read_address(alloc, "http://h:8080/db").ok()
 }
 
 fn request_of(alloc: Global, verb: Verb, body: u64) -> Option<Bytes>
     requires short { body ≤ GREATEST_COUNT }
     requires none { verb ≡ Get → body ≡ 0 }
 {
-    let db = DbName::read(alloc, "db").ok()?;
-    let to = Address {
-        host: Text::copy(alloc, "h").ok()?,
-        port: 8080,
-        db: db.copy().ok()?,
-    };
+    let to = target(alloc)?;
+    let source = ReplicaUid::read(alloc, "a").ok()?;
     let head = RequestHead {
         verb,
-        db,
-        source: ReplicaUid::read(alloc, "a").ok()?,
+        db: to.db.copy().ok()?,
+        source,
         body,
     };
     write_request(alloc, &to, &head).ok()
@@ -153,21 +149,19 @@ fn answer_head(alloc: Global, row: &str, said: &mut Said) -> Option<()> {
         "507" => write_reply(alloc, &ReplyHead { status: 507, body }, false).ok()?,
         _ => return None,
     };
-    say_text(alloc, bytes.as_slice(), said)?;
-    said.end().ok()?;
+    say_text_line(alloc, bytes.as_slice(), said)?;
     reply(alloc, bytes.as_slice(), said)
 }
 
 fn address(alloc: Global, text: &str, said: &mut Said) -> Option<()> {
     match read_address(alloc, text) {
-        Ok(address) => {
-            said.word(address.host.as_str()).ok()?;
-            said.number(u64::from(address.port)).ok()?;
-            said.line(address.db.as_str()).ok()
-        }
-        Err(fault) => {
-            say_fault(alloc, &fault, said)?;
-            said.end().ok()
-        }
+        Ok(address) => say_address(&address, said),
+        Err(fault) => say_bad(alloc, &fault, said),
     }
+}
+
+fn say_address(address: &Address, said: &mut Said) -> Option<()> {
+    said.word(address.host.as_str()).ok()?;
+    said.number(u64::from(address.port)).ok()?;
+    said.line(address.db.as_str()).ok()
 }

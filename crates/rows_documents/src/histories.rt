@@ -14,6 +14,7 @@ use conflicts::{
 use content::Content;
 use rows::Said;
 use std::alloc::Global;
+use std::fmt;
 use u1_base::ReplicaUid;
 use vector_rev::{Clock, Clocks};
 
@@ -26,19 +27,11 @@ pub(crate) fn answer(
 ) -> Option<()> {
     match call {
         "new" => {
-            *set = None;
+            drop(set.take());
             said.line("none").ok()
         }
         "take" => take(alloc, set, row, said),
-        "newer" => {
-            let rev = Clock::read(alloc, row).ok()?;
-            said.line(if set.as_ref()?.has_newer(&rev) {
-                "yes"
-            } else {
-                "no"
-            })
-            .ok()
-        }
+        "newer" => newer(alloc, set.as_ref()?, row, said),
         "current" => {
             say_clock(&set.as_ref()?.current().rev, said)?;
             said.end().ok()
@@ -47,7 +40,12 @@ pub(crate) fn answer(
     }
 }
 
-// A call of a replica.
+fn newer(alloc: Global, set: &DocSet, row: &str, said: &mut Said) -> Option<()> {
+    let rev = Clock::read(alloc, row).ok()?;
+    said.line(if set.has_newer(&rev) { "yes" } else { "no" })
+        .ok()
+}
+
 fn called(
     alloc: Global,
     set: &mut Option<DocSet>,
@@ -57,106 +55,131 @@ fn called(
 ) -> Option<()> {
     let (own, row) = row.split_once(' ')?;
     let own = ReplicaUid::read(alloc, own).ok()?;
-    let made = match call {
-        "edit" => edited(alloc, set.as_ref(), row, &own, said)?,
-        "delete" => deleted(alloc, set.as_ref(), row, &own, said)?,
-        "resolve" => resolved(alloc, set.as_ref(), row, &own, said)?,
-        "receive" => received(alloc, set.as_ref(), row, &own, said)?,
-        _ => return None,
+    let asked = Asked {
+        alloc,
+        own: &own,
+        row,
     };
-    match made {
-        Some(accept) => accepted(alloc, set, accept, said),
+    let made = match call {
+        "edit" => asked.edit(set.as_ref(), said),
+        "delete" => asked.delete(set.as_ref(), said),
+        "resolve" => asked.resolve(set.as_ref(), said),
+        "receive" => asked.receive(set.as_ref(), said),
+        _ => None,
+    };
+    drop(own);
+    match made? {
+        Some(accept) => {
+            let told = accepted(alloc, set, &accept, said);
+            drop(accept);
+            told
+        }
         None => said.end().ok(),
     }
 }
 
-fn edited(
+// A call of a replica of this uid, and what it is given.
+#[derive(Clone, Copy)]
+struct Asked<'a> {
     alloc: Global,
-    set: Option<&DocSet>,
-    row: &str,
-    own: &ReplicaUid,
-    said: &mut Said,
-) -> Option<Option<Accept>> {
-    let (rev, text) = row.split_once(' ')?;
-    let rev = clock_or_none(alloc, rev)?;
-    let content = Content::read(alloc, text.as_bytes()).ok()?;
-    edit_told(alloc, edit(alloc, set, rev.as_ref(), &content, own), said)
+    own: &'a ReplicaUid,
+    row: &'a str,
 }
 
-fn deleted(
-    alloc: Global,
-    set: Option<&DocSet>,
-    rev: &str,
-    own: &ReplicaUid,
-    said: &mut Said,
-) -> Option<Option<Accept>> {
-    let rev = Clock::read(alloc, rev).ok()?;
-    edit_told(alloc, delete(alloc, set, &rev, own), said)
+impl Asked<'_> {
+    fn edit(self, set: Option<&DocSet>, said: &mut Said) -> Option<Option<Accept>> {
+        let (rev, text) = self.row.split_once(' ')?;
+        let content = Content::read(self.alloc, text.as_bytes()).ok()?;
+        let rev = clock_or_none(self.alloc, rev)?;
+        let made = edit(self.alloc, set, rev.as_ref(), &content, self.own);
+        made_or_told(self.alloc, made, said)
+    }
+
+    fn delete(self, set: Option<&DocSet>, said: &mut Said) -> Option<Option<Accept>> {
+        let rev = Clock::read(self.alloc, self.row).ok()?;
+        made_or_told(self.alloc, delete(self.alloc, set, &rev, self.own), said)
+    }
+
+    fn resolve(self, set: Option<&DocSet>, said: &mut Said) -> Option<Option<Accept>> {
+        let (revs, text) = self.row.split_once(' ')?;
+        let content = content_or_none(self.alloc, text)?;
+        let named = clocks(self.alloc, revs)?;
+        let made = resolve(self.alloc, set, &named, content.as_ref(), self.own);
+        made_or_told(self.alloc, made, said)
+    }
+
+    fn receive(self, set: Option<&DocSet>, said: &mut Said) -> Option<Option<Accept>> {
+        let (how, row) = self.row.split_once(' ')?;
+        let Taken { outcome, accepted } = self.taken(set, row, how == "save")?;
+        match said.word(word_of(outcome)) {
+            Ok(()) => Some(accepted),
+            Err(_) => {
+                drop(accepted);
+                None
+            }
+        }
+    }
+
+    fn taken(self, set: Option<&DocSet>, row: &str, save: bool) -> Option<Taken> {
+        let incoming = copy_of_member(self.alloc, row)?;
+        let taken = receive(self.alloc, set, &incoming, save, self.own);
+        drop(incoming);
+        taken.ok()
+    }
 }
 
-fn edit_told(
+/// A fault that may name a revision.
+trait Refusal {
+    fn revision(&self) -> Option<&Clock>;
+}
+
+impl Refusal for EditFault {
+    fn revision(&self) -> Option<&Clock> {
+        match self {
+            EditFault::RevisionConflict(rev) => Some(rev),
+            _ => None,
+        }
+    }
+}
+
+impl Refusal for ResolveFault {
+    fn revision(&self) -> Option<&Clock> {
+        match self {
+            ResolveFault::Unnamed(rev) => Some(rev),
+            _ => None,
+        }
+    }
+}
+
+// What is made; the fault is said where there is none.
+fn made_or_told<F: Refusal + fmt::Display + Drop>(
     alloc: Global,
-    made: Result<Accept, EditFault>,
+    made: Result<Accept, F>,
     said: &mut Said,
 ) -> Option<Option<Accept>> {
     match made {
         Ok(accept) => Some(Some(accept)),
         Err(fault) => {
-            say_fault(alloc, &fault, said)?;
-            if let EditFault::RevisionConflict(rev) = &fault {
-                say_clock(rev, said)?;
-            }
+            say_refusal(alloc, &fault, said)?;
             Some(None)
         }
     }
 }
 
-fn resolved(
-    alloc: Global,
-    set: Option<&DocSet>,
-    row: &str,
-    own: &ReplicaUid,
-    said: &mut Said,
-) -> Option<Option<Accept>> {
-    let (revs, text) = row.split_once(' ')?;
-    let named = clocks(alloc, revs)?;
-    let content = content_or_none(alloc, text)?;
-    resolution_told(
-        alloc,
-        resolve(alloc, set, &named, content.as_ref(), own),
-        said,
-    )
-}
-
-fn resolution_told(
-    alloc: Global,
-    made: Result<Accept, ResolveFault>,
-    said: &mut Said,
-) -> Option<Option<Accept>> {
-    match made {
-        Ok(accept) => Some(Some(accept)),
-        Err(fault) => {
-            say_fault(alloc, &fault, said)?;
-            if let ResolveFault::Unnamed(rev) = &fault {
-                say_clock(rev, said)?;
-            }
-            Some(None)
-        }
+fn say_refusal<F: Refusal + fmt::Display>(alloc: Global, fault: &F, said: &mut Said) -> Option<()> {
+    say_fault(alloc, fault, said)?;
+    match fault.revision() {
+        Some(rev) => say_clock(rev, said),
+        None => Some(()),
     }
 }
 
-fn received(
-    alloc: Global,
-    set: Option<&DocSet>,
-    row: &str,
-    own: &ReplicaUid,
-    said: &mut Said,
-) -> Option<Option<Accept>> {
-    let (how, row) = row.split_once(' ')?;
-    let incoming = member_of(alloc, row)?.copy().ok()?;
-    let Taken { outcome, accepted } = receive(alloc, set, &incoming, how == "save", own).ok()?;
-    said.word(word_of(outcome)).ok()?;
-    Some(accepted)
+// A copy of the member `REV CONTENT`.
+fn copy_of_member(alloc: Global, row: &str) -> Option<Member> {
+    let member = member_of(alloc, row)?;
+    let copy = member.copy();
+    drop(member);
+    copy.ok()
 }
 
 fn word_of(outcome: Outcome4) -> &'static str {
@@ -172,38 +195,46 @@ fn word_of(outcome: Outcome4) -> &'static str {
 fn accepted(
     alloc: Global,
     set: &mut Option<DocSet>,
-    accept: Accept,
+    accept: &Accept,
     said: &mut Said,
 ) -> Option<()> {
-    say_accept(&accept, said)?;
+    say_accept(accept, said)?;
     said.end().ok()?;
-    if !DocSet::fits(set.as_ref(), &accept) {
+    if !DocSet::fits(set.as_ref(), accept) {
         return said.line("does not fit").ok();
     }
-    let after = DocSet::after(alloc, set.as_ref(), accept.copy(alloc).ok()?).ok()?;
-    say_members(&after, said)?;
-    *set = Some(after);
-    Some(())
+    let copy = accept.copy(alloc).ok()?;
+    let after = DocSet::after(alloc, set.as_ref(), copy).ok()?;
+    becomes(set, after, said)
 }
 
 // The same of an acceptance from outside, in place.
 fn take(alloc: Global, set: &mut Option<DocSet>, row: &str, said: &mut Said) -> Option<()> {
+    let accept = acceptance(alloc, row)?;
+    if !DocSet::fits(set.as_ref(), &accept) {
+        drop(accept);
+        return said.line("does not fit").ok();
+    }
+    let after = DocSet::apply(alloc, set.take(), accept).ok()?;
+    becomes(set, after, said)
+}
+
+fn acceptance(alloc: Global, row: &str) -> Option<Accept> {
     let (how, row) = row.split_once(' ')?;
     let Member { rev, content } = member_of(alloc, row)?;
-    let accept = Accept {
+    Some(Accept {
         rev,
         content,
         making: Making::Received,
         parents: Clocks::new(alloc),
         current: how == "current",
-    };
-    if !DocSet::fits(set.as_ref(), &accept) {
-        return said.line("does not fit").ok();
-    }
-    let after = DocSet::apply(alloc, set.take(), accept).ok()?;
-    say_members(&after, said)?;
-    *set = Some(after);
-    Some(())
+    })
+}
+
+// The document is this one now.
+fn becomes(set: &mut Option<DocSet>, after: DocSet, said: &mut Said) -> Option<()> {
+    drop(set.replace(after));
+    say_copy(set.as_ref()?, said)
 }
 
 // The clock of a text; `-` is none.
@@ -285,12 +316,18 @@ fn making(making: Making) -> &'static str {
     }
 }
 
-// The members of a copy of the set.
-fn say_members(set: &DocSet, said: &mut Said) -> Option<()> {
+// The members of a copy of the document.
+fn say_copy(set: &DocSet, said: &mut Said) -> Option<()> {
     let copy = set.copy().ok()?;
+    let told = say_members(&copy, said);
+    drop(copy);
+    told
+}
+
+fn say_members(set: &DocSet, said: &mut Said) -> Option<()> {
     said.word("=").ok()?;
-    for place in 0..copy.length() {
-        let member = copy.member(place)?;
+    for place in 0..set.length() {
+        let member = set.member(place)?;
         say_clock(&member.rev, said)?;
         say_content(&member.content, said)?;
         said.join(";").ok()?;

@@ -5,14 +5,21 @@
 //! nothing is answered by `no answer`, and so is one whose answer memory does not suffice for.
 #![tactic(auto)]
 
+mod bodies;
+mod callers;
 mod heads;
 mod histories;
+mod links;
 mod meant;
 mod messages;
+mod still;
+mod streams;
 mod tables;
 
+use crate::links::Links;
 use conflicts::DocSet;
 use index_tables::IndexTable;
+use record_codec::Uids;
 use rows::{Answers, Said, run};
 use std::alloc::Global;
 use std::process::ExitCode;
@@ -24,6 +31,8 @@ struct Documents {
     alloc: Global,
     set: Option<DocSet>,
     table: IndexTable,
+    uids: Uids,
+    links: Links,
 }
 
 impl Documents {
@@ -32,6 +41,8 @@ impl Documents {
             alloc,
             set: None,
             table: IndexTable::new(alloc),
+            uids: Uids::none(alloc),
+            links: Links::new(),
         }
     }
 
@@ -53,6 +64,7 @@ impl Documents {
         match library {
             "head" => heads::answer(alloc, call, meant, said),
             "message" => messages::answer(alloc, call, meant, said),
+            "stream" => streams::answer(alloc, call, meant, said),
             _ => self.answers_text(library, call, str::from_utf8(meant).ok()?, said),
         }
     }
@@ -68,6 +80,8 @@ impl Documents {
         match library {
             "doc" => histories::answer(alloc, &mut self.set, call, row, said),
             "table" => tables::answer(alloc, &mut self.table, call, row, said),
+            "body" => bodies::answer(alloc, &mut self.uids, call, row, said),
+            "link" => self.links.answer(alloc, call, row, said),
             _ => None,
         }
     }

@@ -128,9 +128,21 @@ pub(crate) fn say_text(alloc: Global, bytes: &[u8], said: &mut Said) -> Option<(
         .ok()
 }
 
-/// Says what a fault says of itself.
+/// The same as an answer.
+pub(crate) fn say_text_line(alloc: Global, bytes: &[u8], said: &mut Said) -> Option<()> {
+    say_text(alloc, bytes, said)?;
+    said.end().ok()
+}
+
+/// Adds what a fault says of itself.
 pub(crate) fn say_fault<F: fmt::Display>(alloc: Global, fault: &F, said: &mut Said) -> Option<()> {
     said.word(format!(in alloc; "{fault}").ok()?.as_str()).ok()
+}
+
+/// Answers what a fault says of itself.
+pub(crate) fn say_bad<F: fmt::Display>(alloc: Global, fault: &F, said: &mut Said) -> Option<()> {
+    say_fault(alloc, fault, said)?;
+    said.end().ok()
 }
 
 /// Adds a position as `GENERATION TRANSACTION`.

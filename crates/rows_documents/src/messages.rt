@@ -2,29 +2,24 @@
 //!
 //! - `told BODY`: the position that a body tells, and how that is written.
 //! - `info BODY`: what a target says of itself and of its source, and how that is written.
-use crate::meant::{say_fault, say_position, say_text};
+use crate::meant::{say_bad, say_position, say_text_line};
 use rows::Said;
 use std::alloc::Global;
-use sync_http::{BodyFault, Info, read_info, read_told, write_info, write_told};
+use sync_http::{Info, read_info, read_told, write_info, write_told};
 use u1_base::{Bytes, Position};
 
 pub(crate) fn answer(alloc: Global, call: &str, body: &[u8], said: &mut Said) -> Option<()> {
     match call {
         "told" => match read_told(alloc, body) {
             Ok(at) => say_told(alloc, &at, said),
-            Err(fault) => say_bad(alloc, fault, said),
+            Err(fault) => say_bad(alloc, &fault, said),
         },
         "info" => match read_info(alloc, body) {
             Ok(info) => say_info(alloc, &info, said),
-            Err(fault) => say_bad(alloc, fault, said),
+            Err(fault) => say_bad(alloc, &fault, said),
         },
         _ => None,
     }
-}
-
-fn say_bad(alloc: Global, fault: BodyFault, said: &mut Said) -> Option<()> {
-    say_fault(alloc, &fault, said)?;
-    said.end().ok()
 }
 
 fn say_told(alloc: Global, at: &Position, said: &mut Said) -> Option<()> {
@@ -44,6 +39,5 @@ fn say_info(alloc: Global, info: &Info, said: &mut Said) -> Option<()> {
 fn say_written(alloc: Global, body: &Bytes, said: &mut Said) -> Option<()> {
     said.end().ok()?;
     said.number(body.len() as u64).ok()?;
-    say_text(alloc, body.as_slice(), said)?;
-    said.end().ok()
+    say_text_line(alloc, body.as_slice(), said)
 }

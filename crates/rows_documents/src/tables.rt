@@ -7,12 +7,13 @@
 //! - `pattern WIDTH VALUES`: the parts of the values of a query.
 ghost use Rattle.std.specs.Prelude.{◌≡◌, ◌<◌, true, All, length};
 
-use crate::meant::say_fault;
+use crate::meant::say_bad;
 use index_tables::IndexTable;
 use query_range::{Part, Pattern, PatternFault, between, compare_keys, distinct_keys, matching};
 use rows::{Said, number_of};
 use std::alloc::Global;
 use std::marker::Brand;
+use std::mem;
 use std::sync::ledger::{Blank, Ledger};
 use u1_base::{DocId, Ids, Key, Keys, Memory, Steps, Text, Texts};
 
@@ -24,7 +25,7 @@ pub(crate) fn answer(
     said: &mut Said,
 ) -> Option<()> {
     match call {
-        "new" => *table = IndexTable::new(alloc),
+        "new" => drop(mem::replace(table, IndexTable::new(alloc))),
         "put" => put(alloc, table, row)?,
         "drop" => drop_keys(alloc, table, row)?,
         "remove" => table.remove(&DocId::read(alloc, row).ok()?),
@@ -182,15 +183,22 @@ fn query<L: Ledger>(
     said: &mut Said,
 ) -> Option<()> {
     match pattern(alloc, row)? {
-        Ok(pattern) if have_width(table, pattern.parts().len(), steps) => {
-            say_ids(&matching(alloc, table, &pattern, steps).ok()?, said)
-        }
-        Ok(_) => said.line("another width").ok(),
-        Err(fault) => {
-            say_fault(alloc, &fault, said)?;
-            said.end().ok()
-        }
+        Ok(pattern) => found(alloc, table, &pattern, steps, said),
+        Err(fault) => say_bad(alloc, &fault, said),
     }
+}
+
+fn found<L: Ledger>(
+    alloc: Global,
+    table: &IndexTable,
+    pattern: &Pattern,
+    steps: &mut Steps<L>,
+    said: &mut Said,
+) -> Option<()> {
+    if !have_width(table, pattern.parts().len(), steps) {
+        return said.line("another width").ok();
+    }
+    say_ids(&matching(alloc, table, pattern, steps).ok()?, said)
 }
 
 // Whether each key has so many texts.
@@ -242,12 +250,14 @@ fn say_ids(ids: &Ids, said: &mut Said) -> Option<()> {
 
 fn said_pattern(alloc: Global, row: &str, said: &mut Said) -> Option<()> {
     match pattern(alloc, row)? {
-        Ok(pattern) => {
-            for part in pattern.parts() {
-                say_part(part, said)?;
-            }
-        }
-        Err(fault) => say_fault(alloc, &fault, said)?,
+        Ok(pattern) => say_parts(pattern.parts(), said),
+        Err(fault) => say_bad(alloc, &fault, said),
+    }
+}
+
+fn say_parts(parts: &[Part], said: &mut Said) -> Option<()> {
+    for part in parts {
+        say_part(part, said)?;
     }
     said.end().ok()
 }

@@ -1,7 +1,7 @@
 use Rattle.std.proofs.Common.{◌≡◌, ◌≤◌, ◌-◌, length}
 use Rattle.std.specs.Io.KnownBytes.{Consumes}
 use Rattle.sync_link.specs.Links.{given_more}
-use Rattle.sync_link_tests.proofs.callers.receive_all.Given as goal
+use Rattle.rows_documents.proofs.callers.receive_all.Given as goal
 
 -- what was received is what the ask was given since, and is gone from what was to come
 abbrev pub invariant-loop-reply : goal.invariant-loop-reply

@@ -90,6 +90,7 @@ pub(crate) fn serve_next<A: Acceptor>(door: &mut A, port: u16) -> Result<bool, A
     let mut piece = [0; 8];
     if let Ok(count) = conn.read(&mut piece) {
         let _ = conn.put(&piece[..count]);
+        let _ = conn.flush();
     }
     door.give_back(conn);
     Ok(true)
