@@ -1,5 +1,5 @@
 //! An image on one disk: opened, written, and begun anew with a stop at each device call. What is
-//! added to an image, and each damage of one, is tested in `replica_volume_tests`.
+//! added to an image, and each damage of one, is tested in `volume_tests`.
 use crash_harness::{are, disk_of, images_during};
 use disk_model::MemDisk;
 use journal::{

@@ -2,9 +2,9 @@
 //!
 //! The limit of the header is not kept: the images of the tests have the greatest one, and with
 //! another byte it is out of its limits.
-use crate::tests::are;
 use conflicts::{DocSet, Member, PosTable};
 use content::Content;
+use crash_harness::are;
 use doc_table::Table;
 use expr_parser::Expr;
 use replica_state::{Index, State};

@@ -3,8 +3,8 @@
 //! It calls no reader of the crates below. Of the clocks of format 1, the contents and the
 //! expressions it knows those that the images of the tests have, also with another byte.
 use crate::plain_state_tests::{Accepted, Counter, Logged, Named, Place, PlainState};
-use crate::tests::{Three, are};
 use conflicts::PosTable;
+use crash_harness::{Files, are};
 use disks::DiskName;
 use replica_volume::VolumeFault;
 use std::alloc::Global;
@@ -429,18 +429,8 @@ fn read(alloc: Global, image: &[u8]) -> Result<PlainState<'_>, usize> {
     }
 }
 
-fn plain_image(alloc: Global, disk: DiskName, image: &[u8]) -> Result<PlainState<'_>, VolumeFault> {
-    match read(alloc, image) {
-        Ok(state) => Ok(state),
-        Err(place) => Err(VolumeFault::Damaged {
-            disk,
-            place: place as u64,
-        }),
-    }
-}
-
 /// What the plain reading finds of these files.
-pub(crate) fn plain(alloc: Global, files: Three<'_>) -> Result<PlainState<'_>, VolumeFault> {
+pub(crate) fn plain<'a>(alloc: Global, files: &Files<'a>) -> Result<PlainState<'a>, VolumeFault> {
     match files.0 {
         [] => Err(VolumeFault::Blank),
         [byte] if byte % 2 == 0 => plain_image(alloc, DiskName::Left, files.1),
@@ -448,6 +438,16 @@ pub(crate) fn plain(alloc: Global, files: Three<'_>) -> Result<PlainState<'_>, V
         _ => Err(VolumeFault::Damaged {
             disk: DiskName::Root,
             place: 1,
+        }),
+    }
+}
+
+fn plain_image(alloc: Global, disk: DiskName, image: &[u8]) -> Result<PlainState<'_>, VolumeFault> {
+    match read(alloc, image) {
+        Ok(state) => Ok(state),
+        Err(place) => Err(VolumeFault::Damaged {
+            disk,
+            place: place as u64,
         }),
     }
 }
