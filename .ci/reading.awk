@@ -1,7 +1,7 @@
 # Which definitions of specs/ are cited by which. Read by `.ci/reading`: first the names of all files of specs/, one a
 # line, then these files, then those of src/. It prints what `show` asks for: `counts`, `files`, `without` or `unreached`.
 #
-# A definition is known by its file and its name. What it cites are the words of its text that its file defines or takes
+# A definition is known by its file and its name; a line that begins a value, `record {`, begins none. What it cites are the words of its text that its file defines or takes
 # from another file; so a variable that is called like a definition counts as one. A constructor stands for its data. The
 # types of src/, which specs name by `declared`, are counted apart.
 
@@ -107,7 +107,7 @@ FILENAME ~ /\.antt$/ {
     sub(/[ :].*/, "", word)
     begin(word, is_public)
     in_data = 0
-  } else if (text ~ /^ *(pub )?(record|data) /) {
+  } else if (text ~ /^ *(pub )?(record|data) +[A-Za-z_0-9]/ && text !~ /^ *record [^:]*\{ *$/ && text !~ /^ *record [^:]*\{[^:]*=/) {
     word = text
     sub(/^ *(pub )?(record|data) +/, "", word)
     sub(/[ :({].*/, "", word)
