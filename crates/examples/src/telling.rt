@@ -222,11 +222,14 @@ fn header_of(alloc: Global) -> Option<Header> {
 
 // ---- a store in a folder: the second call finds the store of the first one
 
+// Where the program runs, and removed at the end: a name that nothing else has.
+const FOLDER: &str = "notes-of-the-example";
+
 pub fn tell_folder(rt: &HostRuntime) -> Option<()> {
-    let _ = fs::remove_dir_all(rt, "notes");
+    let _ = fs::remove_dir_all(rt, FOLDER);
     write_in_folder(rt, MILK)?;
     write_in_folder(rt, BREAD)?;
-    fs::remove_dir_all(rt, "notes").ok()
+    fs::remove_dir_all(rt, FOLDER).ok()
 }
 
 fn write_in_folder(rt: &HostRuntime, text: &str) -> Option<()> {
@@ -236,7 +239,7 @@ fn write_in_folder(rt: &HostRuntime, text: &str) -> Option<()> {
 }
 
 fn written(rt: &HostRuntime, header: Header, id: &DocId, text: &Content) -> Option<Clock> {
-    match open_notes(rt, "notes", header) {
+    match open_notes(rt, FOLDER, header) {
         Ok(mut notes) => write_note(rt.alloc(), &mut notes, SEED, id, text).ok(),
         Err(_) => None,
     }
