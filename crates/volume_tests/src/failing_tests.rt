@@ -3,6 +3,7 @@
 //! is a moment at which a stop comes.
 use crate::acts::{Act, Answer, Asked, Entry, answer_of, ask, ask_all};
 use crate::images::{CREATED, CREATED_FIRST, EMPTY, REPLACED};
+use crate::opening_tests::finds_plain;
 use crate::worked_tests::{CREATE, FIRST, SECOND};
 use crash_harness::{Failing, Files, Left as Images, NO_FAILING, disks_of};
 use disk_model::MemDisk;
@@ -224,13 +225,17 @@ fn goes_on(alloc: Global, disks: Disks<MemDisk>, group: &Group) -> bool {
     }
 }
 
-// Whether one of these is answered to a look at these files, and it goes on.
+// Whether one of these is answered to a look at these files, and it goes on. Then the state is the
+// one that the plain reading finds too, with the positions of the peer.
 fn is_left(alloc: Global, files: &Files, row: &Row, group: &Group) -> bool {
     if !row.4.contains(&answer_of(alloc, files, &Act::Look)) {
         return false;
     }
     if group.3.is_none() {
         return true;
+    }
+    if !finds_plain(alloc, files) {
+        return false;
     }
     match disks_of(alloc, files, &NO_FAILING) {
         Ok(disks) => goes_on(alloc, disks, group),

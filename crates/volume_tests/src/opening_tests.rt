@@ -86,8 +86,8 @@ const STORES: &[Files] = &[
     Files(&[1], EMPTY, EACH_KIND_FIRST),
 ];
 
-// Whether opening finds of these files what the plain reading finds.
-fn finds_plain(alloc: Global, files: &Files) -> bool {
+/// Whether opening finds of these files what the plain reading finds.
+pub(crate) fn finds_plain(alloc: Global, files: &Files) -> bool {
     match plain(alloc, files) {
         Ok(state) => opens_as(alloc, files, &state),
         Err(fault) => answer_of(alloc, files, &Act::Look) == no_volume(fault),
