@@ -1,5 +1,5 @@
--- What each call that writes decides, by the state and its operands. What a refusal is called is an operand too: for one
--- and the same decision the calls of a replica, serving and a session have faults of their own.
+-- What each call that writes decides, by the state and its operands. What a refusal is called is an operand too: the
+-- calls of a replica and a session have faults of their own for one and the same decision.
 use Rattle.std.specs.Prelude.{◌≡◌, ℕ, ◌+◌, Bool, List, length, Option, Some, None, Result, Ok, Err, if◌then◌else◌}
 use Rattle.std.specs.Cmp.Lexicographic.{pointwise}
 use Rattle.std.specs.Str.{bytes_eq}

@@ -57,7 +57,8 @@ module _ {R : Type 0} (known : R → Known) (is_open : R → Type 0) (crash : R 
 -- none is lent, so there is none, and its deletion is refused
 pub unknown_is : (s : Held) (n : Text) (r : Option (Bor Index)) → IsLent s n (option_copied r) → is_some r ≡ false
     → IsRefusal (delete_index_decides n (meaning s)) IndexUnknown
-unknown_is s n None h e = subst (λ (o : Option (List Text)). IsRefusal (delete_over IndexUnknown n o) IndexUnknown) (sym h) refl
+unknown_is s n None h e =
+    subst (λ (o : Option (List Text)). IsRefusal (delete_over IndexUnknown n o) IndexUnknown) (sym h) refl
 unknown_is s n (Some index) h e = absurd (cc (e))
 
 -- there is none

@@ -56,12 +56,16 @@ one_request_heard bytes head n (Ok (Head other k)) h a =
     let same = one_request bytes (Ok other) (Ok head) k n a h in inl (ap₂ heard same.0 same.1)
 one_request_heard bytes head n (Err TooLarge) h a = absurd (a.1.none h.head h.rest h.reads)
 one_request_heard bytes head n (Err BadHead) h (inl a) = absurd (a.none h.head h.rest h.reads h.few)
-one_request_heard bytes head n (Err BadHead) h (inr a) = absurd (no_fault (one_request bytes (Ok head) (Err BadHead) n a.0 h a.1).0)
-one_request_heard bytes head n (Err BadPath) h a = absurd (no_fault (one_request bytes (Ok head) (Err BadPath) n a.0 h a.1).0)
+one_request_heard bytes head n (Err BadHead) h (inr a) =
+    absurd (no_fault (one_request bytes (Ok head) (Err BadHead) n a.0 h a.1).0)
+one_request_heard bytes head n (Err BadPath) h a =
+    absurd (no_fault (one_request bytes (Ok head) (Err BadPath) n a.0 h a.1).0)
 one_request_heard bytes head n (Err BadMethod) h a =
     absurd (no_fault (one_request bytes (Ok head) (Err BadMethod) n a.0 h a.1).0)
-one_request_heard bytes head n (Err Chunked) h a = absurd (no_fault (one_request bytes (Ok head) (Err Chunked) n a.0 h a.1).0)
-one_request_heard bytes head n (Err NoLength) h a = absurd (no_fault (one_request bytes (Ok head) (Err NoLength) n a.0 h a.1).0)
+one_request_heard bytes head n (Err Chunked) h a =
+    absurd (no_fault (one_request bytes (Ok head) (Err Chunked) n a.0 h a.1).0)
+one_request_heard bytes head n (Err NoLength) h a =
+    absurd (no_fault (one_request bytes (Ok head) (Err NoLength) n a.0 h a.1).0)
 one_request_heard bytes head n (Err Memory) h a = inr refl
 
 -- ---- replies
@@ -90,10 +94,14 @@ one_reply_heard bytes head n (Ok (Head other k)) h a =
     let same = one_reply bytes (Ok other) (Ok head) k n a h in inl (ap₂ heard same.0 same.1)
 one_reply_heard bytes head n (Err TooLarge) h a = absurd (a.1.none h.head h.rest h.reads)
 one_reply_heard bytes head n (Err BadHead) h (inl a) = absurd (a.none h.head h.rest h.reads h.few)
-one_reply_heard bytes head n (Err BadHead) h (inr a) = absurd (no_fault (one_reply bytes (Ok head) (Err BadHead) n a.0 h a.1).0)
-one_reply_heard bytes head n (Err BadPath) h a = absurd (no_fault (one_reply bytes (Ok head) (Err BadPath) n a.0 h a.1).0)
+one_reply_heard bytes head n (Err BadHead) h (inr a) =
+    absurd (no_fault (one_reply bytes (Ok head) (Err BadHead) n a.0 h a.1).0)
+one_reply_heard bytes head n (Err BadPath) h a =
+    absurd (no_fault (one_reply bytes (Ok head) (Err BadPath) n a.0 h a.1).0)
 one_reply_heard bytes head n (Err BadMethod) h a =
     absurd (no_fault (one_reply bytes (Ok head) (Err BadMethod) n a.0 h a.1).0)
-one_reply_heard bytes head n (Err Chunked) h a = absurd (no_fault (one_reply bytes (Ok head) (Err Chunked) n a.0 h a.1).0)
-one_reply_heard bytes head n (Err NoLength) h a = absurd (no_fault (one_reply bytes (Ok head) (Err NoLength) n a.0 h a.1).0)
+one_reply_heard bytes head n (Err Chunked) h a =
+    absurd (no_fault (one_reply bytes (Ok head) (Err Chunked) n a.0 h a.1).0)
+one_reply_heard bytes head n (Err NoLength) h a =
+    absurd (no_fault (one_reply bytes (Ok head) (Err NoLength) n a.0 h a.1).0)
 one_reply_heard bytes head n (Err Memory) h a = inr refl

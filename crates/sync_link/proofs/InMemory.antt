@@ -1,8 +1,10 @@
 -- A peer that nothing but want of memory may stop never says that its store is full or failed.
 use Rattle.std.proofs.Common.{◌≡◌, ◌≢◌, refl, sym, ◌∙◌, arith}
 use Rattle.sync_stream.specs.Laws.{IsNotOfStore}
-use Rattle.sync_stream.specs.Replies.{BadRequest, Keeps, LogCheck, NoLength, NoMemory, NotFound, Refuses, Reply, Returns}
-use Rattle.sync_stream.specs.Replies.{StoreFailed, StoreFull, Tells, TooLarge, WrongMethod, refusal_status, reply_status}
+use Rattle.sync_stream.specs.Replies.{BadRequest, Keeps, LogCheck, NoLength, NoMemory, NotFound, Refuses, Reply}
+use Rattle.sync_stream.specs.Replies.{Returns}
+use Rattle.sync_stream.specs.Replies.{StoreFailed, StoreFull, Tells, TooLarge, WrongMethod, refusal_status}
+use Rattle.sync_stream.specs.Replies.{reply_status}
 use Rattle.sync_stream.proofs.Messages.{status_heard}
 use Rattle.sync_stream.proofs.Serving.{only_memory}
 use Rattle.sync_link.specs.Laws.{MemoryNeverRefuses}

@@ -32,7 +32,8 @@ AsksNoStep p seed request = (serve p seed request).steps ≡ []
 
 -- a request that asks for no step leaves the peer as it was, whether it is served or not
 pub record RefusalsLeave : Type 0 where
-  pub served : (seed : ℕ) (p : State) (sent reply : List ℕ) (q : State) (s : ServesAsDefined AnyStop seed p sent reply q)
+  pub served : (seed : ℕ) (p : State) (sent reply : List ℕ) (q : State)
+      (s : ServesAsDefined AnyStop seed p sent reply q)
       → AsksNoStep p seed s.serves.request → q ≡ p
   pub stopped : (seed : ℕ) (p : State) (sent : List ℕ) (q : State) (s : StopsAsDefined seed p sent q)
       → AsksNoStep p seed s.request → q ≡ p

@@ -8,8 +8,8 @@ use Rattle.sync_stream.specs.Replies.{BadRequest, Refuses}
 use Rattle.sync_stream.specs.Serving.{ServesBytes, Stop}
 
 -- a peer that makes its ids by this seed reads the bytes that were sent, or a front of them that it answers already,
--- gives this reply, makes its steps and applies so many documents, by what may stop it. It refuses bytes because they end
--- early only if it has read all of them
+-- gives this reply, makes its steps and applies so many documents, unless it is stopped in a way that may come. It
+-- refuses bytes because they end early only if it has read all of them
 pub record ServesAsDefined (may_stop : Stop → Type 0) (seed : ℕ) (before : State) (sent reply : List ℕ)
     (after : State) : Type 0 where
   pub read : List ℕ

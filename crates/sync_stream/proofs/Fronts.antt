@@ -110,14 +110,16 @@ streams s seed source kind n bytes more x y h k =
     ∙ ap (λ d. d ++ docs_in on.0) h.docs in
     by x.head refl on.0 on.1 docs
   where
-    by : (head : Option Place) → x.head ≡ head → (ls : List Line) → k.said ≡ h.said ++ ls → y.docs ≡ x.docs ++ docs_in ls
+    by : (head : Option Place) → x.head ≡ head → (ls : List Line) → k.said ≡ h.said ++ ls
+        → y.docs ≡ x.docs ++ docs_in ls
         → MakesMore (asked s seed source (Exchange x)) (asked s seed source (Exchange y))
     by None is ls said docs =
         subst (λ o. MakesMore (exchange s seed source o x.docs x.ending) (asked s seed source (Exchange y))) (sym is)
         ((_, refl), (_, refl))
     by (Some p) is ls said docs =
         let head : y.head ≡ Some p = sym k.head ∙ ap head_in said ∙ head_stays h.said ls p (h.head ∙ is) in
-        subst (λ o. MakesMore (exchange s seed source o x.docs x.ending) (exchange s seed source y.head y.docs y.ending))
+        subst (λ o. MakesMore (exchange s seed source o x.docs x.ending)
+        (exchange s seed source y.head y.docs y.ending))
         (sym is)
         (subst (λ o. MakesMore (exchange s seed source (Some p) x.docs x.ending)
         (exchange s seed source o y.docs y.ending)) (sym head)
@@ -146,12 +148,14 @@ tells s seed source n bytes more = by (nat_lt most_small n) (nat_lt (length byte
     by true short is fits =
         let less : small_of told_in n bytes ≡ Over =
         ap (λ (b : Bool). cond b Over (cond (nat_lt (length bytes) n) Short (small_if (told_in (take n bytes))))) is in
-        subst (λ t. MakesMore (asked s seed source (Tell t)) (asked s seed source (Tell (small_of told_in n (bytes ++ more)))))
+        subst (λ t. MakesMore (asked s seed source (Tell t))
+        (asked s seed source (Tell (small_of told_in n (bytes ++ more)))))
         (sym less) ((_, refl), (_, refl))
     by false true is fits =
         let less : small_of told_in n bytes ≡ Short =
         ap₂ (λ (b : Bool) (c : Bool). cond b Over (cond c Short (small_if (told_in (take n bytes))))) is fits in
-        subst (λ t. MakesMore (asked s seed source (Tell t)) (asked s seed source (Tell (small_of told_in n (bytes ++ more)))))
+        subst (λ t. MakesMore (asked s seed source (Tell t))
+        (asked s seed source (Tell (small_of told_in n (bytes ++ more)))))
         (sym less) ((_, refl), (_, refl))
     by false false is fits =
         same_response (asked s seed source (Tell (small_of told_in n bytes)))
@@ -174,7 +178,8 @@ purposes s seed source Post n bytes more x y h k =
 
 -- ---- requests
 
-no_head : {n : ℕ} {head : RequestHead} → ◌≡◌ {A = Result (Heard RequestHead) WireFault} (Ok NotYet) (heard (Ok head) n) → ⊥
+no_head : {n : ℕ} {head : RequestHead}
+    → ◌≡◌ {A = Result (Heard RequestHead) WireFault} (Ok NotYet) (heard (Ok head) n) → ⊥
 no_head e = cc
 
 no_memory : ◌≡◌ {A = Result (Heard RequestHead) WireFault} (Ok NotYet) (Err Memory) → ⊥

@@ -149,7 +149,8 @@ module _ (kind : HeadKind) (text : List ℕ) (all : Bool) where
         (ends_unbroken kind (counted (length lines + 1)) place rest all (is_long_rest rest) opened unbroken refl)
     by_break opened (inr found) =
         let line = take found.0 rest in
-        by_line line (drop (found.0 + 2) rest) (at_break rest found.0 found.1) (unbroken_take rest found.0 (found.1, found.2))
+        by_line line (drop (found.0 + 2) rest) (at_break rest found.0 found.1)
+        (unbroken_take rest found.0 (found.1, found.2))
         opened (nat_lt max_line (length line)) (says kind place line) refl refl
 
     by_place : (closed : Bool) → is_closed place ≡ closed → GoesOn kind text all given
@@ -160,7 +161,8 @@ module _ (kind : HeadKind) (text : List ℕ) (all : Bool) where
       → Begins kind text lines given place rest → GoesOn kind text all given
   within zero lines given place rest short b = absurd (omega (arith, short))
   within (suc m) lines given place rest short b =
-      by_place lines given place rest b (λ ls said p r less more. within m ls said p r (omega (arith, short, less)) more)
+      by_place lines given place rest b
+      (λ ls said p r less more. within m ls said p r (omega (arith, short, less)) more)
       (is_closed place) refl
 
 pub goes_on : (kind : HeadKind) (text : List ℕ) (lines : List (List ℕ)) (given : List Line) (place : Next)

@@ -133,7 +133,8 @@ kept_formed = (IsUtf8-are_ascii (codes "ok") refl, tt, tt, tt)
 
 kept_back : kept_in kept_text ≡ Some tt
 unfolding kept_text
-kept_back = ap (λ d. d >>= (λ x. only_if (is_some (as_object x)) tt)) (value_of-tree kept_tree kept_formed (omega arith))
+kept_back =
+    ap (λ d. d >>= (λ x. only_if (is_some (as_object x)) tt)) (value_of-tree kept_tree kept_formed (omega arith))
 
 kept_short : length kept_text ≤ most_small
 unfolding kept_text
@@ -201,7 +202,8 @@ stream_whole kind head docs more h sent =
 -- ---- requests
 
 says_ask : (question : Question) (more : List ℕ) → IsAskable question
-    → SaysPurpose (verb_of question) (request_body question ++ more) (length (request_body question)) (purpose_of question)
+    → SaysPurpose (verb_of question) (request_body question ++ more) (length (request_body question))
+    (purpose_of question)
 says_ask ForInfo more h = refl
 says_ask (ToKeep at) more h = ap Tell (small_whole told_in (told_text at) more at (told_back at h) (told_short at h))
 says_ask (ToExchange known docs) more h = (

@@ -1,7 +1,7 @@
 -- What is served of an exchange that came in part, which refusals come of a stop alone, and what is served at small
 -- states.
 use Rattle.std.proofs.Common.{◌≡◌, ℕ, Bool, true, false, cond, List, [], ◌∷◌, ◌++◌, Option, Some, None, refl}
-use Rattle.std.proofs.Common.{sym, ap, ◌∙◌, append_assoc, append-nil, arith}
+use Rattle.std.proofs.Common.{inl, sym, ap, ◌∙◌, append_assoc, append-nil, arith}
 use Rattle.std.proofs.lemmas.Bool.{false≢true}
 use Rattle.u1_base.specs.Ids.{same_id}
 use Rattle.u1_base.specs.Places.{Place}
@@ -223,7 +223,12 @@ worked = record {
   short = λ seed. refl;
   over = λ seed. refl;
   elsewhere = λ seed. refl;
-  no_room = λ seed. record { within = omega arith; of_them = ([], refl); of_all = (_, refl); next = (refl, ([], refl), refl) };
+  no_room = λ seed. record {
+    within = omega arith;
+    of_them = ([], refl);
+    of_all = (_, refl);
+    next = (refl, ([], refl), refl);
+  };
   failed = λ seed. record { within = omega arith; of_them = (_, refl); of_all = ([], refl); next = tt };
-  no_memory = λ seed. record { within = omega arith; of_them = ([], refl); of_all = ([], refl); next = refl };
+  no_memory = λ seed. record { within = omega arith; of_them = ([], refl); of_all = ([], refl); next = inl refl };
 }

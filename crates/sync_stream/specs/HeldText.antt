@@ -1,5 +1,6 @@
 -- What a reader keeps of the pushed text, and what its calls do. The words at the end of this file are private.
-use Rattle.std.specs.Prelude.{◌≡◌, ◌≢◌, ◌⊎◌, ℕ, ◌+◌, true, false, if◌then◌else◌, List, [], ◌++◌, length, Option, Some, None}
+use Rattle.std.specs.Prelude.{◌≡◌, ◌≢◌, ◌⊎◌, ℕ, ◌+◌, true, false, if◌then◌else◌, List, [], ◌++◌, length, Option, Some}
+use Rattle.std.specs.Prelude.{None}
 use Rattle.std.specs.Prelude.{IfSome, Result, Ok, Err}
 use Rattle.sync_stream.specs.Lines.{ended, IsUnbroken}
 use Rattle.sync_stream.specs.Stream.{Begins, IsFaultyAt, IsGood, counted, end_fault, is_closed, is_long_rest, said_by}

@@ -19,7 +19,8 @@ use Rattle.sync_stream.specs.Stream.{Begins, Ends, HasFault, IsFaultyAt, Passes,
 use Rattle.sync_stream.specs.HeldText.{HasNoMore, HeldText, StandsFor}
 use Rattle.sync_stream.specs.Came.{Cut, Ending, Faulty, IsQuiet, SaysBody, Whole, ending_of}
 use Rattle.sync_stream.specs.Written.{stream_text}
-use Rattle.sync_stream.specs.Messages.{Asks, Exchange, Hears, ReadsReply, ReadsRequest, Request, Says, SaysInfo, SaysKept}
+use Rattle.sync_stream.specs.Messages.{Asks, Exchange, Hears, ReadsReply, ReadsRequest, Request, Says, SaysInfo}
+use Rattle.sync_stream.specs.Messages.{SaysKept}
 use Rattle.sync_stream.specs.Messages.{Over, SaysReturned, SaysStream, Short, Status, Stream, most_small}
 use Rattle.sync_stream.specs.Messages.{small_if, small_of}
 use Rattle.sync_stream.specs.Replies.{Keeps, Refuses, Reply, Returns, StoreFailed, StoreFull, Tells, refusal_status}
@@ -189,7 +190,7 @@ pub record ServingIs : Type 0 where
       → (serve s seed (Asks db source (Exchange stream))).steps
       ≡ steps_before (applied (serve s seed (Asks db source (Exchange stream))))
       (serve s seed (Asks db source (Exchange stream)))
-  -- a store is not among what is defined over states: it refuses by a stop alone, and so where nothing but want of memory
+  -- a store is not among what is defined over states: it refuses by a stop alone. So where nothing but want of memory
   -- stops a serving it never does
   pub store : (s : State) (seed : ℕ) (request : Request) → IsNotOfStore (serve s seed request).reply
   pub only_memory : (s : State) (seed : ℕ) (request : Request) (reply : Reply) (made : List Step) (n : ℕ)

@@ -1,6 +1,6 @@
 -- Serving: what a target replies to a request and which steps it makes, by its state, the request as far as it came,
 -- and the seed of its transaction ids.
-use Rattle.std.specs.Prelude.{◌≡◌, ℕ, ◌≤◌, Bool, false, not, ◌&&◌, nat_le, if◌then◌else◌, List, [], ◌∷◌, ◌++◌}
+use Rattle.std.specs.Prelude.{◌≡◌, ◌⊎◌, ℕ, ◌≤◌, Bool, false, not, ◌&&◌, nat_le, if◌then◌else◌, List, [], ◌∷◌, ◌++◌}
 use Rattle.std.specs.Prelude.{filter, length, option_to_list, slice_get, take, IfSome, Option, Some, None}
 use Rattle.std.specs.List.{flat_map, list_any}
 use Rattle.u1_base.specs.Ids.{same_id}
@@ -188,13 +188,14 @@ abbrev pub steps_before : ℕ → Response → List Step
 steps_before n all = flat_map (λ steps. steps) (take n all.passed)
 
 -- what stands behind the first n documents: the step that has no room is the next one, and it is that of the next
--- document, if there is one. Where the store failed, steps of later documents may have been made too
+-- document, if there is one. Where memory runs out nothing does, or all was made and only the reply was left. Where
+-- the store failed, steps of later documents may have been made too
 abbrev pub IsNext : Response → ℕ → List Step → Stop → Type 0
 IsNext all n made (Full x) =
     (made ≡ steps_before n all) × GoOn (made ++ x ∷ []) all.steps
     × IfSome (slice_get all.passed n) (λ steps. steps ≡ x ∷ [])
 IsNext all n made Failed = Unit {0}
-IsNext all n made Memory = made ≡ steps_before n all
+IsNext all n made Memory = (made ≡ steps_before n all) ⊎ ((n ≡ applied all) × (made ≡ all.steps))
 
 -- of all that would be served n documents were applied and these steps made before it stopped
 pub record StopsAfter (all : Response) (n : ℕ) (made : List Step) (stop : Stop) : Type 0 where
@@ -204,15 +205,19 @@ pub record StopsAfter (all : Response) (n : ℕ) (made : List Step) (stop : Stop
   pub of_all : GoOn made all.steps
   pub next : IsNext all n made stop
 
--- which stops may come: any; or want of memory alone, as where a replica in memory serves. Whoever serves says here
--- what of its replica is behind a stop: the need of the step that is above the limit, or the count of faults that rose
+-- the stops that may come, by what is behind them at the replica that serves: a step that is too long for it, and that
+-- it has failed. Memory may run out anywhere
+abbrev pub CausedBy : (Step → Type 0) → Type 0 → Stop → Type 0
+CausedBy is_too_long has_failed (Full x) = is_too_long x
+CausedBy is_too_long has_failed Failed = has_failed
+CausedBy is_too_long has_failed Memory = Unit {0}
+
+-- any; and want of memory alone, as where a replica in memory serves, which is never full and never fails
 abbrev pub AnyStop : Stop → Type 0
-AnyStop stop = Unit {0}
+AnyStop = CausedBy (λ x. Unit {0}) (Unit {0})
 
 abbrev pub OnlyMemory : Stop → Type 0
-OnlyMemory (Full x) = ⊥
-OnlyMemory Failed = ⊥
-OnlyMemory Memory = Unit {0}
+OnlyMemory = CausedBy (λ x. ⊥) ⊥
 
 -- ---- serving as it is defined
 
