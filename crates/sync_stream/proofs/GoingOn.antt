@@ -1,15 +1,22 @@
 -- Whatever bytes came, they say lines that go on from the good ones so far, and end in some way.
 use Rattle.std.proofs.Common.{◌≡◌, ◌⊎◌, ℕ, zero, suc, ◌+◌, ◌<◌, Bool, true, false, cond, nat_lt, List, [], ◌∷◌, ◌++◌}
-use Rattle.std.proofs.Common.{length, take, drop, Option, Some, None, refl, sym, ap, ap₂, subst, arith, inl, inr}
+use Rattle.std.proofs.Common.{nat_le, length, take, drop, Ok, Option, Some, None, refl, sym, ap, ap₂, subst, arith, inl, inr}
 use Rattle.std.proofs.Common.{append_assoc, append-nil}
 use Rattle.std.proofs.lemmas.Bool.{cases_lt}
 use Rattle.std.proofs.lemmas.Bool.Decides.{eqb_tells}
 use Rattle.std.proofs.lemmas.List.{length-append}
 use Rattle.std.specs.Prelude.{slice_index}
 use Rattle.key_lanes.specs.Breaks.{IsBreak, NoBreak}
+use Rattle.sync_http.specs.Bodies.{told_in}
+use Rattle.sync_http.specs.Hearing.{SaysRequest}
+use Rattle.sync_http.specs.declared.heads.RequestHead.{RequestHead}
+use Rattle.sync_http.specs.declared.heads.Verb.{Verb}
+use Rattle.sync_http.specs.declared.heads.Verb.TheVariants.{Get, Put, Post}
 use Rattle.sync_stream.specs.Came.{Cut, Ending, EndsSo, Faulty, IsQuiet, SaysBody, ending_of}
 use Rattle.sync_stream.specs.Came.EndsSo.{at_cut, at_end, at_fault}
 use Rattle.sync_stream.specs.Lines.{ended, IsUnbroken}
+use Rattle.sync_stream.specs.Messages.{AskInfo, Asks, Exchange, Purpose, ReadsRequest, SaysPurpose, Stream, Tell}
+use Rattle.sync_stream.specs.Messages.{docs_in, head_in, small_of}
 use Rattle.sync_stream.specs.Says.{says}
 use Rattle.sync_stream.specs.Stream.{Begins, IsFaultyAt, counted, end_fault, fault_if, is_closed, is_long_rest}
 use Rattle.sync_stream.specs.Stream.{max_line, said_by}
@@ -17,8 +24,10 @@ use Rattle.sync_stream.specs.Stream.IsFaultyAt.{whole_line, long_rest, after_end
 use Rattle.sync_stream.specs.declared.fault.LineFault.{LineFault}
 use Rattle.sync_stream.specs.declared.fault.LineFault.TheVariants.{At, TooLong}
 use Rattle.sync_stream.specs.declared.line.HeadKind.{HeadKind}
+use Rattle.sync_stream.specs.declared.line.HeadKind.TheVariants.{Request as OfRequest}
 use Rattle.sync_stream.specs.declared.line.Line.{Line}
 use Rattle.sync_stream.specs.declared.line.Next.{Next}
+use Rattle.sync_stream.specs.declared.line.Next.TheVariants.{Opening}
 use Rattle.sync_stream.specs.declared.line.Passed.{Passed}
 use Rattle.sync_stream.proofs.Stands.{at_break, begins_more, unbroken_take}
 
@@ -170,3 +179,23 @@ pub goes_on : (kind : HeadKind) (text : List ℕ) (lines : List (List ℕ)) (giv
     → (later : List Line) × (ending : Ending) × SaysBody kind text all (given ++ later) ending
 goes_on kind text lines given place rest all b =
     within kind text all (suc (length rest)) lines given place rest (omega arith) b
+
+-- ---- requests
+
+begins_with_none : (kind : HeadKind) (text : List ℕ) → Begins kind text [] [] Opening text
+begins_with_none kind text = record { splits = record { whole = refl; each = tt }; passes = (refl, refl) }
+
+-- whatever came of a body says what is asked
+purpose_said : (verb : Verb) (bytes : List ℕ) (n : ℕ) → (purpose : Purpose) × SaysPurpose verb bytes n purpose
+purpose_said Get bytes n = (AskInfo, refl)
+purpose_said Put bytes n = (Tell (small_of told_in n bytes), refl)
+purpose_said Post bytes n =
+    let on = goes_on OfRequest (take n bytes) [] [] Opening (take n bytes) (nat_le n (length bytes))
+    (begins_with_none OfRequest (take n bytes)) in
+    let stream : Stream = record { head = head_in on.0; docs = docs_in on.0; ending = on.1 } in
+    (Exchange stream, (stream, record { said = on.0; says = on.2; head = refl; docs = refl }, refl))
+
+pub asked_so : (bytes : List ℕ) (head : RequestHead) (n : ℕ) → SaysRequest bytes (Ok head) n
+    → (purpose : Purpose) × ReadsRequest bytes (Asks head.db head.source purpose)
+asked_so bytes head n h =
+    let said = purpose_said head.verb (drop n bytes) head.body in (said.0, (head, n, h, refl, refl, said.1))

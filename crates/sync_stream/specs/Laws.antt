@@ -1,6 +1,6 @@
 -- What holds of all streams.
 use Rattle.std.specs.Prelude.{◌≡◌, ◌≢◌, ◌<◌, ◌≤◌, ◌⊎◌, ℕ, Bool, true, false, Option, List, [], ◌∷◌, ◌++◌, length, map}
-use Rattle.std.specs.Prelude.{Some, None, IfSome}
+use Rattle.std.specs.Prelude.{Some, None, IfSome, Ok}
 use Rattle.std.specs.List.{AllByRecursion}
 use Rattle.content.specs.Contents.{IsContent}
 use Rattle.u1_base.specs.Ids.{IsId}
@@ -9,9 +9,11 @@ use Rattle.u1_base.specs.declared.ids.Form.TheVariants.{Document}
 use Rattle.u1_base.specs.declared.limits.TheConstants.{GREATEST_COUNT}
 use Rattle.conflicts.specs.State.{State, Step}
 use Rattle.sync_http.specs.Bodies.{IsInfo, info_in, kept_in, told_in}
+use Rattle.sync_http.specs.Hearing.{SaysRequest}
 use Rattle.sync_http.specs.Laws.{CanAsk}
 use Rattle.sync_http.specs.Positions.{IsPosition}
 use Rattle.sync_http.specs.declared.address.Address.{Address}
+use Rattle.sync_http.specs.declared.heads.RequestHead.{RequestHead}
 use Rattle.sync_http.specs.declared.info.Info.{Info}
 use Rattle.sync_stream.specs.Lines.{GoOn}
 use Rattle.sync_stream.specs.Format.{IsBody, IsStream}
@@ -20,6 +22,7 @@ use Rattle.sync_stream.specs.HeldText.{HasNoMore, HeldText, StandsFor}
 use Rattle.sync_stream.specs.Came.{Cut, Ending, Faulty, IsQuiet, SaysBody, Whole, ending_of}
 use Rattle.sync_stream.specs.Written.{stream_text}
 use Rattle.sync_stream.specs.Messages.{Asks, Exchange, Hears, ReadsReply, ReadsRequest, Request, Says, SaysInfo}
+use Rattle.sync_stream.specs.Messages.{Purpose}
 use Rattle.sync_stream.specs.Messages.{SaysKept}
 use Rattle.sync_stream.specs.Messages.{Over, SaysReturned, SaysStream, Short, Status, Stream, most_small}
 use Rattle.sync_stream.specs.Messages.{small_if, small_of}
@@ -155,6 +158,9 @@ pub record ReadersSay : Type 0 where
   pub goes_on : (kind : HeadKind) (text : List ℕ) (lines : List (List ℕ)) (given : List Line) (place : Next)
       (rest : List ℕ) (all : Bool) → Begins kind text lines given place rest
       → (later : List Line) × (ending : Ending) × SaysBody kind text all (given ++ later) ending
+  -- so bytes that begin with the head of a request say a request, however much of its body came
+  pub asked : (bytes : List ℕ) (head : RequestHead) (n : ℕ) → SaysRequest bytes (Ok head) n
+      → (purpose : Purpose) × ReadsRequest bytes (Asks head.db head.source purpose)
 
 -- what came of a body says one thing
 abbrev pub OneSaying : Type 0
