@@ -3,7 +3,8 @@ use Rattle.std.proofs.Common.{◌≡◌, ◌⊎◌, inl, inr, ℕ, ◌<◌, Opti
 use Rattle.std.specs.Prelude.{IfNone, IfSome}
 use Rattle.conflicts.specs.State.{State, Step}
 use Rattle.replica_core.specs.Replica.{AddsOnly, Found, HasFailed, IsLeft, IsTooLong, Known, MayStand, Stands, state_in}
-use Rattle.replica_core.specs.Calls.{Decided, Answers, Refuses, IfFailed, IsDone, IsRefusal, is_disk_failure, step_in}
+use Rattle.conflicts.specs.Writing.{Answers, Decided, IsRefusal, Refuses, step_in}
+use Rattle.replica_core.specs.Calls.{IfFailed, IsDone, is_disk_failure}
 use Rattle.replica_core.specs.CallsFaults.{commit_failure}
 use Rattle.replica_core.specs.declared.fault.CommitFault.{CommitFault}
 use Rattle.replica_core.specs.declared.fault.CommitFault.TheVariants.{Memory}

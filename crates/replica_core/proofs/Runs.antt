@@ -13,8 +13,8 @@ use Rattle.conflicts.specs.State.{History, State, Step, Text, accepts_in, after_
 use Rattle.replica_state.specs.Held.{lists_of, meaning_of}
 use Rattle.replica_core.specs.Replica.{AddsOnly, Found, HasFailed, HasStep, IsLeft, IsTooLong, Known, MayStand, Stands}
 use Rattle.replica_core.specs.Replica.{after_step, state_in}
-use Rattle.replica_core.specs.Calls.{Decided, Answers, Refuses, IfFailed, IsDone, is_disk_failure, may_have_written}
-use Rattle.replica_core.specs.Calls.{step_in}
+use Rattle.conflicts.specs.Writing.{Answers, Decided, Refuses, step_in}
+use Rattle.replica_core.specs.Calls.{IfFailed, IsDone, is_disk_failure, may_have_written}
 use Rattle.replica_core.specs.Runs.{AllKept, AreMade, Continues, Ends, GoesOn, HaveEnded, HaveRun, IsOpenIf}
 use Rattle.replica_core.specs.Runs.{StandsAfterFirst, after_call, bare, bare_end, call_decides, call_failure}
 use Rattle.replica_core.specs.Runs.{call_fault, stays_open, step_of_call, steps_made, steps_written}

@@ -3,29 +3,11 @@ use Rattle.std.specs.Prelude.{◌≡◌, ℕ, ◌<◌, ◌≤◌, Bool, true, fa
 use Rattle.std.specs.Prelude.{OnErr, IfNone, IfSome}
 use Rattle.std.specs.Result.{IsErrAnd}
 use Rattle.conflicts.specs.State.{State, Step}
+use Rattle.conflicts.specs.Writing.{Decided, IsAnswer, IsRefusal, step_in}
 use Rattle.replica_state.specs.Held.{lists_of}
 use Rattle.replica_core.specs.Replica.{AddsOnly, Found, HasFailed, IsLeft, IsTooLong, Known, MayStand, after_step}
 use Rattle.replica_core.specs.Replica.{is_disk, state_in}
 use Rattle.replica_core.specs.declared.fault.CommitFault.{CommitFault}
-
--- ---- what a call decides, by the state and its operands
-
--- a refusal, or an answer with the step that it makes, if there is something to do
-pub data Decided (A F : Type 0) : Type 0 where
-  Refuses : F → Decided A F
-  Answers : A → Option Step → Decided A F
-
-abbrev pub step_in : {A F : Type 0} → Decided A F → Option Step
-step_in (Refuses fault) = None
-step_in (Answers answer step) = step
-
-abbrev pub IsAnswer : {A F : Type 0} → Decided A F → A → Type 0
-IsAnswer (Refuses fault) given = ⊥
-IsAnswer (Answers answer step) given = given ≡ answer
-
-abbrev pub IsRefusal : {A F : Type 0} → Decided A F → F → Type 0
-IsRefusal (Refuses fault) given = given ≡ fault
-IsRefusal (Answers answer step) given = ⊥
 
 -- ---- what a call leaves
 

@@ -11,7 +11,8 @@ use Rattle.conflicts.specs.State.{History, State, Step, Text, accepts_in, after_
 use Rattle.conflicts.specs.declared.accept.Accept.{Accept}
 use Rattle.conflicts.specs.declared.member.Member.{Member}
 use Rattle.replica_core.specs.Replica.{AddsOnly, Found, HasStep, Known, Stands, after_step, state_in}
-use Rattle.replica_core.specs.Calls.{Decided, Answers, Refuses, IsAnswer, IsDone, IsRefusal, may_have_written, step_in}
+use Rattle.conflicts.specs.Writing.{Answers, Decided, IsAnswer, IsRefusal, Refuses, step_in}
+use Rattle.replica_core.specs.Calls.{IsDone, may_have_written}
 use Rattle.replica_core.specs.CallsDecide.{create_decides, delete_decides, delete_index_decides, move_decides}
 use Rattle.replica_core.specs.CallsDecide.{put_decides, resolve_decides, take_decides}
 use Rattle.replica_core.specs.CallsFaults.{commit_fault_text}

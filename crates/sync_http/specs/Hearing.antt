@@ -43,9 +43,11 @@ pub record IsOpenRequest (bytes : List ℕ) : Type 0 where
   pub none : grammar.HasNoRequest bytes
   pub may : grammar.MayBecomeRequest bytes
 
--- no head can come of the bytes, or it has too many fields
-abbrev pub IsNoRequest : List ℕ → Type 0
-IsNoRequest bytes = grammar.NeverHasRequest bytes ⊎ RequestExceeds most_fields bytes
+-- the bytes begin with no whole head of so few fields. No head can come of them, or it has too many
+pub record IsNoRequest (bytes : List ℕ) : Type 0 where
+  pub none : (h : grammar.RequestHead) (rest : List ℕ) → grammar.ReadsRequest bytes h rest
+      → ¬ (length h.fields ≤ most_fields)
+  pub never : grammar.NeverHasRequest bytes ⊎ RequestExceeds most_fields bytes
 
 -- ---- replies
 
@@ -61,8 +63,10 @@ pub record IsOpenReply (bytes : List ℕ) : Type 0 where
   pub none : grammar.HasNoResponse bytes
   pub may : grammar.MayBecomeResponse bytes
 
-abbrev pub IsNoReply : List ℕ → Type 0
-IsNoReply bytes = grammar.NeverHasResponse bytes ⊎ ResponseExceeds most_fields bytes
+pub record IsNoReply (bytes : List ℕ) : Type 0 where
+  pub none : (h : grammar.ResponseHead) (rest : List ℕ) → grammar.ReadsResponse bytes h rest
+      → ¬ (length h.fields ≤ most_fields)
+  pub never : grammar.NeverHasResponse bytes ⊎ ResponseExceeds most_fields bytes
 
 -- ---- the answer
 

@@ -1,5 +1,6 @@
 -- What a reader keeps of the pushed text, and what its calls do. The words at the end of this file are private.
-use Rattle.std.specs.Prelude.{◌≡◌, ◌⊎◌, ℕ, ◌+◌, true, false, if◌then◌else◌, List, [], ◌++◌, length, Option, Some, None}
+use Rattle.std.specs.Prelude.{◌≡◌, ◌≢◌, ◌⊎◌, ℕ, ◌+◌, true, false, if◌then◌else◌, List, [], ◌++◌, length, Option, Some}
+use Rattle.std.specs.Prelude.{None}
 use Rattle.std.specs.Prelude.{IfSome, Result, Ok, Err}
 use Rattle.sync_stream.specs.Lines.{ended, IsUnbroken}
 use Rattle.sync_stream.specs.Stream.{Begins, IsFaultyAt, IsGood, counted, end_fault, is_closed, is_long_rest, said_by}
@@ -68,6 +69,13 @@ Answers old new (Err (fault.At n)) =
     (new.fault ≡ Some (At n)) × (old.fault ≡ None → IsFaultyAt new.kind new.number new.place new.rest (At n))
 Answers old new (Err (fault.TooLong n)) =
     (new.fault ≡ Some (TooLong n)) × (old.fault ≡ None → IsFaultyAt new.kind new.number new.place new.rest (TooLong n))
+
+-- what it answers once the end was given and no fault: the end again where nothing follows it, and else the fault of
+-- what follows
+abbrev pub EndsAgain : HeldText → HeldText → Result (Option Line) StreamFault → Type 0
+EndsAgain old new (Ok line) = (line ≡ Some End) × (old.rest ≡ []) × (new ≡ old)
+EndsAgain old new (Err e) =
+    (e ≡ fault.At old.number) × (old.rest ≢ []) × (new ≡ record old { fault = Some (At old.number) })
 
 -- ---- the end of the body
 

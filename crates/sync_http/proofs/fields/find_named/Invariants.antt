@@ -1,4 +1,4 @@
-use Rattle.std.proofs.Common.{◌≡◌, map, take}
+use Rattle.std.proofs.Common.{map, take}
 use Rattle.httparse.specs.Spans.{header_bytes}
 use Rattle.sync_http.specs.Fields.{values_named}
 use Rattle.sync_http.specs.Occurrence.{AreFound}
