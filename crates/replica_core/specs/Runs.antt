@@ -1,6 +1,6 @@
 -- A list of calls: what each decides, what they leave, and what a crash leaves of them. `call_fault` and `bare_end` are
 -- private.
-use Rattle.std.specs.Prelude.{◌≡◌, ℕ, ◌<◌, ◌≤◌, Bool, true, false, codes, if◌then◌else◌, is_ok, List, [], ◌∷◌, ◌++◌}
+use Rattle.std.specs.Prelude.{◌≡◌, ℕ, ◌<◌, ◌≤◌, Bool, true, false, if◌then◌else◌, is_ok, List, [], ◌∷◌, ◌++◌}
 use Rattle.std.specs.Prelude.{option_to_list, Option, Some, None, Result, Ok, Err}
 use Rattle.std.specs.List.{flat_map, list_all}
 use Rattle.u1_base.specs.Causes.{Rose}
@@ -16,7 +16,6 @@ use Rattle.conflicts.specs.Writing.{Answers, Decided, IsAnswer, IsRefusal, Refus
 use Rattle.replica_core.specs.Calls.{IsDone, may_have_written}
 use Rattle.replica_core.specs.CallsDecide.{create_decides, delete_decides, delete_index_decides, move_decides}
 use Rattle.replica_core.specs.CallsDecide.{put_decides, resolve_decides, take_decides}
-use Rattle.replica_core.specs.CallsFaults.{commit_fault_text}
 use Rattle.replica_core.specs.declared.fault.CommitFault.{CommitFault}
 use Rattle.replica_core.specs.declared.fault.CommitFault.TheVariants as commit
 use Rattle.replica_core.specs.declared.list.Call.{Call}
@@ -52,12 +51,6 @@ stays_open (Err Refused) = true
 stays_open (Err (Full need limit)) = true
 stays_open (Err Disk) = false
 stays_open (Err Memory) = true
-
-abbrev pub call_fault_text : CallFault → List ℕ
-call_fault_text Refused = codes "the call is refused"
-call_fault_text (Full need limit) = commit_fault_text (commit.Full need limit)
-call_fault_text Disk = commit_fault_text commit.Disk
-call_fault_text Memory = commit_fault_text commit.Memory
 
 -- what is decided, without what is answered
 abbrev pub bare : {A F : Type 0} → Decided A F → Decided (Unit {0}) CallFault

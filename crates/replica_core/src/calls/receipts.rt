@@ -48,11 +48,6 @@ pub enum TakeFault {
 }
 
 impl fmt::Display for TakeFault {
-    ghost use Rattle.std.specs.Prelude.{Some};
-    ghost use Rattle.replica_core.specs.CallsFaults.{take_fault_text};
-
-    ghost output = { λ fault. Some (take_fault_text fault) };
-
     fn fmt<W: fmt::Write>(&self, f: &mut fmt::Formatter<W>) -> fmt::Result {
         match self {
             TakeFault::LogCheck { mine: _, theirs: _ } => f.write_str(
