@@ -74,11 +74,6 @@ pub enum CallFault {
 }
 
 impl fmt::Display for CallFault {
-    ghost use Rattle.std.specs.Prelude.{Some};
-    ghost use Rattle.replica_core.specs.Runs.{call_fault_text};
-
-    ghost output = { λ fault. Some (call_fault_text fault) };
-
     fn fmt<W: fmt::Write>(&self, f: &mut fmt::Formatter<W>) -> fmt::Result {
         match self {
             CallFault::Refused => f.write_str("the call is refused"),

@@ -34,11 +34,6 @@ pub enum IndexFault {
 }
 
 impl fmt::Display for IndexFault {
-    ghost use Rattle.std.specs.Prelude.{Some};
-    ghost use Rattle.replica_core.specs.CallsFaults.{index_fault_text};
-
-    ghost output = { λ fault. Some (index_fault_text fault) };
-
     fn fmt<W: fmt::Write>(&self, f: &mut fmt::Formatter<W>) -> fmt::Result {
         match self {
             IndexFault::IndexTaken => f.write_str("an index of this name has other expressions"),
