@@ -7,8 +7,7 @@ use Rattle.conflicts.specs.declared.edits.EditFault.TheVariants as edit
 use Rattle.conflicts.specs.declared.resolutions.ResolveFault.{ResolveFault}
 use Rattle.conflicts.specs.declared.resolutions.ResolveFault.TheVariants as resolve
 use Rattle.vector_rev.specs.Clock.{Clock}
-use Rattle.replica_core.specs.Calls.{Decided, Answers, IsRefusal}
-use Rattle.replica_core.specs.CallsDecide.{accept_made, accept_next}
+use Rattle.conflicts.specs.Writing.{Answers, Decided, IsRefusal, accept_made, accept_next}
 use Rattle.replica_core.specs.CallsFaults.{put_failed, put_failure, put_refusal, resolve_failed, resolve_failure}
 use Rattle.replica_core.specs.CallsFaults.{resolve_refusal}
 use Rattle.replica_core.specs.declared.calls.documents.PutFault.{PutFault}

@@ -4,7 +4,7 @@ use Rattle.u1_base.specs.Places.{Place}
 use Rattle.translog.specs.Source.{passes}
 use Rattle.conflicts.specs.State.{State}
 use Rattle.conflicts.specs.declared.moves.Move.{Move}
-use Rattle.replica_core.specs.CallsDecide.{kept_place}
+use Rattle.conflicts.specs.Writing.{kept_place}
 use Rattle.replica_core.specs.declared.calls.receipts.TakeFault.{TakeFault}
 use Rattle.replica_core.specs.declared.calls.receipts.TakeFault.TheVariants.{LogCheck, Memory}
 

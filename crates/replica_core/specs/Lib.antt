@@ -6,4 +6,3 @@ pub mod CallsDecide
 pub mod CallsChecks
 pub mod Runs
 pub mod Commands
-pub mod Paired

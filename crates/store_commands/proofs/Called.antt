@@ -3,7 +3,8 @@ use Rattle.std.proofs.Common.{◌≡◌, ℕ, [], ◌++◌, Option, Some, None, 
 use Rattle.std.proofs.Common.{append-nil}
 use Rattle.conflicts.specs.State.{State}
 use Rattle.link.specs.Streams.{Output}
-use Rattle.replica_core.specs.Calls.{Answers, Decided, IfFailed, IsDone, IsRefusal, Refuses, step_in}
+use Rattle.conflicts.specs.Writing.{Answers, Decided, IsRefusal, Refuses, step_in}
+use Rattle.replica_core.specs.Calls.{IfFailed, IsDone}
 use Rattle.replica_core.specs.CallsFaults.{index_failure, put_failure, resolve_failure}
 use Rattle.replica_core.specs.Commands.Effects.{Line, calls}
 use Rattle.replica_core.specs.Commands.Effects.{Refusal as CommandRefusal}

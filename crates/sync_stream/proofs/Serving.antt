@@ -6,13 +6,13 @@ use Rattle.u1_base.specs.Places.{Place}
 use Rattle.translog.specs.Log.{fits_log}
 use Rattle.translog.specs.Source.{passes}
 use Rattle.vector_rev.specs.Counts.{Uid}
-use Rattle.conflicts.specs.State.{State, Step, after_all}
+use Rattle.conflicts.specs.State.{State, Step, after_all, position_kept}
 use Rattle.conflicts.specs.declared.moves.PosTable.TheVariants.{Told}
 use Rattle.sync_stream.specs.Came.{Ending}
 use Rattle.sync_stream.specs.Lines.{GoOn}
 use Rattle.sync_stream.specs.Messages.{Asks, Exchange}
 use Rattle.sync_stream.specs.Replies.{LogCheck, NotFound}
-use Rattle.sync_stream.specs.Serving.{Held, Served, exchange, exchanged, first, held_after, kept_at, refused, serve}
+use Rattle.sync_stream.specs.Serving.{Held, Served, exchange, exchanged, first, held_after, refused, serve}
 use Rattle.sync_stream.specs.Serving.{steps_for, taken_of}
 use Rattle.sync_stream.specs.Worked.{ServesAsWorked}
 use Rattle.sync_stream.specs.declared.line.SyncDoc.{SyncDoc}
@@ -33,7 +33,7 @@ exchanged_goes_on s seed source known held (doc ∷ docs) later e f =
     let made = steps_for s seed false doc (record { table = Told; uid = source; at = doc.at }) in
     let after = after_all s made in
     let now = held ++ held_after (taken_of s doc false).outcome doc.id after in
-    either (passes (kept_at s Told source) doc.at) made (exchanged after seed source known now docs e)
+    either (passes (position_kept s Told source) doc.at) made (exchanged after seed source known now docs e)
     (exchanged after seed source known now (docs ++ later) f)
     (exchanged_goes_on after seed source known now docs later e f)
 

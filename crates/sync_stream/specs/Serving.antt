@@ -1,12 +1,10 @@
 -- Serving: what a target replies to a request and which steps it makes, by its state, the request as far as it came,
 -- and the seed of its transaction ids.
-use Rattle.std.specs.Prelude.{◌≡◌, ℕ, ◌+◌, Bool, false, not, ◌&&◌, nat_le, if◌then◌else◌, List, [], ◌∷◌, ◌++◌, length}
-use Rattle.std.specs.Prelude.{filter, Option, Some, None, unwrap_or}
+use Rattle.std.specs.Prelude.{◌≡◌, ℕ, Bool, false, not, ◌&&◌, nat_le, if◌then◌else◌, List, [], ◌∷◌, ◌++◌, length}
+use Rattle.std.specs.Prelude.{filter, option_to_list, Option, Some, None}
 use Rattle.std.specs.List.{flat_map, list_any}
 use Rattle.u1_base.specs.Ids.{same_id}
-use Rattle.u1_base.specs.NewId.{new_id_text}
-use Rattle.u1_base.specs.Places.{Place, nowhere, same_place}
-use Rattle.u1_base.specs.declared.made.IdKind.TheVariants.{Trans}
+use Rattle.u1_base.specs.Places.{Place}
 use Rattle.translog.specs.Entries.{changes_since}
 use Rattle.translog.specs.Log.{end_of, fits_log}
 use Rattle.translog.specs.Source.{passes}
@@ -14,8 +12,8 @@ use Rattle.translog.specs.declared.entry.Change.{Change}
 use Rattle.vector_rev.specs.Counts.{Uid}
 use Rattle.conflicts.specs.Decision.{decides}
 use Rattle.conflicts.specs.Document.{current_member}
-use Rattle.conflicts.specs.State.{Text, State, Step, Accepted, Moved, after_all}
-use Rattle.conflicts.specs.declared.accept.Accept.{Accept}
+use Rattle.conflicts.specs.State.{Text, State, Step, after_all, position_kept}
+use Rattle.conflicts.specs.Writing.{move_step, take_step}
 use Rattle.conflicts.specs.declared.member.Member.{Member}
 use Rattle.conflicts.specs.declared.moves.Move.{Move}
 use Rattle.conflicts.specs.declared.moves.PosTable.{PosTable}
@@ -47,13 +45,9 @@ first made later = record { reply = later.reply; steps = made ++ later.steps }
 
 -- ---- one document
 
--- the place that is kept of a peer; where none was ever kept, the one before the first entry
-abbrev pub kept_at : State → PosTable → Uid → Place
-kept_at s table uid = unwrap_or (s.position table uid) nowhere
-
 -- the step that moves a place, none where it stands there
 abbrev pub steps_to : State → Move → List Step
-steps_to s move = if same_place (kept_at s move.table move.uid) move.at then [] else Moved move ∷ []
+steps_to s move = option_to_list (move_step s move)
 
 -- what becomes of a document that is handed over; `save` is set where this replica asked for it
 abbrev pub taken_of : State → SyncDoc → Bool → Taken
@@ -61,13 +55,8 @@ taken_of s doc save = decides (s.document doc.id) doc.member save s.uid
 
 -- what is accepted and the move are one step, which the next entry of the log names; where nothing is accepted there is
 -- the move alone
-abbrev pub steps_by : State → ℕ → Text → Option Accept → Move → List Step
-steps_by s seed doc None move = steps_to s move
-steps_by s seed doc (Some accept) move =
-    Accepted doc accept (new_id_text seed Trans (length s.log + 1)) (Some move) ∷ []
-
 abbrev pub steps_for : State → ℕ → Bool → SyncDoc → Move → List Step
-steps_for s seed save doc move = steps_by s seed doc.id (taken_of s doc save).accepted move
+steps_for s seed save doc move = option_to_list (take_step seed doc.id move s (taken_of s doc save).accepted)
 
 -- ---- what is returned
 
@@ -119,7 +108,7 @@ ended_so (Cut n) reply = Refuses BadRequest
 abbrev pub exchanged : State → ℕ → Uid → Place → List Held → List SyncDoc → Ending → Served
 exchanged s seed source known held [] ending = record { reply = ended_so ending (returned s known held); steps = [] }
 exchanged s seed source known held (doc ∷ docs) ending =
-    if passes (kept_at s Told source) doc.at
+    if passes (position_kept s Told source) doc.at
     then (let made = steps_for s seed false doc (record { table = Told; uid = source; at = doc.at }) in
     let after = after_all s made in
     first made (exchanged after seed source known
@@ -140,12 +129,12 @@ info_of s source = record {
   target_at = end_of s.log;
   source = source;
   source_at =
-      kept_at s Told source;
+      position_kept s Told source;
 }
 
 abbrev pub told : State → Uid → Place → Served
 told s source at =
-    if passes (kept_at s Told source) at
+    if passes (position_kept s Told source) at
     then record { reply = Keeps; steps = steps_to s (record { table = Told; uid = source; at = at }) }
     else refused LogCheck
 

@@ -4,7 +4,8 @@ ghost use Rattle.std.specs.Option.{option_map};
 ghost use Rattle.conflicts.specs.State.{Fits};
 ghost use Rattle.replica_state.specs.Steps.{step_of};
 ghost use Rattle.replica_core.specs.Replica.{state_in};
-ghost use Rattle.replica_core.specs.Calls.{Answers, IsDone};
+ghost use Rattle.conflicts.specs.Writing.{Answers};
+ghost use Rattle.replica_core.specs.Calls.{IsDone};
 ghost use Rattle.replica_core.specs.CallsFaults.{commit_failure};
 
 use crate::{CommitFault, Replica};

@@ -7,10 +7,11 @@ ghost use Rattle.conflicts.specs.Document.{FitsDocument};
 ghost use Rattle.replica_state.specs.Held.{meaning};
 ghost use Rattle.replica_state.specs.Steps.{step_of};
 ghost use Rattle.replica_core.specs.Replica.{state_in};
-ghost use Rattle.replica_core.specs.Calls.{Answers, IsDone};
+ghost use Rattle.conflicts.specs.Writing.{Answers, kept_place, move_step, take_answers, take_step};
+ghost use Rattle.replica_core.specs.Calls.{IsDone};
 ghost use Rattle.replica_core.specs.CallsChecks.{Checks};
-ghost use Rattle.replica_core.specs.CallsDecide.{kept_place, move_decides, move_step, take_answers};
-ghost use Rattle.replica_core.specs.CallsDecide.{take_decides, take_step};
+ghost use Rattle.replica_core.specs.CallsDecide.{move_decides};
+ghost use Rattle.replica_core.specs.CallsDecide.{take_decides};
 ghost use Rattle.replica_core.specs.CallsFaults.{commit_failure, take_failure};
 
 use crate::calls::accepting::next_entry;

@@ -4,9 +4,8 @@ use Rattle.std.proofs.lemmas.Result.{err_from_is_err_and}
 use Rattle.translog.specs.Source.{passes}
 use Rattle.replica_state.specs.Held.{Held, meaning}
 use Rattle.replica_core.specs.Replica.{state_in}
-use Rattle.replica_core.specs.Calls.{Answers}
+use Rattle.conflicts.specs.Writing.{Answers, kept_place, move_step}
 use Rattle.replica_core.specs.CallsChecks.{Checks}
-use Rattle.replica_core.specs.CallsDecide.{kept_place, move_step}
 use Rattle.replica_core.specs.CallsFaults.{take_failed, take_failure}
 use Rattle.replica_core.proofs.CallsEnds.{done_err, done_ok, undone}
 use Rattle.replica_core.proofs.CallsTaken.{check_undone, goes_on_is, take_fails}

@@ -7,7 +7,7 @@ use Rattle.conflicts.specs.declared.receipts.Taken.{Taken}
 use Rattle.replica_state.specs.Held.{Held, meaning}
 use Rattle.replica_core.specs.Replica.{state_in}
 use Rattle.replica_core.specs.CallsChecks.{Checks}
-use Rattle.replica_core.specs.CallsDecide.{kept_place, take_answers, take_step}
+use Rattle.conflicts.specs.Writing.{kept_place, take_answers, take_step}
 use Rattle.replica_core.specs.CallsFaults.{take_failed, take_failure}
 use Rattle.replica_core.proofs.CallsEnds.{done_err, done_ok, undone}
 use Rattle.replica_core.proofs.CallsTaken.{check_undone, goes_on_is, take_fails}

@@ -7,7 +7,7 @@ use Rattle.replica_state.specs.Held.{Held, meaning}
 use Rattle.replica_state.specs.Steps.{step_of}
 use Rattle.replica_core.specs.Replica.{state_in}
 use Rattle.replica_core.specs.Calls.{IsDone}
-use Rattle.replica_core.specs.CallsDecide.{take_step}
+use Rattle.conflicts.specs.Writing.{take_step}
 use Rattle.replica_core.specs.CallsFaults.{commit_failure}
 use Rattle.replica_core.specs.declared.fault.CommitFault.{CommitFault}
 use Rattle.replica_core.specs.declared.fault.CommitFault.TheVariants.{Memory}

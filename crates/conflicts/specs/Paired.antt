@@ -6,10 +6,9 @@ use Rattle.translog.specs.Log.{FitsLog}
 use Rattle.translog.specs.declared.entry.Entry.{Entry}
 use Rattle.vector_rev.specs.Clock.{Clock, covers, dominates}
 use Rattle.conflicts.specs.Lists.{In}
-use Rattle.conflicts.specs.State.{State, Text}
+use Rattle.conflicts.specs.State.{State, Text, position_kept}
 use Rattle.conflicts.specs.declared.member.Member.{Member}
 use Rattle.conflicts.specs.declared.moves.PosTable.TheVariants.{Known, Told}
-use Rattle.replica_reads.specs.Positions.{position_kept}
 
 -- the last entry of a document in a log is at or before a generation
 pub record IsUnchangedSince (log : List Entry) (generation : ℕ) (d : Text) : Type 0 where
