@@ -1,3 +1,4 @@
+pub mod Faults
 pub mod Trio
 pub mod Joint
 pub mod Moments

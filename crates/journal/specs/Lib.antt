@@ -1,6 +1,7 @@
 pub mod Image
 pub mod Damage
 pub mod Journal
+pub mod Entries
 pub mod Reader
 pub mod Opening
 pub mod Faults

@@ -3,5 +3,4 @@ pub mod Crashes
 pub mod Opening
 pub mod Making
 pub mod Steps
-pub mod Faults
 pub mod Laws

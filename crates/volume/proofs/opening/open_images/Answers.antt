@@ -8,7 +8,7 @@ use Rattle.disks.specs.Disks.{disks_known}
 use Rattle.journal.specs.Image.{ReadsAs}
 use Rattle.journal.specs.Damage.{DamagedAt}
 use Rattle.volume.specs.Opening.{OpensStore}
-use Rattle.volume.specs.declared.opening.StoreFault.TheVariants as fault
+use Rattle.disks.specs.declared.fault.OpenFault.TheVariants as fault
 use Rattle.volume.proofs.Finding.{found_standing, found_damaged}
 use Rattle.volume.proofs.Opens.{looks_on, one_read, read_files, read_root, opened_store}
 use Rattle.volume.proofs.opening.open_images.Goals as goal
