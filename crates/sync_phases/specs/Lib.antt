@@ -1,0 +1,5 @@
+pub mod Seen
+pub mod Phase
+pub mod Phases
+pub mod Sessions
+pub mod Peers
