@@ -13,7 +13,7 @@ use Rattle.replica_state.specs.Held.{Held, meaning}
 use Rattle.replica_state.specs.Lent.{IsLent}
 use Rattle.replica_state.specs.declared.index.Index.{Index}
 use Rattle.conflicts.specs.State.{State, Text}
-use Rattle.replica_core.specs.Replica.{Found, Known}
+use Rattle.replica_core.specs.Replica.{Found, Known, Stored}
 use Rattle.conflicts.specs.Writing.{Answers, Decided, IsRefusal, Refuses, create_over, delete_over, same_exprs}
 use Rattle.replica_core.specs.Calls.{IsDone}
 use Rattle.replica_core.proofs.CallsEnds.{Settled, answered, undone}
@@ -40,7 +40,7 @@ alike_is name exprs (Some kept) b e = ap (λ (o : Option Bool). chosen o) (sym e
     chosen None = Refuses IndexTaken
     chosen (Some b) = if b then Answers tt None else Refuses IndexTaken
 
-module _ {R : Type 0} (known : R → Known) (is_open : R → Type 0) (crash : R → ℕ → Found State → Type 0) where
+module _ {R : Type 0} (known : R → Known) (is_open : R → Type 0) (crash : R → ℕ → Found Stored → Type 0) where
   -- and is accepted where it has the same expressions
   pub alike_done : (r : R) (d : Decided (Unit {0}) IndexFault) (b : Bool) (result : Result (Unit {0}) IndexFault)
       → is_open r → Settled known is_open crash r →

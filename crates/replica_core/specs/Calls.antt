@@ -1,12 +1,12 @@
 -- A call on a replica: what it decides, and what it leaves.
 use Rattle.std.specs.Prelude.{◌≡◌, ℕ, ◌<◌, ◌≤◌, Bool, true, false, Option, Some, None, Result, Ok, Err, IfOk, IfErr}
-use Rattle.std.specs.Prelude.{OnErr, IfNone, IfSome}
+use Rattle.std.specs.Prelude.{[], OnErr, OnOk, IfNone, IfSome, option_to_list}
 use Rattle.std.specs.Result.{IsErrAnd}
 use Rattle.conflicts.specs.State.{State, Step}
 use Rattle.conflicts.specs.Writing.{Decided, IsAnswer, IsRefusal, step_in}
 use Rattle.replica_state.specs.Held.{lists_of}
-use Rattle.replica_core.specs.Replica.{AddsOnly, Found, HasFailed, IsLeft, IsTooLong, Known, MayStand, after_step}
-use Rattle.replica_core.specs.Replica.{is_disk, state_in}
+use Rattle.replica_core.specs.Replica.{AddsOnly, Found, HasFailed, IsLeft, IsTooLong, Known, MayStand, NeedsBehind}
+use Rattle.replica_core.specs.Replica.{Stored, StandsAs, after_step, is_disk, state_in, stored_as, stored_in}
 use Rattle.replica_core.specs.declared.fault.CommitFault.{CommitFault}
 
 -- ---- what a call leaves
@@ -25,13 +25,15 @@ abbrev pub may_have_written : {A F : Type 0} → (F → Option CommitFault) → 
 may_have_written failure (Ok answer) = true
 may_have_written failure (Err fault) = is_disk_failure (failure fault)
 
-module _ {R : Type 0} (known : R → Known) (is_open : R → Type 0) (crash : R → ℕ → Found State → Type 0)
+module _ {R : Type 0} (known : R → Known) (is_open : R → Type 0) (crash : R → ℕ → Found Stored → Type 0)
     {A F : Type 0} (failure : F → Option CommitFault) where
   -- a call that decides this on the old replica answers the result and leaves the new one
   pub record IsDone (decided : Decided A F) (old new : R) (result : Result A F) : Type 0 where
     -- Ok: the answer is the decided one, the state is the one after the decided step, and the replica is open
     pub ok : IfOk result (λ answer. IsAnswer decided answer
         × (state_in (known new) ≡ after_step (state_in (known old)) (step_in decided)) × is_open new)
+    -- and each step needs now what it needed behind the decided one
+    pub need : OnOk result (NeedsBehind (known old) (known new) (option_to_list (step_in decided)))
     -- where no step is decided, nothing happens to the replica
     pub still : IfNone (step_in decided) (new ≡ old)
     -- a refusal is the decided one, and a failure of the commit has its cause
@@ -39,13 +41,33 @@ module _ {R : Type 0} (known : R → Known) (is_open : R → Type 0) (crash : R 
         (λ fault. IfFailed (failure fault) (HasFailed (known old) (known new) (step_in decided))
         (IsRefusal decided fault))
     -- a step that is too long for the image is not made
-    pub too_long : IfSome (step_in decided) (λ x. (known old).limit < (known old).need x
+    pub too_long : IfSome (step_in decided) (λ x. (known old).limit < (known old).need [] x
         → IsErrAnd result (λ fault. IfFailed (failure fault) (IsTooLong (known old) x) ⊥))
     -- a fault leaves the state as it was, and the replica open, unless a disk failed
     pub state : OnErr result (lists_of (known new).state ≡ lists_of (known old).state)
     pub left : IfErr result (λ fault. IsLeft (known old) (known new) (is_open new) (is_disk_failure (failure fault)))
-    -- a crash leaves the old state, or the one after the step where it may have been written
+    -- a crash leaves what stood before, or the same after the step where it may have been written
     pub any_moment : AddsOnly known crash old new
-        (MayStand (state_in (known old)) (step_in decided) (may_have_written failure result))
+        (MayStand (stored_in (known old)) (step_in decided) (may_have_written failure result))
     pub limit : (known new).limit ≡ (known old).limit
     pub later : (known old).faults ≤ (known new).faults
+
+-- ---- what a call leaves that stages its step
+
+abbrev pub no_crash : {R : Type 0} → R → ℕ → Found Stored → Type 0
+no_crash r k found = ⊥
+
+module _ {R : Type 0} (known : R → Known) (stages : R → State → Type 0) (crash : R → ℕ → Found Stored → Type 0)
+    {A F : Type 0} (failure : F → Option CommitFault) where
+  -- it decides and answers as a call that commits, and makes the same step; but while this state is kept, a crash leaves
+  -- it
+  pub record IsStaged (decided : Decided A F) (kept : State) (old new : R) (result : Result A F) : Type 0 where
+    pub done : IsDone known (λ r. stages r kept) no_crash failure decided old new result
+    pub any_moment : AddsOnly known crash old new (StandsAs (stored_as (known old) kept))
+    -- no disk is called
+    pub no_disk : IfErr result (λ fault. is_disk_failure (failure fault) ≡ false)
+    pub faults : (known new).faults ≡ (known old).faults
+
+  -- whatever is kept
+  abbrev pub Stages : Decided A F → R → R → Result A F → Type 0
+  Stages decided old new result = (kept : State) → stages old kept → IsStaged decided kept old new result

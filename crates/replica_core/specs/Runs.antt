@@ -10,7 +10,8 @@ use Rattle.conflicts.specs.Lists.{In}
 use Rattle.conflicts.specs.State.{History, State, Step, Text, accepts_in, after_all, state_of}
 use Rattle.conflicts.specs.declared.accept.Accept.{Accept}
 use Rattle.conflicts.specs.declared.member.Member.{Member}
-use Rattle.replica_core.specs.Replica.{AddsOnly, Found, HasStep, Known, Stands, after_step, state_in}
+use Rattle.replica_core.specs.Replica.{AddsOnly, Found, HasStep, Known, NeedsBehind, Stands, Stored, after_step}
+use Rattle.replica_core.specs.Replica.{state_in, stored_in}
 use Rattle.conflicts.specs.Writing.{Answers, Decided, IsAnswer, IsRefusal, Refuses, step_in}
 use Rattle.replica_core.specs.Calls.{IsDone, may_have_written}
 use Rattle.replica_core.specs.CallsDecide.{create_decides, delete_decides, delete_index_decides, move_decides}
@@ -123,18 +124,19 @@ HaveEnded old new s (c ∷ cs) (Ok done ∷ ends) = IsAnswer (call_decides c s) 
 HaveEnded old new s (c ∷ cs) (Err fault ∷ ends) = EndsBy old new (call_decides c s) fault
     × AndThen fault ends (HaveEnded old new s cs ends)
 
--- what a crash on the way may leave: a state of which P holds with the first of the steps
-pub record AfterFirst (steps : History) (P : History → State → Type 0) (found : Found State) : Type 0 where
-  pub first : History
-  pub others : History
-  pub are : steps ≡ first ++ others
-  pub state : State
-  pub is : found ≡ Stands state
-  pub holds : P first state
+-- what a crash on the way may leave: under this limit, a state of which P holds with the first of the steps
+pub record AfterFirst (limit : ℕ) (steps : History) (P : History → State → Type 0) (found : Found Stored) : Type 0
+  where
+    pub first : History
+    pub others : History
+    pub are : steps ≡ first ++ others
+    pub state : State
+    pub is : found ≡ Stands (record { state = state; limit = limit })
+    pub holds : P first state
 
 -- it is the state after the first of the steps
-abbrev pub StandsAfterFirst : State → History → Found State → Type 0
-StandsAfterFirst s steps found = AfterFirst steps (λ first t. t ≡ after_all s first) found
+abbrev pub StandsAfterFirst : Stored → History → Found Stored → Type 0
+StandsAfterFirst s steps found = AfterFirst s.limit steps (λ first t. t ≡ after_all s.state first) found
 
 -- ---- what a list of calls leaves
 
@@ -143,9 +145,9 @@ abbrev pub IsOpenIf : Bool → Type 0 → Known → Type 0
 IsOpenIf true is_open new = is_open
 IsOpenIf false is_open new = new.opened ≡ false
 
-module _ {R : Type 0} (known : R → Known) (is_open : R → Type 0) (crash : R → ℕ → Found State → Type 0) where
+module _ {R : Type 0} (known : R → Known) (is_open : R → Type 0) (crash : R → ℕ → Found Stored → Type 0) where
   -- the calls were made in turn, each as a call by itself is made, over the replica that the calls before it leave: so
-  -- `Full` has what the step needs there. None is made after a disk failed
+  -- `Full` has what the step needs behind the steps of these calls. None is made after a disk failed
   abbrev pub AreMade : R → R → List Call → Ends → Type 0
   AreMade old new calls [] = new ≡ old
   AreMade old new [] (end ∷ ends) = ⊥
@@ -162,9 +164,12 @@ module _ {R : Type 0} (known : R → Known) (is_open : R → Type 0) (crash : R 
     pub state : state_in (known new) ≡ after_all (state_in (known old)) (steps_made (state_in (known old)) calls ends)
     -- the replica is open, unless a disk failed
     pub left : IsOpenIf (list_all stays_open ends) (is_open new) (known new)
+    -- then each step needs now what it needed behind these steps
+    pub need : list_all stays_open ends ≡ true
+        → NeedsBehind (known old) (known new) (steps_made (state_in (known old)) calls ends)
     -- a crash on the way leaves the state after the first of the steps that were written
     pub any_moment : AddsOnly known crash old new
-        (StandsAfterFirst (state_in (known old)) (steps_written (state_in (known old)) calls ends))
+        (StandsAfterFirst (stored_in (known old)) (steps_written (state_in (known old)) calls ends))
     pub limit : (known new).limit ≡ (known old).limit
     pub later : (known old).faults ≤ (known new).faults
 
@@ -182,10 +187,10 @@ pub record Continues (name : Text) (uid : Uid) (h steps : History) (s : State) :
 
 -- THE MAIN THEOREM for one replica: each history of the old state goes on by the steps that were made to the new state,
 -- and by the first of those that were written to what a crash leaves, at whatever moment it comes
-module _ {R : Type 0} (known : R → Known) (crash : R → ℕ → Found State → Type 0) where
+module _ {R : Type 0} (known : R → Known) (crash : R → ℕ → Found Stored → Type 0) where
   pub record GoesOn (old new : R) (calls : List Call) (ends : Ends) : Type 0 where
     pub now : (name : Text) (uid : Uid) (h : History) → state_in (known old) ≡ state_of name uid h
         → Continues name uid h (steps_made (state_in (known old)) calls ends) (state_in (known new))
     pub any_moment : (name : Text) (uid : Uid) (h : History) → state_in (known old) ≡ state_of name uid h
-        → (k : ℕ) (found : Found State) → (known old).moment ≤ k → k ≤ (known new).moment → crash new k found
-        → AfterFirst (steps_written (state_in (known old)) calls ends) (Continues name uid h) found
+        → (k : ℕ) (found : Found Stored) → (known old).moment ≤ k → k ≤ (known new).moment → crash new k found
+        → AfterFirst (known old).limit (steps_written (state_in (known old)) calls ends) (Continues name uid h) found
