@@ -1,18 +1,15 @@
 -- How a call ends: without a commit, or as its commit ends.
-use Rattle.std.proofs.Common.{◌≡◌, ◌⊎◌, inl, inr, ℕ, ◌<◌, [], Option, Some, None, Ok, Err, refl, sym, subst, arith}
+use Rattle.std.proofs.Common.{◌≡◌, ◌⊎◌, inl, inr, ⊎_elim, ℕ, ◌<◌, ◌≤◌, [], Option, Some, None, Ok, Err, refl, sym}
+use Rattle.std.proofs.Common.{subst, arith}
 use Rattle.std.specs.Prelude.{IfNone, IfSome}
-use Rattle.conflicts.specs.State.{State, Step}
+use Rattle.conflicts.specs.State.{Step}
 use Rattle.replica_core.specs.Replica.{AddsOnly, Found, HasFailed, IsLeft, IsTooLong, Known, MayStand, Stands}
 use Rattle.replica_core.specs.Replica.{Stored, stored_in}
 use Rattle.conflicts.specs.Writing.{Answers, Decided, IsRefusal, Refuses, step_in}
 use Rattle.replica_core.specs.Calls.{IfFailed, IsDone, is_disk_failure}
+use Rattle.replica_core.specs.CallsChecks.{IsUndone}
 use Rattle.replica_core.specs.CallsFaults.{commit_failure}
 use Rattle.replica_core.specs.declared.fault.CommitFault.{CommitFault}
-use Rattle.replica_core.specs.declared.fault.CommitFault.TheVariants.{Memory}
-
--- memory ran out, or it is the decided refusal
-abbrev pub IsUndone : {A F : Type 0} → (F → Option CommitFault) → Decided A F → F → Type 0
-IsUndone failure decided fault = (failure fault ≡ Some Memory) ⊎ ((failure fault ≡ None) × IsRefusal decided fault)
 
 -- an answer with a step, of these types
 abbrev pub answer_with : {A F : Type 0} → A → Option Step → Decided A F
@@ -44,6 +41,21 @@ module _ {R : Type 0} (known : R → Known) (is_open : R → Type 0) (crash : R 
     added = λ k o low high h. let e : k ≡ (known r).moment = omega (arith, low, high)
         in here o (subst (λ (j : ℕ). crash r j o) e h);
   }
+
+  -- what two calls, the one after the other, allow each is allowed of both
+  pub adds_on : (old mid new : R) (P Q T : Found Stored → Type 0) → ((found : Found Stored) → P found → T found)
+      → ((found : Found Stored) → Q found → T found) →
+      AddsOnly known crash old mid P → AddsOnly known crash mid new Q → AddsOnly known crash old new T
+  adds_on old mid new P Q T first then one two = record {
+    later = omega (arith, one.later, two.later);
+    same = λ k o low x. one.same k o low (two.same k o (omega (arith, low, one.later)) x);
+    added = λ k o low high x. ⊎_elim
+        (λ earlier. first o (one.added k o low (omega (arith, earlier)) (two.same k o earlier x)))
+        (λ since. then o (two.added k o since high x)) (split k (known mid).moment);
+  }
+    where
+      split : (a b : ℕ) → (a < b) ⊎ (b ≤ a)
+      split a b = grind arith
 
   module _ {A F : Type 0} (failure : F → Option CommitFault) where
     -- an answer that needs no step

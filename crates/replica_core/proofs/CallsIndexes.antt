@@ -12,7 +12,7 @@ use Rattle.replica_state.specs.Exprs.{IndexTexts}
 use Rattle.replica_state.specs.Held.{Held, meaning}
 use Rattle.replica_state.specs.Lent.{IsLent}
 use Rattle.replica_state.specs.declared.index.Index.{Index}
-use Rattle.conflicts.specs.State.{State, Text}
+use Rattle.conflicts.specs.State.{Text}
 use Rattle.replica_core.specs.Replica.{Found, Known, Stored}
 use Rattle.conflicts.specs.Writing.{Answers, Decided, IsRefusal, Refuses, create_over, delete_over, same_exprs}
 use Rattle.replica_core.specs.Calls.{IsDone}

@@ -14,7 +14,7 @@ use Rattle.replica_core.specs.declared.calls.documents.PutFault.{PutFault}
 use Rattle.replica_core.specs.declared.calls.resolutions.ResolveDocFault.{ResolveDocFault}
 use Rattle.replica_core.specs.declared.fault.CommitFault.{CommitFault}
 use Rattle.replica_core.specs.declared.fault.CommitFault.TheVariants as commit
-use Rattle.replica_core.proofs.CallsEnds.{IsUndone}
+use Rattle.replica_core.specs.CallsChecks.{IsUndone}
 
 -- each failure of a commit stays what it is
 pub put_fails : (f : CommitFault) → put_failure (put_failed f) ≡ Some f

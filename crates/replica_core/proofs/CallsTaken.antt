@@ -16,7 +16,7 @@ use Rattle.replica_core.specs.declared.calls.receipts.TakeFault.{TakeFault}
 use Rattle.replica_core.specs.declared.calls.receipts.TakeFault.TheVariants.{LogCheck}
 use Rattle.replica_core.specs.declared.fault.CommitFault.{CommitFault}
 use Rattle.replica_core.specs.declared.fault.CommitFault.TheVariants as commit
-use Rattle.replica_core.proofs.CallsEnds.{IsUndone}
+use Rattle.replica_core.specs.CallsChecks.{IsUndone}
 
 pub take_fails : (f : CommitFault) → take_failure (take_failed f) ≡ Some f
 take_fails (commit.Full need limit) = refl

@@ -1,5 +1,5 @@
 -- How a list of calls goes on, and what is kept of a history.
-use Rattle.std.proofs.Common.{◌≡◌, ◌⊎◌, ◌&&◌, inl, inr, ⊎_elim, ℕ, ◌<◌, ◌≤◌, Bool, true, false, true≢false, List, []}
+use Rattle.std.proofs.Common.{◌≡◌, ◌&&◌, inl, inr, ℕ, ◌<◌, ◌≤◌, Bool, true, false, true≢false, List, []}
 use Rattle.std.proofs.Common.{◌∷◌, ◌++◌, Option, Some, None, Result, Ok, Err, refl, sym, ◌∙◌, ap, ap₂, subst, arith}
 use Rattle.std.proofs.Common.{append_assoc, append-nil}
 use Rattle.std.specs.Prelude.{IfOk, IfSome, option_to_list}
@@ -23,7 +23,7 @@ use Rattle.replica_core.specs.declared.fault.CommitFault.TheVariants as commit
 use Rattle.replica_core.specs.declared.list.Call.{Call}
 use Rattle.replica_core.specs.declared.list.CallFault.{CallFault}
 use Rattle.replica_core.specs.declared.list.CallFault.TheVariants.{Refused, Full, Disk, Memory}
-use Rattle.replica_core.proofs.CallsEnds.{Settled, unchanged}
+use Rattle.replica_core.proofs.CallsEnds.{Settled, adds_on, unchanged}
 use Rattle.replica_core.proofs.CommandsDone.{after_effect}
 
 pub if_ok : {A E : Type 0} (r : Result A E) (P Q : A → Type 0) → ((a : A) → P a → Q a) → IfOk r P → IfOk r Q
@@ -310,18 +310,8 @@ module _ {R : Type 0} (known : R → Known) (is_open : R → Type 0) (crash : R 
       (steps_written (state_in (known old)) (c ∷ cs) (end ∷ more)) found → P found) →
       AddsOnly known crash first old P → AddsOnly known crash first new P
   next_crash first old new c cs end more P h rest before =
-      let one = h.any_moment in
-      record {
-        later = omega (arith, before.later, one.later);
-        same = λ k o low x. before.same k o low (one.same k o (omega (arith, low, before.later)) x);
-        added = λ k o low high x. ⊎_elim
-            (λ earlier. before.added k o low (omega (arith, earlier)) (one.same k o earlier x))
-            (λ since. rest o (one_crash (stored_in (known old)) c cs end more o (one.added k o since high x)))
-            (split k (known old).moment);
-      }
-    where
-      split : (a b : ℕ) → (a < b) ⊎ (b ≤ a)
-      split a b = grind arith
+      adds_on known is_open crash first old new P _ P (λ o found. found)
+      (λ o found. rest o (one_crash (stored_in (known old)) c cs end more o found)) before h.any_moment
 
 -- ---- the whole list
 

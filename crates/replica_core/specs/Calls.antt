@@ -2,11 +2,10 @@
 use Rattle.std.specs.Prelude.{◌≡◌, ℕ, ◌<◌, ◌≤◌, Bool, true, false, Option, Some, None, Result, Ok, Err, IfOk, IfErr}
 use Rattle.std.specs.Prelude.{[], OnErr, OnOk, IfNone, IfSome, option_to_list}
 use Rattle.std.specs.Result.{IsErrAnd}
-use Rattle.conflicts.specs.State.{State, Step}
 use Rattle.conflicts.specs.Writing.{Decided, IsAnswer, IsRefusal, step_in}
 use Rattle.replica_state.specs.Held.{lists_of}
 use Rattle.replica_core.specs.Replica.{AddsOnly, Found, HasFailed, IsLeft, IsTooLong, Known, MayStand, NeedsBehind}
-use Rattle.replica_core.specs.Replica.{Stored, StandsAs, after_step, is_disk, state_in, stored_as, stored_in}
+use Rattle.replica_core.specs.Replica.{Stored, after_step, is_disk, state_in, stored_in}
 use Rattle.replica_core.specs.declared.fault.CommitFault.{CommitFault}
 
 -- ---- what a call leaves
@@ -51,23 +50,3 @@ module _ {R : Type 0} (known : R → Known) (is_open : R → Type 0) (crash : R 
         (MayStand (stored_in (known old)) (step_in decided) (may_have_written failure result))
     pub limit : (known new).limit ≡ (known old).limit
     pub later : (known old).faults ≤ (known new).faults
-
--- ---- what a call leaves that stages its step
-
-abbrev pub no_crash : {R : Type 0} → R → ℕ → Found Stored → Type 0
-no_crash r k found = ⊥
-
-module _ {R : Type 0} (known : R → Known) (stages : R → State → Type 0) (crash : R → ℕ → Found Stored → Type 0)
-    {A F : Type 0} (failure : F → Option CommitFault) where
-  -- it decides and answers as a call that commits, and makes the same step; but while this state is kept, a crash leaves
-  -- it
-  pub record IsStaged (decided : Decided A F) (kept : State) (old new : R) (result : Result A F) : Type 0 where
-    pub done : IsDone known (λ r. stages r kept) no_crash failure decided old new result
-    pub any_moment : AddsOnly known crash old new (StandsAs (stored_as (known old) kept))
-    -- no disk is called
-    pub no_disk : IfErr result (λ fault. is_disk_failure (failure fault) ≡ false)
-    pub faults : (known new).faults ≡ (known old).faults
-
-  -- whatever is kept
-  abbrev pub Stages : Decided A F → R → R → Result A F → Type 0
-  Stages decided old new result = (kept : State) → stages old kept → IsStaged decided kept old new result

@@ -5,4 +5,5 @@ pub mod CallsFaults
 pub mod CallsDecide
 pub mod CallsChecks
 pub mod Runs
+pub mod Staging
 pub mod Commands

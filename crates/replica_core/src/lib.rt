@@ -15,7 +15,7 @@ mod replica;
 
 pub use calls::documents::{PutFault, delete_doc, put_doc};
 pub use calls::indexes::{IndexFault, create_index, delete_index};
-pub use calls::receipts::{TakeFault, move_position, put_if_newer};
+pub use calls::receipts::{TakeFault, move_position, put_if_newer, stage_if_newer, stage_position};
 pub use calls::resolutions::{ResolveDocFault, resolve_doc};
 pub use fault::CommitFault;
 pub use list::{Call, CallFault, Ends, run_all};
