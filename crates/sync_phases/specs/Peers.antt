@@ -1,5 +1,5 @@
--- A session with a peer that serves as it is defined, where nothing else changes the two: what each of them is after it.
-use Rattle.std.specs.Prelude.{ℕ, List, [], Option, Some, None, Result, Ok, Err}
+-- A session with a peer that serves as it is defined, where nothing else changes either: what both are after it.
+use Rattle.std.specs.Prelude.{ℕ, [], Option, Some, None, Result, Ok, Err}
 use Rattle.vector_rev.specs.Counts.{Uid}
 use Rattle.conflicts.specs.State.{State, after_all}
 use Rattle.sync_http.specs.declared.info.Info.{Info}
@@ -11,13 +11,15 @@ use Rattle.sync_stream.specs.Serving.{Response, serve}
 use Rattle.sync_stream.specs.declared.fault.LineFault.TheVariants.{At}
 use Rattle.sync_phases.specs.Phase.{Phase}
 use Rattle.sync_phases.specs.Phases.{ask, finished, posted, told_by}
-use Rattle.sync_phases.specs.Seen.{Begun, Informed, Exchanged, Asked, Level, Send}
+use Rattle.sync_phases.specs.Seen.{Begun, Informed, Exchanged}
 use Rattle.sync_phases.specs.Sessions.{settled}
+use Rattle.sync_phases.specs.declared.asked.Asked.{Asked}
+use Rattle.sync_phases.specs.declared.asked.Asked.TheVariants.{Level, Send}
 use Rattle.sync_phases.specs.declared.fault.SyncFault.{SyncFault}
 use Rattle.sync_phases.specs.declared.summary.Summary.{Summary}
 
--- ---- what a reply says to the source, by what it asked. No serving gives a reply to another question than the one that
--- was asked; such a reply does not read
+-- ---- what a reply says to the source, by what it asked. No serving replies to another question than the one that was
+-- asked; such a reply does not read
 
 abbrev pub info_said : Reply → HeardReply (Small Info)
 info_said (Tells info) = Hears (Says info)
@@ -70,7 +72,7 @@ abbrev pub exchanged_with : ℕ → State → State → Informed → Pair Exchan
 exchanged_with seed a b x =
     let r = served seed a.uid b (posted x a) in met a b r (settled x a (returned_said r.reply))
 
-abbrev pub sent_to : ℕ → State → State → Result Asked SyncFault → Pair Summary
+abbrev pub sent_to : ℕ → State → State → Result (Asked Informed) SyncFault → Pair Summary
 sent_to seed a b (Ok (Level summary)) = record { source = a; peer = b; ends = Ok summary }
 sent_to seed a b (Ok (Send x)) = let p = exchanged_with seed a b x in finished_with seed p.source p.peer p.ends
 sent_to seed a b (Err fault) = record { source = a; peer = b; ends = Err fault }

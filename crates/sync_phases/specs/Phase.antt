@@ -1,5 +1,5 @@
 -- A phase of a session: the steps that it makes, and what it comes to.
-use Rattle.std.specs.Prelude.{List, [], ◌++◌, option_to_list, Option, Result, Ok, Err}
+use Rattle.std.specs.Prelude.{List, [], ◌++◌, option_to_list, Result, Ok, Err}
 use Rattle.conflicts.specs.State.{State, Step, after_all}
 use Rattle.conflicts.specs.Writing.{Decided, Answers, Refuses}
 use Rattle.sync_phases.specs.declared.fault.SyncFault.{SyncFault}

@@ -27,7 +27,9 @@ use Rattle.sync_stream.specs.declared.fault.LineFault.{LineFault}
 use Rattle.sync_stream.specs.declared.fault.LineFault.TheVariants.{At, TooLong}
 use Rattle.sync_stream.specs.declared.line.SyncDoc.{SyncDoc}
 use Rattle.sync_phases.specs.Phase.{Phase, and_then, answering, ended, unless_refused}
-use Rattle.sync_phases.specs.Seen.{Begun, Informed, Exchanged, Asked, Level, Send}
+use Rattle.sync_phases.specs.Seen.{Begun, Informed, Exchanged}
+use Rattle.sync_phases.specs.declared.asked.Asked.{Asked}
+use Rattle.sync_phases.specs.declared.asked.Asked.TheVariants.{Level, Send}
 use Rattle.sync_phases.specs.declared.fault.SyncFault.{SyncFault}
 use Rattle.sync_phases.specs.declared.fault.SyncFault.TheVariants.{Link, Peer, Broken, LogCheck}
 use Rattle.sync_phases.specs.declared.summary.Summary.{Summary}
@@ -87,8 +89,8 @@ if_same s info level =
     then Ok level
     else Err (LogCheck (known_of s info.target) info.target_at)
 
--- the info has to be one for this replica, and the place that it tells of this replica's log has to fit the log. Then the
--- two are level, or documents are to be exchanged
+-- the info has to be one for this replica, and the place that it tells of this replica's log has to fit the log. Then
+-- the two are level, or documents are to be exchanged
 abbrev pub by_info : {A : Type 0} → State → Info → A → A → Result A SyncFault
 by_info s info level send =
     if not (same_id info.source s.uid) then Err (Broken 1) else
@@ -107,7 +109,7 @@ level_with s target = record {
 abbrev pub informed : Begun → Info → Informed
 informed x info = record { to = x.to; seed = x.seed; target = info.target; told = info.source_at }
 
-abbrev pub ask : Begun → State → HeardReply (Small Info) → Phase Asked
+abbrev pub ask : Begun → State → HeardReply (Small Info) → Phase (Asked Informed)
 ask x s heard =
     ended (and_then (small_heard heard)
     (λ info. by_info s info (Level (level_with s info.target)) (Send (informed x info))))

@@ -3,7 +3,6 @@ use Rattle.std.specs.Prelude.{ℕ}
 use Rattle.u1_base.specs.Places.{Place}
 use Rattle.vector_rev.specs.Counts.{Uid}
 use Rattle.sync_http.specs.declared.address.Address.{Address}
-use Rattle.sync_phases.specs.declared.summary.Summary.{Summary}
 
 -- before the target is asked: its address, and the seed of the transaction ids
 pub record Begun : Type 0 where
@@ -27,8 +26,3 @@ pub record Exchanged : Type 0 where
   pub sent : ℕ
   pub taken : ℕ
   pub at : Place
-
--- what the info of a target leads to: nothing is new on either side, or documents are to be exchanged
-pub data Asked : Type 0 where
-  Level : Summary → Asked
-  Send : Informed → Asked

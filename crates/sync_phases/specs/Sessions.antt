@@ -6,7 +6,9 @@ use Rattle.sync_stream.specs.Messages.{HeardReply, Small, Stream}
 use Rattle.sync_stream.specs.Requests.{Question, ForInfo}
 use Rattle.sync_phases.specs.Phase.{Phase, ended, followed}
 use Rattle.sync_phases.specs.Phases.{ask, exchange, finish, posted, settle, told_by}
-use Rattle.sync_phases.specs.Seen.{Begun, Informed, Exchanged, Asked, Level, Send}
+use Rattle.sync_phases.specs.Seen.{Begun, Informed, Exchanged}
+use Rattle.sync_phases.specs.declared.asked.Asked.{Asked}
+use Rattle.sync_phases.specs.declared.asked.Asked.TheVariants.{Level, Send}
 use Rattle.sync_phases.specs.declared.fault.SyncFault.{SyncFault}
 use Rattle.sync_phases.specs.declared.summary.Summary.{Summary}
 
@@ -20,7 +22,7 @@ pub record Replies : Type 0 where
 abbrev pub settled : Informed → State → HeardReply Stream → Phase Exchanged
 settled x s heard = followed s (exchange x s heard) (λ t y. settle y t)
 
-abbrev pub if_sends : Replies → State → Asked → Phase Summary
+abbrev pub if_sends : Replies → State → Asked Informed → Phase Summary
 if_sends heard s (Level summary) = ended (Ok summary)
 if_sends heard s (Send x) = followed s (settled x s heard.returned) (λ t y. finish y t heard.kept)
 
@@ -34,7 +36,7 @@ abbrev pub told_if : State → Result Exchanged SyncFault → List Question
 told_if s (Ok x) = option_to_list (told_by x s)
 told_if s (Err fault) = []
 
-abbrev pub asked_after : Replies → State → Result Asked SyncFault → List Question
+abbrev pub asked_after : Replies → State → Result (Asked Informed) SyncFault → List Question
 asked_after heard s (Ok (Level summary)) = []
 asked_after heard s (Ok (Send x)) =
     let p = settled x s heard.returned in posted x s ∷ told_if (after_all s p.steps) p.ends

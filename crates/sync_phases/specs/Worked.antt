@@ -1,5 +1,5 @@
 -- Sessions at small states: worked examples.
-use Rattle.std.specs.Prelude.{◌≡◌, ℕ, Bool, true, false, List, [], ◌∷◌, ◌++◌, codes, Option, Some, None, Result, Ok, Err}
+use Rattle.std.specs.Prelude.{◌≡◌, ℕ, Bool, true, false, List, [], ◌∷◌, ◌++◌, codes, Some, None, Result, Ok, Err}
 use Rattle.content.specs.Tree.{Tree, text, field, no_fields, object}
 use Rattle.u1_base.specs.NewId.{new_id_text}
 use Rattle.u1_base.specs.Places.{Place, nowhere}
@@ -8,7 +8,6 @@ use Rattle.vector_rev.specs.Clock.{Clock}
 use Rattle.conflicts.specs.Decision.{received}
 use Rattle.conflicts.specs.Document.{current_member}
 use Rattle.conflicts.specs.State.{State, Step, Accepted, Moved, after_all, position_kept, state_of}
-use Rattle.conflicts.specs.declared.accept.Accept.{Accept}
 use Rattle.conflicts.specs.declared.accept.Making.TheVariants.{Edit, Merge}
 use Rattle.conflicts.specs.declared.member.Member.{Member}
 use Rattle.conflicts.specs.declared.moves.Move.{Move}
@@ -19,19 +18,19 @@ use Rattle.sync_http.specs.declared.info.Info.{Info}
 use Rattle.sync_stream.specs.Came.{Ending, Whole, Faulty, Cut}
 use Rattle.sync_stream.specs.Messages.{HeardReply, NoReply, BadReply, Status, Hears, Small, Says, Unread, Short, Over}
 use Rattle.sync_stream.specs.Messages.{Stream}
-use Rattle.sync_stream.specs.Requests.{Question, ForInfo, ToExchange, ToKeep}
+use Rattle.sync_stream.specs.Requests.{ForInfo, ToExchange, ToKeep}
 use Rattle.sync_stream.specs.declared.fault.LineFault.TheVariants.{At, TooLong}
 use Rattle.sync_stream.specs.declared.line.SyncDoc.{SyncDoc}
-use Rattle.sync_phases.specs.Peers.{Pair, returned_said, served, synced}
-use Rattle.sync_phases.specs.Phase.{Phase, ended}
+use Rattle.sync_phases.specs.Peers.{served, synced}
+use Rattle.sync_phases.specs.Phase.{ended}
 use Rattle.sync_phases.specs.Phases.{ask, exchange, finish, posted, settle, told_by}
-use Rattle.sync_phases.specs.Seen.{Begun, Informed, Exchanged, Asked}
+use Rattle.sync_phases.specs.Seen.{Begun, Informed, Exchanged}
 use Rattle.sync_phases.specs.Sessions.{Replies, questions, sync}
 use Rattle.sync_phases.specs.declared.fault.SyncFault.{SyncFault}
 use Rattle.sync_phases.specs.declared.fault.SyncFault.TheVariants.{Broken, Link, LogCheck, Peer}
 use Rattle.sync_phases.specs.declared.summary.Summary.{Summary}
 
--- ---- what is spoken of: the replicas a, b and c of one database, and the document d, of which each one made a revision
+-- ---- what is spoken of: the replicas a, b and c of one database, and the document d, of which each made a revision
 
 abbrev a : List ℕ
 a = codes "a"
@@ -44,9 +43,6 @@ c = codes "c"
 
 abbrev d : List ℕ
 d = codes "d"
-
-abbrev first_of : List ℕ → Clock → Clock
-first_of uid clock = clock
 
 -- the clocks a:1, b:1, c:1 and a:1|b:2
 abbrev at_a : Clock
@@ -199,18 +195,18 @@ module _ (to : Address) (seed other : ℕ) where
     -- by what comes back: one step, and three questions
     pub steps : sync begun a_made replies
         ≡ record { steps = receives (member at_b b) (made 2) b (place b 1) ∷ []; ends = summed b 1 1 1 true }
-    pub questions : questions begun a_made replies
+    pub asks : questions begun a_made replies
         ≡ ForInfo ∷ ToExchange nowhere (doc d (member at_a a) (place a 1) ∷ [])
         ∷ ToKeep (record { generation = 2; trans = Some (made 2) }) ∷ []
     -- a second session finds the two level: one question, and nothing changes
     pub again : synced begun other a_synced b_synced
         ≡ record { source = a_synced; peer = b_synced; ends = summed b 0 0 1 false }
-    pub asked : questions begun a_synced (record replies { info = info_of a (other_place 2) (place b 1) })
+    pub asks_again : questions begun a_synced (record replies { info = info_of a (other_place 2) (place b 1) })
         ≡ ForInfo ∷ []
 
   -- the peer merged revisions of one content
   pub record PeerMerged : Type 0 where
-    pub served : (served other a (holding b (edits b at_b b ∷ [])) (posted informed (holding a (edits a at_a b ∷ [])))).steps
+    pub serves : (served other a (holding b (edits b at_b b ∷ [])) (posted informed (holding a (edits a at_a b ∷ [])))).steps
         ≡ Accepted d (record {
           rev = merged;
           content = Some (of b);
@@ -271,7 +267,7 @@ module _ (to : Address) (seed other : ℕ) where
     -- cut within the third: two are taken, and the known place is that of the second
     pub cut : exchange informed empty (stream (place b 3) (of_b 1 d ∷ of_b 2 c ∷ []) (Cut 5))
         ≡ record { steps = taken_as 1 d (place b 1) ∷ taken_as 2 c (place b 2) ∷ []; ends = Err Link }
-    pub known : position_kept
+    pub cut_known : position_kept
         (after_all empty (exchange informed empty (stream (place b 3) (of_b 1 d ∷ of_b 2 c ∷ []) (Cut 5))).steps) Known b
         ≡ place b 2
     -- a place that goes back counts before the cut behind it, and not before a faulty line before it
@@ -298,7 +294,7 @@ module _ (to : Address) (seed other : ℕ) where
     pub written : told_by (exchanged 1 (place b 1)) (holding a (edits a at_a a ∷ edits a at_a b ∷ edits a at_a c ∷ []))
         ≡ None
     -- a revision that this replica merged while it took documents was written here: the target does not have it
-    pub merged : exchange informed (holding a (edits a at_a b ∷ []))
+    pub merges : exchange informed (holding a (edits a at_a b ∷ []))
         (stream (place b 1) (doc d (member at_b b) (place b 1) ∷ []) Whole)
         ≡ record {
           steps = Accepted d (record {
