@@ -6,13 +6,13 @@ use crate::{
 use conflicts::{Member, Move, Outcome4, PosTable};
 use content::{Content, ContentFault};
 use disk_model::MemDisk;
-use disks::Disks;
+use disks::{Disks, MakeFault};
 use expr_parser::Expr;
 use journal::Header;
 use link::MemSink;
 use replica_core::{MemReplica, Replica, get_doc};
 use replica_state::State;
-use replica_volume::{InitFault, Volume};
+use replica_volume::Volume;
 use std::alloc::Global;
 use std::fs;
 use std::test::Fail;
@@ -310,7 +310,7 @@ fn is_not_made(alloc: Global) -> bool {
 
 fn fails_at_once(kept: Option<Result<Volume<MemDisk>, KeepFault>>) -> bool {
     match kept {
-        Some(Err(fault)) => fault == KeepFault::Init(InitFault::Disk),
+        Some(Err(fault)) => fault == KeepFault::Init(MakeFault::Disk),
         _ => false,
     }
 }

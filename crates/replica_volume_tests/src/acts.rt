@@ -10,10 +10,10 @@ use crate::making_tests::is_empty;
 use crate::plain_state_tests::PlainState;
 use crate::tests::header;
 use disk_model::{Disk, MemDisk};
-use disks::Disks;
+use disks::{Disks, MakeFault};
 use journal::Header;
 use replica_core::Replica;
-use replica_volume::{InitFault, Volume};
+use replica_volume::Volume;
 use std::alloc::Global;
 
 /// What is done, with what has to come of it.
@@ -97,7 +97,7 @@ fn make_by(
     disks: Disks<MemDisk>,
     header: Header,
     act: Act,
-) -> (Disks<MemDisk>, Result<bool, InitFault>) {
+) -> (Disks<MemDisk>, Result<bool, MakeFault>) {
     match Volume::init(alloc, disks, header) {
         Ok(mut volume) => {
             let is_done = does(alloc, &mut volume, act);
@@ -114,9 +114,9 @@ pub(crate) fn make_and(
     disks: Disks<MemDisk>,
     limit: u64,
     act: Act,
-) -> (Disks<MemDisk>, Result<bool, InitFault>) {
+) -> (Disks<MemDisk>, Result<bool, MakeFault>) {
     match header(alloc, limit) {
         Ok(header) => make_by(alloc, disks, header, act),
-        Err(_) => (disks, Err(InitFault::Memory)),
+        Err(_) => (disks, Err(MakeFault::Memory)),
     }
 }

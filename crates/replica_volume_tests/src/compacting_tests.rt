@@ -7,10 +7,10 @@ use crate::acts::{Act, open_and, opens_and};
 use crate::committing_tests::{Done, has_text, letters, put_text, reads_as, write_letters};
 use crate::tests::{Found, Three, are, disks_of, got, has, has_both, hold, leave};
 use disk_model::{Disk, MemDisk};
-use disks::{DiskName, Disks};
+use disks::{CompactFault, DiskName, Disks, Sizes};
 use replica_core::{Replica, get_doc};
 use replica_state::State;
-use replica_volume::{CompactFault, Sizes, Volume};
+use replica_volume::Volume;
 use std::alloc::Global;
 use u1_base::{Bytes, DocId, Memory};
 

@@ -2,9 +2,9 @@
 use crate::acts::{Act, make_and};
 use crate::tests::{EMPTY, Found, NOTHING, are, disks_of, got, has, hold, leave};
 use disk_model::{Disk, MemDisk};
-use disks::{DiskName, Disks};
+use disks::{DiskName, Disks, MakeFault, OpenFault};
 use replica_core::Replica;
-use replica_volume::{InitFault, Volume, VolumeFault};
+use replica_volume::Volume;
 use std::alloc::Global;
 use u1_base::limits::GREATEST_IMAGE_LIMIT;
 
@@ -17,7 +17,7 @@ pub(crate) fn is_empty<D: Disk>(volume: &Volume<D>) -> bool {
         && volume.is_open()
 }
 
-fn make(alloc: Global, disks: Disks<MemDisk>) -> (Disks<MemDisk>, Result<bool, InitFault>) {
+fn make(alloc: Global, disks: Disks<MemDisk>) -> (Disks<MemDisk>, Result<bool, MakeFault>) {
     make_and(alloc, disks, GREATEST_IMAGE_LIMIT, Act::IsEmpty)
 }
 
@@ -51,7 +51,7 @@ fn is_refused(alloc: Global, root: &[u8]) -> bool {
     match disks_of(alloc, (root, b"", EMPTY), DiskName::Left, &[]) {
         Ok(disks) => {
             let (disks, made) = make(alloc, disks);
-            made == Err(InitFault::Exists)
+            made == Err(MakeFault::Exists)
                 && are_untouched(&disks)
                 && hold(&disks, (root, b"", EMPTY))
         }
@@ -71,16 +71,16 @@ fn is_refused_where_the_root_is_not_empty(rt: HostRuntime) {
     );
 }
 
-const FAILED: Result<bool, InitFault> = Err(InitFault::Disk);
+const FAILED: Result<bool, MakeFault> = Err(MakeFault::Disk);
 
-const DONE: Result<bool, InitFault> = Ok(true);
+const DONE: Result<bool, MakeFault> = Ok(true);
 
 // Whether the making answers this where the call of this number fails, and a crash leaves just what
 // is listed.
 fn leaves(
     alloc: Global,
     failing: (DiskName, u64),
-    answer: Result<bool, InitFault>,
+    answer: Result<bool, MakeFault>,
     is: &[Found],
 ) -> bool {
     let (name, number) = failing;
@@ -93,7 +93,7 @@ fn leaves(
     }
 }
 
-const BLANK: Found = Err(VolumeFault::Blank);
+const BLANK: Found = Err(OpenFault::Blank);
 
 // Whether a crash leaves no store where any of the first calls of this disk fails.
 fn leaves_none(alloc: Global, name: DiskName, count: u64) -> bool {
@@ -137,7 +137,7 @@ fn leaves_the_empty_store_once_it_is_made(rt: HostRuntime) {
 
 // ---- a making after one that failed
 
-const EXISTS: Result<bool, InitFault> = Err(InitFault::Exists);
+const EXISTS: Result<bool, MakeFault> = Err(MakeFault::Exists);
 
 // The making fails at the call of this number of a disk, and is tried again over the same disks:
 // the call that comes so many later fails too. Whether this is answered then, and a crash leaves
@@ -146,7 +146,7 @@ fn leaves_again(
     alloc: Global,
     failing: (DiskName, u64),
     later: u64,
-    answer: Result<bool, InitFault>,
+    answer: Result<bool, MakeFault>,
     is: &[Found],
 ) -> bool {
     let (name, number) = failing;

@@ -6,8 +6,7 @@ use crate::tests::{
     disks_of, got, has_both, hold, leave, look,
 };
 use disk_model::MemDisk;
-use disks::{DiskName, Disks};
-use replica_volume::VolumeFault;
+use disks::{DiskName, Disks, OpenFault};
 use std::alloc::Global;
 use u1_base::{Bytes, Memory};
 
@@ -175,7 +174,7 @@ fn may_be_longer_than_its_limit(rt: HostRuntime) {
 
 const FILES: Three = (&[0], CREATED_FIRST, b"old");
 
-const DISK: Found = Err(VolumeFault::Disk);
+const DISK: Found = Err(OpenFault::Disk);
 
 // Whether the opening answers this where the call of this number fails, and a crash leaves the
 // document.

@@ -6,8 +6,7 @@ use crate::tests::{
     CREATED, CREATED_FIRST, EMPTY, Found, NOTHING, ONE, Three, changed, damaged, disks_of, got,
     hold, is_found, leave, look,
 };
-use disks::DiskName;
-use replica_volume::VolumeFault;
+use disks::{DiskName, OpenFault};
 use std::alloc::Global;
 
 // ---- worked images
@@ -60,7 +59,7 @@ fn takes_the_side_by_the_lowest_bit(rt: HostRuntime) {
 
 #[test]
 fn tells_an_empty_root(rt: HostRuntime) {
-    assert!(rt; is_found(rt.alloc(), (b"", CREATED, CREATED), Err(VolumeFault::Blank)));
+    assert!(rt; is_found(rt.alloc(), (b"", CREATED, CREATED), Err(OpenFault::Blank)));
 }
 
 fn is_too_long(alloc: Global, root: &[u8]) -> bool {
@@ -232,7 +231,7 @@ fn reads_the_image_that_is_named(rt: HostRuntime) {
 
 const FILES: Three = (&[1], EMPTY, CREATED);
 
-const FAILED: Found = Err(VolumeFault::Disk);
+const FAILED: Found = Err(OpenFault::Disk);
 
 // Whether the opening fails where this call does, and nothing is written: a crash leaves the store
 // as it was.

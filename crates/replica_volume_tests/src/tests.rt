@@ -1,10 +1,10 @@
 //! What the tests share: three disks in memory, the worked images, and what a crash leaves of them.
 use disk_model::{Choice, Disk, MemDisk};
-use disks::{DiskName, Disks};
+use disks::{DiskName, Disks, OpenFault};
 use journal::Header;
 use replica_core::Replica;
 use replica_state::State;
-use replica_volume::{Volume, VolumeFault};
+use replica_volume::Volume;
 use std::alloc::Global;
 use u1_base::limits::{GREATEST_IMAGE_LIMIT, LEAST_IMAGE_LIMIT};
 use u1_base::{Bytes, DbName, IdFault, Memory, Numbers, ReplicaUid};
@@ -27,14 +27,14 @@ pub(crate) const CREATED_FIRST: &[u8] =
       \x01\0\0\0\x0f{\"a\":\"x\",\"b\":1}\0\x22T-a12aa9bff3485ffcbd67876eea76a865\0\0";
 
 /// The generation and the number of documents of a replica, or why none was opened.
-pub(crate) type Found = Result<(u64, u64), VolumeFault>;
+pub(crate) type Found = Result<(u64, u64), OpenFault>;
 
 pub(crate) const NOTHING: Found = Ok((0, 0));
 
 pub(crate) const ONE: Found = Ok((1, 1));
 
 pub(crate) const fn damaged(disk: DiskName, place: u64) -> Found {
-    Err(VolumeFault::Damaged { disk, place })
+    Err(OpenFault::Damaged { disk, place })
 }
 
 const CHOICES: &[Choice] = &[
@@ -170,7 +170,7 @@ pub(crate) fn find(alloc: Global, bytes: Three) -> Found {
             let (_disks, found) = look(alloc, disks);
             found
         }
-        Err(_) => Err(VolumeFault::Memory),
+        Err(_) => Err(OpenFault::Memory),
     }
 }
 
