@@ -18,7 +18,7 @@ use Rattle.record_codec.specs.Bodies.{Recorded}
 use Rattle.record_codec.specs.Laws.{Says}
 use Rattle.record_codec.specs.declared.decoding.RecordFault.{RecordFault}
 use Rattle.record_codec.specs.declared.decoding.RecordFault.TheVariants as record_fault
-use Rattle.replica_core.specs.Replica.{Known}
+use Rattle.replica_core.specs.Replica.{Known, Stored}
 use Rattle.replica_core.specs.Replica.Found.{Stands}
 use Rattle.replica_state.specs.Steps.{step_of}
 use Rattle.replica_state.specs.declared.step.Step.{Step as Held}
@@ -29,9 +29,9 @@ use Rattle.replica_volume.specs.Steps.{body_in, steps_of}
 use Rattle.replica_volume.specs.Store.{opens_as, store_of}
 use Rattle.replica_volume.specs.Store.StoreFound.{Holds}
 use Rattle.replica_volume.specs.Volume.{IsOpenVolume, KeepsHistory, devices, volume_known}
-use Rattle.replica_volume.specs.declared.compact_fault.CompactFault.{CompactFault}
-use Rattle.replica_volume.specs.declared.compact_fault.CompactFault.TheVariants as fault
-use Rattle.replica_volume.specs.declared.compact_fault.Sizes.{Sizes}
+use Rattle.disks.specs.declared.fault.CompactFault.{CompactFault}
+use Rattle.disks.specs.declared.fault.CompactFault.TheVariants as fault
+use Rattle.disks.specs.declared.fault.Sizes.{Sizes}
 use Rattle.replica_volume.specs.declared.compacting.KeptSteps.{KeptSteps}
 use Rattle.replica_volume.specs.declared.replica.Volume.{Volume}
 
@@ -48,14 +48,16 @@ abbrev pub sizes_of : {D : Type 0} → Volume D → Volume D → Sizes
 sizes_of old new = record { before = old.journal.length; after = new.journal.length }
 
 -- What there is when a history was compacted whose image lay on this side: the compaction, on the other side; the sizes
--- of the two images; the limit of the image that was there; and a step needs what it takes behind the compaction.
+-- of the two images; the limit of the image that was there; and a step needs what it takes behind the compaction and
+-- behind further steps.
 pub record IsCompacted (side : DiskName) (head : Head) (h : History) (files : Trio (List ℕ)) (known : Known)
     (sizes : Sizes) : Type 0 where
   pub holds : store_of files ≡ Holds (other_side side) SECOND_FORMAT head (compaction h)
   pub before : sizes.before ≡ length (image_of head h)
   pub after : sizes.after ≡ length (image_of head (compaction h))
   pub limit : known.limit ≡ head.limit
-  pub need : (x : Step) → known.need x ≡ min (length (image_of head (compaction h ++ x ∷ []))) (2 ^ 64 - 1)
+  pub need : (xs : History) (x : Step)
+      → known.need xs x ≡ min (length (image_of head (compaction h ++ (xs ++ x ∷ [])))) (2 ^ 64 - 1)
 
 -- the history that the files held was compacted
 abbrev pub Compacts : {D : Type 0} → Bool → (D → Device) → Volume D → Volume D → Sizes → Type 0
@@ -85,9 +87,9 @@ LeavesOldOrCompacted old new =
     (side : DiskName) (head : Head) (h : History) → store_of (seen_of old.files) ≡ Holds side SECOND_FORMAT head h
     → LeavesTogether old new (HoldOldOrCompacted side head h)
 
--- a crash on the way leaves what opens as this state
-abbrev pub LeavesState : State → Devices → Devices → Type 0
-LeavesState s old new = LeavesTogether old new (λ files. opens_as files ≡ Stands s)
+-- a crash on the way leaves what opens as this state, under this limit
+abbrev pub LeavesStored : Stored → Devices → Devices → Type 0
+LeavesStored s old new = LeavesTogether old new (λ files. opens_as files ≡ Stands s)
 
 -- ---- private words: the image was written anew, or was not
 

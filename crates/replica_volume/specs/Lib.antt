@@ -9,3 +9,5 @@ pub mod Replaying
 pub mod Committing
 pub mod Placing
 pub mod Compacting
+pub mod Keeping
+pub mod Staging

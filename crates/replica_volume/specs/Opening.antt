@@ -14,8 +14,8 @@ use Rattle.volume.specs.Store.{found_of}
 use Rattle.replica_volume.specs.Steps.{state_at}
 use Rattle.replica_volume.specs.Store.{IsMoved, IsSameOrMoved, MayOpenAs, store_of, opens_as}
 use Rattle.replica_volume.specs.Store.StoreFound.{Blank, Damaged, Holds}
-use Rattle.replica_volume.specs.declared.fault.VolumeFault.{VolumeFault}
-use Rattle.replica_volume.specs.declared.fault.VolumeFault.TheVariants as fault
+use Rattle.disks.specs.declared.fault.OpenFault.{OpenFault}
+use Rattle.disks.specs.declared.fault.OpenFault.TheVariants as fault
 use Rattle.replica_volume.specs.declared.replica.Volume.{Volume}
 
 -- the volume has the state of the history that is found, and the limit of its image, which has either format
@@ -36,7 +36,7 @@ pub record IsFormer (files : Trio (List ℕ)) : Type 0 where
   pub found : store_of files ≡ Holds side FIRST_FORMAT head history
 
 -- what was opened, or the fault that was named, is what is found of the files; the other faults say nothing of them
-abbrev pub OpensVolume : {D : Type 0} → Trio (List ℕ) → Result (Volume D) (Disks D × VolumeFault) → Type 0
+abbrev pub OpensVolume : {D : Type 0} → Trio (List ℕ) → Result (Volume D) (Disks D × OpenFault) → Type 0
 OpensVolume files (Ok v) = IsOpenedFrom files v
 OpensVolume files (Err (disks, fault.Blank)) = store_of files ≡ Blank
 OpensVolume files (Err (disks, fault.Damaged disk place)) = store_of files ≡ Damaged disk place

@@ -11,8 +11,8 @@ use Rattle.record_codec.specs.declared.decoding.Decoded.{Decoded}
 use Rattle.record_codec.specs.declared.decoding.RecordFault.{RecordFault}
 use Rattle.record_codec.specs.declared.decoding.RecordFault.TheVariants as record_fault
 use Rattle.replica_volume.specs.Steps.{steps_of, state_at}
-use Rattle.replica_volume.specs.declared.fault.VolumeFault.{VolumeFault}
-use Rattle.replica_volume.specs.declared.fault.VolumeFault.TheVariants as fault
+use Rattle.disks.specs.declared.fault.OpenFault.{OpenFault}
+use Rattle.disks.specs.declared.fault.OpenFault.TheVariants as fault
 use Rattle.replica_volume.specs.declared.replaying.Made.{Made}
 
 -- what a body says, which begins at this place of the file; or the place of its first field that has no reading
@@ -63,7 +63,7 @@ MakesOne start read old new (Err (record_fault.Bad place)) = (at : ℕ) × (read
 MakesOne start read old new (Err record_fault.Memory) = Unit {0}
 
 -- the same of an image on this side
-abbrev pub ReplaysOn : DiskName → StoredImage → Result Made VolumeFault → Type 0
+abbrev pub ReplaysOn : DiskName → StoredImage → Result Made OpenFault → Type 0
 ReplaysOn side image (Ok m) = AreMade image image.bodies m
 ReplaysOn side image (Err (fault.Damaged disk place)) = (disk ≡ side) × IsBadAt image place
 ReplaysOn side image (Err fault.Memory) = Unit {0}
