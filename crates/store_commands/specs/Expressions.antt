@@ -12,9 +12,9 @@ use Rattle.expr_parser.specs.Reading.{IsExpr, expr_in}
 use Rattle.expr_parser.specs.declared.fault.ParseFault.{ParseFault}
 use Rattle.expr_parser.specs.declared.fault.ParseFault.TheVariants.{TooLong, At, Memory}
 use Rattle.replica_state.specs.Exprs.{IndexTexts}
+use Rattle.command_lines.specs.Endings.{Ending, Answered, OutOfMemory, ending_of}
 use Rattle.command_lines.specs.Outcomes.{expression_end}
 use Rattle.command_lines.specs.declared.outcome.Outcome.{Outcome}
-use Rattle.command_lines.specs.declared.outcome.Outcome.TheVariants as outcome
 
 -- a first item before the others, if there are both
 abbrev pub before_others : Option Text → Option (List Text) → Option (List Text)
@@ -44,18 +44,24 @@ pub record IsFirstRefused (texts : List Text) (end : Outcome) : Type 0 where
   pub is : end ≡ expression_end place fault
 
 -- how a run ends for the expression at a place that was not read
+abbrev pub EndsBy : ℕ → Text → Outcome → Ending → Type 0
+EndsBy place text end OutOfMemory = Unit {0}
+EndsBy place text end Answered =
+    (fault : ParseFault) × IsRefusedFor text fault × (end ≡ expression_end place fault)
+EndsBy place text end _ = ⊥
+
 abbrev pub EndsFor : ℕ → Text → Outcome → Type 0
-EndsFor place text outcome.Memory = Unit {0}
-EndsFor place text (outcome.Refused refusal) =
-    (fault : ParseFault) × IsRefusedFor text fault × (outcome.Refused refusal ≡ expression_end place fault)
-EndsFor place text _ = ⊥
+EndsFor place text end = EndsBy place text end (ending_of end)
 
 -- the expressions were read: as their canonical texts, or to the first that is refused, unless memory ran out
+abbrev pub AreUnread : List Text → Outcome → Ending → Type 0
+AreUnread texts end OutOfMemory = Unit {0}
+AreUnread texts end Answered = IsFirstRefused texts end
+AreUnread texts end _ = ⊥
+
 abbrev pub HaveRead : List Text → Result (List Text) Outcome → Type 0
 HaveRead texts (Ok canonicals) = canonicals_in texts ≡ Some canonicals
-HaveRead texts (Err outcome.Memory) = Unit {0}
-HaveRead texts (Err (outcome.Refused refusal)) = IsFirstRefused texts (outcome.Refused refusal)
-HaveRead texts (Err _) = ⊥
+HaveRead texts (Err end) = AreUnread texts end (ending_of end)
 
 -- each of the texts was read, as these forms
 pub record AreRead (texts : List Text) (forms : List Form) : Type 0 where

@@ -2,7 +2,6 @@ pub mod Found
 pub mod Changes
 pub mod Compacting
 pub mod Store
-pub mod Faults
 pub mod Deeds
 pub mod Expressions
 pub mod Answer

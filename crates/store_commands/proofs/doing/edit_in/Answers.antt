@@ -1,18 +1,19 @@
--- Each command as it is over the open replica, with its input.
+-- Each command that makes a step, as it is over the open replica, with its input.
 use Rattle.std.proofs.Common.{Ok, [], refl}
 use Rattle.std.proofs.lemmas.Result.{err_from_is_err_and}
-use Rattle.cli_words.specs.declared.command.Command.TheVariants as command
+use Rattle.cli_words.specs.declared.command.Command.TheVariants.{Edit}
+use Rattle.cli_words.specs.declared.command.Edit.TheVariants as edit
 use Rattle.replica_state.specs.Held.{lists_of}
-use Rattle.store_commands.proofs.Defaults.{few_exprs, only_shows}
+use Rattle.store_commands.proofs.Built.{few_exprs}
 use Rattle.store_commands.proofs.Taken.{untaken, with_input, without_input}
-use Rattle.store_commands.proofs.doing.do_command.Goals as goal
+use Rattle.store_commands.proofs.doing.edit_in.Goals as goal
 
 pub returns-in_err-content-in-Create : goal.returns-in_err-content-in-Create
 returns-in_err-content-in-Create g c before after =
     let r = g.R.Replica in
     let p = err_from_is_err_and c.from_residual.result c.from_residual.ensures.1 in
     rw (p.1, p.2, c.in-Create.is)
-    (untaken r.known r.is_open r.crash g.met.R.Replica.settled (command.Create c.in-Create.id) c.args.seed (Ok []) refl
+    (untaken r.known r.is_open r.crash g.met.R.Replica.settled (Edit (edit.Create c.in-Create.id)) c.args.seed (Ok []) refl
     (λ h. cc) (lists_of (r.known c.args.replica.now).state) before after
     c.args.replica.now _ _ _ c.requires.open refl _ c.in_err-content-in-Create.ensures)
 
@@ -20,7 +21,7 @@ pub returns-in_ok-content-in-Create : goal.returns-in_ok-content-in-Create
 returns-in_ok-content-in-Create g c before after =
     let r = g.R.Replica in
     rw c.in-Create.is
-    (with_input r.known r.is_open r.crash g.met.R.Replica.settled (command.Create c.in-Create.id) c.args.seed
+    (with_input r.known r.is_open r.crash g.met.R.Replica.settled (Edit (edit.Create c.in-Create.id)) c.args.seed
     (Ok []) refl (λ h. cc) (lists_of (r.known c.args.replica.now).state) before after
     _ _ _ _ _ _ _ _ _ refl c.in_ok-content-in-Create.ensures refl c.create.ensures)
 
@@ -30,7 +31,7 @@ returns-in_err-content-in-Put g c before after =
     let p = err_from_is_err_and c.from_residual-in_err-content-in-Put.result
     c.from_residual-in_err-content-in-Put.ensures.1 in
     rw (p.1, p.2, c.in-Put.is)
-    (untaken r.known r.is_open r.crash g.met.R.Replica.settled (command.Put c.in-Put.id c.in-Put.rev) c.args.seed
+    (untaken r.known r.is_open r.crash g.met.R.Replica.settled (Edit (edit.Put c.in-Put.id c.in-Put.rev)) c.args.seed
     (Ok []) refl (λ h. cc) (lists_of (r.known c.args.replica.now).state) before after
     c.args.replica.now _ _ _ c.requires.open refl _ c.in_err-content-in-Put.ensures)
 
@@ -38,7 +39,7 @@ pub returns-in_ok-content-in-Put : goal.returns-in_ok-content-in-Put
 returns-in_ok-content-in-Put g c before after =
     let r = g.R.Replica in
     rw c.in-Put.is
-    (with_input r.known r.is_open r.crash g.met.R.Replica.settled (command.Put c.in-Put.id c.in-Put.rev) c.args.seed
+    (with_input r.known r.is_open r.crash g.met.R.Replica.settled (Edit (edit.Put c.in-Put.id c.in-Put.rev)) c.args.seed
     (Ok []) refl (λ h. cc) (lists_of (r.known c.args.replica.now).state) before after
     _ _ _ _ _ _ _ _ _ refl c.in_ok-content-in-Put.ensures refl (rw c.as_ref.ensures.value at c.put.ensures))
 
@@ -49,7 +50,7 @@ returns-in_err-content-in-Resolve g c before after =
     c.from_residual-in_err-content-in-Resolve.ensures.1 in
     rw (p.1, p.2, c.in-Resolve.is)
     (untaken r.known r.is_open r.crash g.met.R.Replica.settled
-    (command.Resolve c.in-Resolve.id c.in-Resolve.revs) c.args.seed (Ok []) refl (λ h. cc)
+    (Edit (edit.Resolve c.in-Resolve.id c.in-Resolve.revs)) c.args.seed (Ok []) refl (λ h. cc)
     (lists_of (r.known c.args.replica.now).state) before after
     c.args.replica.now _ _ _ c.requires.open refl _ c.in_err-content-in-Resolve.ensures)
 
@@ -58,7 +59,7 @@ returns-in_ok-content-in-Resolve g c before after =
     let r = g.R.Replica in
     rw c.in-Resolve.is
     (with_input r.known r.is_open r.crash g.met.R.Replica.settled
-    (command.Resolve c.in-Resolve.id c.in-Resolve.revs) c.args.seed (Ok []) refl (λ h. cc)
+    (Edit (edit.Resolve c.in-Resolve.id c.in-Resolve.revs)) c.args.seed (Ok []) refl (λ h. cc)
     (lists_of (r.known c.args.replica.now).state) before after
     _ _ _ _ _ _ _ _ _ refl c.in_ok-content-in-Resolve.ensures refl c.resolve.ensures)
 
@@ -67,7 +68,7 @@ returns-in-Delete g c before after =
     let r = g.R.Replica in
     rw c.in-Delete.is
     (without_input r.known r.is_open r.crash g.met.R.Replica.settled
-    (command.Delete c.in-Delete.id c.in-Delete.rev) c.args.seed (Ok []) refl (λ h. cc)
+    (Edit (edit.Delete c.in-Delete.id c.in-Delete.rev)) c.args.seed (Ok []) refl (λ h. cc)
     (lists_of (r.known c.args.replica.now).state) before after
     _ _ _ _ _ _ _ refl refl c.delete.ensures)
 
@@ -76,7 +77,7 @@ returns-in-ResolveDeleted g c before after =
     let r = g.R.Replica in
     rw c.in-ResolveDeleted.is
     (without_input r.known r.is_open r.crash g.met.R.Replica.settled
-    (command.ResolveDeleted c.in-ResolveDeleted.id c.in-ResolveDeleted.revs) c.args.seed (Ok []) refl (λ h. cc)
+    (Edit (edit.ResolveDeleted c.in-ResolveDeleted.id c.in-ResolveDeleted.revs)) c.args.seed (Ok []) refl (λ h. cc)
     (lists_of (r.known c.args.replica.now).state) before after
     _ _ _ _ _ _ _ refl refl c.resolve_deleted.ensures)
 
@@ -85,7 +86,7 @@ returns-in-IndexDelete g c before after =
     let r = g.R.Replica in
     rw c.in-IndexDelete.is
     (without_input r.known r.is_open r.crash g.met.R.Replica.settled
-    (command.IndexDelete c.in-IndexDelete.name) c.args.seed (Ok []) refl (λ h. cc)
+    (Edit (edit.IndexDelete c.in-IndexDelete.name)) c.args.seed (Ok []) refl (λ h. cc)
     (lists_of (r.known c.args.replica.now).state) before after
     _ _ _ _ _ _ _ refl refl c.index_delete.ensures)
 
@@ -100,25 +101,6 @@ returns-in-IndexCreate g c before after =
     let done = rw c.as_slice.ensures at c.index_create.ensures in
     rw c.in-IndexCreate.is
     (without_input r.known r.is_open r.crash g.met.R.Replica.settled
-    (command.IndexCreate c.in-IndexCreate.name c.in-IndexCreate.exprs) c.args.seed done.0 done.1 (λ h. cc)
+    (Edit (edit.IndexCreate c.in-IndexCreate.name c.in-IndexCreate.exprs)) c.args.seed done.0 done.1 (λ h. cc)
     (lists_of (r.known c.args.replica.now).state) before after
     _ _ _ _ _ _ _ refl refl done.2)
-
-pub returns-in_default : goal.returns-in_default
-returns-in_default g c before after =
-    let r = g.R.Replica in
-    let l = lists_of (r.known c.args.replica.now).state in
-    let shown = only_shows c.args.seed c.args.command.now l
-    (record {
-      create = c.in_default.not-Create;
-      put = c.in_default.not-Put;
-      delete = c.in_default.not-Delete;
-      resolve = c.in_default.not-Resolve;
-      resolve_deleted = c.in_default.not-ResolveDeleted;
-      index_create = c.in_default.not-IndexCreate;
-      index_delete = c.in_default.not-IndexDelete;
-      compact = c.requires.other;
-    }) c.requires.opens in
-    without_input r.known r.is_open r.crash g.met.R.Replica.settled c.args.command.now c.args.seed (Ok []) shown.1
-    c.requires.other l before after
-    _ _ _ _ _ _ _ shown.0 shown.2 c.show.ensures
