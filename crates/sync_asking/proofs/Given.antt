@@ -42,3 +42,24 @@ pub below : (before heard first more : List ℕ) (end : ℕ) → heard ≡ befor
 below before heard first more end is less none =
     subst (λ m. length (before ++ (first ++ m)) < end) (sym none)
     (subst (λ f. length (before ++ f) < end) (sym (append-nil first)) (subst (λ h. length h < end) is less))
+
+front_of : (coming left : Option (List ℕ)) (first : List ℕ) → Consumes coming left first
+    → IfSome coming (IsFront first)
+front_of None left first gone = tt
+front_of (Some xs) None first gone = absurd gone
+front_of (Some xs) (Some ys) first gone = (ys, gone)
+
+pub given_is : (k mid : LinkKnown) (first : List ℕ) → mid ≡ given_more first k → Consumes k.coming mid.coming first
+    → IsGiven k mid first
+given_is k mid first is gone = record {
+  earlier = ap (λ m. m.earlier) is;
+  ask = ap (λ m. m.ask) is;
+  seed = ap (λ m. m.seed) is;
+  peer = ap (λ m. m.peer) is;
+  front = front_of k.coming mid.coming first gone;
+}
+
+pub err_so : {A E : Type 0} (r : Result A E) (W : E → Type 0) {Q : E → Type 0} → IfErr r Q → ((e : E) → Q e → W e)
+    → IfErr r W
+err_so (Ok x) W h f = tt
+err_so (Err e) W h f = f e h

@@ -1,3 +1,4 @@
+mod Lengths
 mod Given
 mod Asks
 mod Ends

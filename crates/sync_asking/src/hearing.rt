@@ -9,7 +9,7 @@ use sync_link::{AskFault, Link, Phase};
 use u1_base::Bytes;
 
 // How much is received at once, in bytes.
-const PIECE: usize = 4096;
+pub(crate) const PIECE: usize = 4096;
 
 /// Receives the next bytes of a reply, at most as many as there is room for, and adds them. Bytes
 /// for which there is no memory are given all the same.

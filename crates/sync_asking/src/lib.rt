@@ -4,10 +4,12 @@
 //! of `sync_phases`. No replica is here.
 #![tactic(auto)]
 
+mod heads;
 mod hearing;
 mod lines;
 mod sending;
 
+pub use heads::{Found, ask_fault, hear_head};
 pub use hearing::{hear, hear_up_to};
 pub use lines::{end_lines, next_line, stream_fault};
 pub use sending::send_whole;
