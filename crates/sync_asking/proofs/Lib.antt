@@ -1,0 +1,4 @@
+mod Lengths
+mod Given
+mod Asks
+mod Ends
