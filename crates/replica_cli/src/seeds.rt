@@ -5,8 +5,8 @@ ghost use Rattle.replica_cli.specs.Seeds.{NeedsNoSeed};
 
 use cli_words::{Command, Edit, Online, Show, View};
 
-/// Whether the command makes ids of the seed. Where it does not, its run is the same for every seed,
-/// so the caller may pass any.
+/// Whether the command makes ids of the seed. Where it does not, its run is the same for every
+/// seed, so the caller may pass any.
 pub fn needs_seed(command: &Command) -> bool
     ensures { result ≡ false → NeedsNoSeed command.now }
 {

@@ -24,8 +24,8 @@ CrashAt m k o = (store_seen true m.disks).crash k o
 abbrev pub moment_of : Between → ℕ
 moment_of m = moments true m.disks
 
--- the changes are steps; the history goes on by them to the state that stands, under the same limit, and a member of its
--- document covers each revision that it accepted
+-- the changes are steps; the history goes on by them to the state that stands, under the same limit, and a member of
+-- its document covers each revision that it accepted
 pub record Grows (name : Text) (uid : Uid) (limit : ℕ) (h : History) (changes : List Change) (now : Left Stored)
     : Type 0 where
   pub steps : History
