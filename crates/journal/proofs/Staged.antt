@@ -1,6 +1,6 @@
 -- Entries that are spelled behind one gate.
-use Rattle.std.proofs.Common.{◌≡◌, ℕ, ◌+◌, ◌-◌, ◌≤◌, List, [], ◌∷◌, ◌++◌, length, min, set, refl, sym, ◌∙◌, ap, arith}
-use Rattle.std.proofs.Common.{length-append, length-set}
+use Rattle.std.proofs.Common.{◌≡◌, ℕ, ◌+◌, ◌-◌, ◌≤◌, List, [], ◌∷◌, ◌++◌, length, set, sym, ◌∙◌, ap, arith}
+use Rattle.std.proofs.Common.{length-append}
 use Rattle.std.proofs.lemmas.List.{append_assoc, set_at}
 use Rattle.disk_model.specs.Device.{Device, File, IsSettled, file_of}
 use Rattle.disk_model.specs.Disk.{overwritten}
@@ -12,7 +12,6 @@ use Rattle.journal.specs.Journal.{Extent, Holds}
 use Rattle.journal.specs.Entries.{AreSpelled, LeavesAllOrNone, extended}
 use Rattle.journal.proofs.Appends.{all_added, all_or_none}
 use Rattle.journal.proofs.Entries.{AreBodies-push, entries-push, up_to_gate-append}
-use Rattle.journal.proofs.Fields.{length-body_field}
 
 -- the body behind those that are spelled, and the gate before it open
 pub one_spelled : (bodies : List (List ℕ)) (body old mid new : List ℕ) → AreSpelled bodies old → IsBody body

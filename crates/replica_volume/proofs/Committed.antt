@@ -9,7 +9,7 @@ use Rattle.disk_model.specs.Counts.{called}
 use Rattle.disk_model.specs.Device.{Device, File}
 use Rattle.disks.specs.declared.trio.Trio.{Trio}
 use Rattle.disks.specs.declared.three.Disks.{Disks}
-use Rattle.disks.specs.Joint.{AreCrashImages, Devices, now_of}
+use Rattle.disks.specs.Joint.{Devices}
 use Rattle.disks.specs.Disks.{disks_known, turned}
 use Rattle.journal.specs.Entries.{AreSpelled, extended}
 use Rattle.journal.specs.Image.{Head}

@@ -1,5 +1,5 @@
 -- A crash of a volume now leaves just what it keeps.
-use Rattle.std.specs.Prelude.{◌≡◌, ℕ, Bool, IsTrue, if◌then◌else◌, List, [], ◌++◌, length, Result, Ok}
+use Rattle.std.specs.Prelude.{◌≡◌, ℕ, Bool, IsTrue, if◌then◌else◌, List, [], length, Result, Ok}
 use Rattle.std.proofs.Common.{inl, sym, ap, subst, ◌∙◌}
 use Rattle.std.proofs.lemmas.List.{append-nil}
 use Rattle.conflicts.specs.State.{History, State, Text}

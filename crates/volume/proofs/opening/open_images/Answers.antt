@@ -1,8 +1,6 @@
 -- The root was read, and then the image that it names.
-use Rattle.std.specs.Prelude.{IsTrue}
-use Rattle.std.proofs.Common.{◌≡◌, Ok, Err, List, ℕ, refl, sym, ◌∙◌, subst}
+use Rattle.std.proofs.Common.{Ok, Err, refl, sym, ◌∙◌, subst}
 use Rattle.std.proofs.lemmas.Result.{err_from_is_err_and}
-use Rattle.disks.specs.declared.trio.Trio.{Trio}
 use Rattle.disks.specs.Joint.{seen_of}
 use Rattle.disks.specs.Disks.{disks_known}
 use Rattle.journal.specs.Image.{ReadsAs}

@@ -1,5 +1,5 @@
 -- Both writes were made, or the disk failed on the way.
-use Rattle.std.proofs.Common.{◌≡◌, ◌-◌, ◌+◌, ℕ, ◌∙◌, ap}
+use Rattle.std.proofs.Common.{◌-◌, ◌+◌, ℕ, ◌∙◌, ap}
 use Rattle.disk_model.specs.Device.{file_of}
 use Rattle.journal.specs.Entries.{extended}
 use Rattle.journal.specs.Journal.{Extent}

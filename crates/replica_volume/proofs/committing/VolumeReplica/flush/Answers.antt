@@ -1,5 +1,6 @@
 -- Nothing was staged; or the entries were added, or a disk failed on the way.
-use Rattle.std.proofs.Common.{◌+◌, false, inl, length, refl, ap, arith}
+use Rattle.std.proofs.Common.{inl, length, refl, ap, arith}
+use Rattle.disks.specs.Disks.{disks_known}
 use Rattle.journal.specs.Journal.{Extent}
 use Rattle.replica_core.specs.Replica.{StandsAsEither, stored_as, stored_in}
 use Rattle.replica_volume.specs.Settled.{opens_kept}
@@ -100,14 +101,10 @@ returns-in-Ok-clause-any_history g c t later s =
 pub returns-in-Err-clause-any_moment : goal.returns-in-Err-clause-any_moment
 returns-in-Err-clause-any_moment g c kept is =
     let known = g.D.Disk.known in let tells = g.D.Disk.tells in let old = c.args.self.now in
-    let new = record old {
-      disks = c.append_all_on.new.disks;
-      journal = c.append_all_on.new.journal;
-      «open» = false;
-    } in
-    run_adds tells known old new (StandsAsEither (stored_as (volume_known tells known old) kept)
+    run_adds tells known old _ (StandsAsEither (stored_as (volume_known tells known old) kept)
     (stored_in (volume_known tells known old)))
-    (λ t. flush_opens tells known old kept (is.keeps t) (devices known new) (c.append_all_on.ensures.any_moment t))
+    (λ t. flush_opens tells known old kept (is.keeps t) (disks_known known c.append_all_on.new.disks)
+    (c.append_all_on.ensures.any_moment t))
 
 pub returns-in-Err-clause-any_history : goal.returns-in-Err-clause-any_history
 returns-in-Err-clause-any_history g c t later s =
