@@ -1,7 +1,7 @@
 -- A call under other names of its answer and its faults.
-use Rattle.std.proofs.Common.{◌≡◌, ℕ, ◌<◌, [], Option, Some, None, Ok, Err, refl, sym, ap, subst, ◌∙◌}
+use Rattle.std.proofs.Common.{◌≡◌, ℕ, ◌<◌, [], Option, Some, None, Ok, Err, sym, ap, subst, ◌∙◌}
 use Rattle.std.specs.Prelude.{IfSome}
-use Rattle.conflicts.specs.State.{State, Step}
+use Rattle.conflicts.specs.State.{State}
 use Rattle.conflicts.specs.Writing.{Answers, Decided, Refuses}
 use Rattle.replica_core.specs.Replica.{AddsOnly, Found, HasFailed, IsLeft, IsTooLong, Known, MayStand, Stored, stored_in}
 use Rattle.replica_core.specs.Calls.{IfFailed, IsDone, is_disk_failure}

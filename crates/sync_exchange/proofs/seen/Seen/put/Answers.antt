@@ -1,5 +1,5 @@
 -- The document is noted.
-use Rattle.std.proofs.Common.{◌≡◌, ◌∙◌, ℕ, ap, subst, sym}
+use Rattle.std.proofs.Common.{◌∙◌, ℕ, ap, subst, sym}
 use Rattle.std.specs.Prelude.{◌||◌, nat_le}
 use Rattle.doc_table.specs.Listed.{Listed}
 use Rattle.sync_exchange.specs.Seen.{SeesAs, reaches}
