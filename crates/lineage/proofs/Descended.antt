@@ -1,6 +1,5 @@
 -- Histories descend from their beginnings on, and what that says of their clocks and of their members.
-use Rattle.std.specs.Prelude.{◌≡◌, ◌↔◌, ◌⊎◌, true, false, cond, not, List, [], ◌∷◌, ◌++◌, map, refl}
-use Rattle.std.specs.List.{flat_map}
+use Rattle.std.specs.Prelude.{◌≡◌, ◌⊎◌, true, false, cond, not, List, [], ◌∷◌, ◌++◌, map, refl}
 use Rattle.std.proofs.Common.{sym, ◌∙◌, ap, subst, inl, inr, append-nil}
 use Rattle.std.proofs.lemmas.Bool.{and_parts}
 use Rattle.u1_base.specs.Ids.{same_id}
@@ -19,8 +18,7 @@ use Rattle.conflicts.proofs.Members.{from_map}
 use Rattle.conflicts.proofs.Pruned.{from_undominated}
 use Rattle.conflicts.proofs.States.{flat_map-push}
 use Rattle.conflicts.proofs.WellFormed.{document_of-IsDocument}
-use Rattle.lineage.specs.Lineage.{Lines, Makes, Parent, Ancestor, parent, earlier, Leads, Was, Lineage, grown}
-use Rattle.lineage.specs.Lineage.{Arrives, Begins}
+use Rattle.lineage.specs.Lineage.{Makes, Parent, Ancestor, parent, earlier, Leads, Was, Lineage, grown}
 use Rattle.lineage.specs.Histories.{Histories, Lawful, Descends, Ancestry, Cover, lines, seen, stepped}
 use Rattle.lineage.proofs.Descent.{covers_leads, ancestor_above, one_making, one_content}
 use Rattle.lineage.proofs.Growing.{after_arrival, after_making}

@@ -9,7 +9,7 @@ use Rattle.vector_rev.proofs.ClockLaws.{same_decides}
 use Rattle.u1_base.proofs.Booleans.{not_both}
 use Rattle.conflicts.specs.Lists.{In}
 use Rattle.conflicts.specs.Document.{Document, content_at, current_member, document_of}
-use Rattle.conflicts.specs.Laws.{CurrentIs, IsDocument, MakesOf, TakesOf}
+use Rattle.conflicts.specs.Laws.{CurrentIs, MakesOf, TakesOf}
 use Rattle.conflicts.specs.State.{Text, is_own}
 use Rattle.conflicts.specs.declared.member.Member.{Member}
 use Rattle.conflicts.specs.declared.accept.Accept.{Accept}

@@ -1,7 +1,7 @@
 -- Documents that are on their way were made somewhere, what is left of a serving is lawful, and both stay so while
 -- histories grow.
 use Rattle.std.specs.Prelude.{◌≡◌, ◌⊎◌, true, false, cond, List, [], ◌∷◌, ◌++◌, Option, Some, None, IfSome, refl}
-use Rattle.std.proofs.Common.{sym, ◌∙◌, ap, subst, inl, inr}
+use Rattle.std.proofs.Common.{sym, ap, subst, inl, inr}
 use Rattle.u1_base.specs.Ids.{same_id}
 use Rattle.u1_base.proofs.SameIds.{same_id_is, same_id-itself}
 use Rattle.vector_rev.specs.Counts.{Uid}

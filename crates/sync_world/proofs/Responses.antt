@@ -11,7 +11,7 @@ use Rattle.translog.specs.Log.{fits_log}
 use Rattle.translog.specs.Source.{passes}
 use Rattle.translog.specs.declared.entry.Change.{Change}
 use Rattle.conflicts.specs.Lists.{In}
-use Rattle.conflicts.specs.Document.{Document, current_member, document_of}
+use Rattle.conflicts.specs.Document.{current_member}
 use Rattle.conflicts.specs.Laws.{TakesOf}
 use Rattle.conflicts.specs.State.{Text, State, Step, Moved, after, after_all, position_kept, state_of}
 use Rattle.conflicts.specs.Writing.{kept_place, move_step, next_trans, take_step}
@@ -25,7 +25,7 @@ use Rattle.conflicts.proofs.States.{goes_on}
 use Rattle.conflicts.proofs.WellFormed.{document_of-IsDocument}
 use Rattle.sync_stream.specs.Came.{Whole}
 use Rattle.sync_stream.specs.Messages.{Asks}
-use Rattle.sync_stream.specs.Replies.{Reply, Keeps, LogCheck, NotFound}
+use Rattle.sync_stream.specs.Replies.{Keeps, LogCheck, NotFound}
 use Rattle.sync_stream.specs.Requests.{Question, ForInfo, ToKeep, ToExchange, purpose_of}
 use Rattle.sync_stream.specs.Serving.{Held, Response, asked, exchanged, held_after, is_held, passing, refused, sent}
 use Rattle.sync_stream.specs.Serving.{sent_if, serve, steps_for, steps_to, taken_of}
@@ -34,7 +34,7 @@ use Rattle.lineage.specs.Lineage.{Was}
 use Rattle.lineage.specs.Histories.{Histories, Descends, Lawful, lines, seen, stepped}
 use Rattle.lineage.proofs.Descended.{grows}
 use Rattle.lineage.proofs.Lawful.{current_was, taken_lawful}
-use Rattle.sync_world.proofs.Made.{DocWas, DocsWere, QuestionWas, ReplyWas, Responds, accepted_lawful, docs-more}
+use Rattle.sync_world.proofs.Made.{DocWas, DocsWere, QuestionWas, Responds, accepted_lawful, docs-more}
 use Rattle.sync_world.proofs.Made.{keeps-stepped, quiet, stepped-own}
 
 -- ---- one document that is taken, and one place that moves

@@ -1,5 +1,5 @@
 -- After every list of steps histories descend, and all that is on its way was made.
-use Rattle.std.specs.Prelude.{◌≡◌, ◌⊎◌, ℕ, true, false, cond, List, [], ◌∷◌, ◌++◌, length, Option, Some, None, IfSome}
+use Rattle.std.specs.Prelude.{◌≡◌, ℕ, true, false, cond, List, [], ◌∷◌, ◌++◌, length, Option, Some, None, IfSome}
 use Rattle.std.specs.Prelude.{refl}
 use Rattle.std.specs.List.{slice_get}
 use Rattle.std.proofs.Common.{sym, ◌∙◌, ap, subst, inl, inr, append-nil}
@@ -13,10 +13,10 @@ use Rattle.conflicts.proofs.Members.{In-either}
 use Rattle.sync_stream.specs.Messages.{Asks}
 use Rattle.sync_stream.specs.Replies as reply
 use Rattle.sync_stream.specs.Requests.{ForInfo, purpose_of}
-use Rattle.sync_stream.specs.Serving.{Response, serve}
+use Rattle.sync_stream.specs.Serving.{serve}
 use Rattle.lineage.specs.Histories.{Histories, Descends, Lawful, stepped}
 use Rattle.lineage.proofs.Descended as descended
-use Rattle.sync_world.specs.Source.{Session, Idle, AwaitsInfo, Letter, Turn, goes, asks, hears, makes}
+use Rattle.sync_world.specs.Source.{Idle, AwaitsInfo, Letter, Turn, goes, asks, hears, makes}
 use Rattle.sync_world.specs.World.{World, WorldStep, Sent, Serving, Replica, Local, Ask, Reach, Apply, Reply, Send}
 use Rattle.sync_world.specs.World.{Take}
 use Rattle.sync_world.specs.World.{Settle, Finish, BreakSession, BreakServing, Stop, after, after_all, applied, applies}

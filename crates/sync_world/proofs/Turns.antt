@@ -1,30 +1,25 @@
 -- What a replica does by itself is lawful, and sends what was made.
-use Rattle.std.specs.Prelude.{◌≡◌, ◌⊎◌, ◌==◌, ℕ, ◌+◌, true, false, not, cond, if◌then◌else◌, List, [], ◌∷◌, length}
+use Rattle.std.specs.Prelude.{◌≡◌, ◌⊎◌, ◌==◌, ℕ, ◌+◌, true, false, not, if◌then◌else◌, List, [], ◌∷◌, length}
 use Rattle.std.specs.Prelude.{Option, Some, None, IfSome, Result, Ok, Err, IfOk, refl}
 use Rattle.std.proofs.Common.{inl, inr}
 use Rattle.u1_base.specs.Ids.{same_id}
-use Rattle.u1_base.specs.Places.{Place, same_place}
-use Rattle.vector_rev.specs.Clock.{Clock}
+use Rattle.u1_base.specs.Places.{same_place}
 use Rattle.vector_rev.specs.Counts.{Uid}
 use Rattle.translog.specs.Entries.{changes_since}
 use Rattle.translog.specs.Log.{end_of, fits_log}
 use Rattle.translog.specs.Source.{passes}
-use Rattle.conflicts.specs.Lists.{In}
-use Rattle.conflicts.specs.Document.{document_of}
 use Rattle.conflicts.specs.Laws.{MakesOf}
 use Rattle.conflicts.specs.Making.{deleted, edited, resolved}
 use Rattle.conflicts.specs.State.{Text, State, Step, IndexCreated, IndexDeleted, state_of}
-use Rattle.conflicts.specs.Writing.{Decided, Answers, Refuses, accept_made, create_over, delete_over, kept_place}
+use Rattle.conflicts.specs.Writing.{Answers, Refuses, accept_made, create_over, delete_over, kept_place}
 use Rattle.conflicts.specs.Writing.{move_step, next_trans, same_exprs, step_in, take_answers, take_step}
 use Rattle.conflicts.specs.declared.accept.Accept.{Accept}
-use Rattle.conflicts.specs.declared.moves.Move.{Move}
 use Rattle.conflicts.proofs.Makings.{deleted_makes, edited_makes, resolved_makes}
 use Rattle.conflicts.proofs.WellFormed.{document_of-IsDocument}
 use Rattle.sync_http.specs.declared.info.Info.{Info}
 use Rattle.sync_stream.specs.Replies as reply
 use Rattle.sync_stream.specs.Requests.{Question, ToKeep}
 use Rattle.sync_stream.specs.Serving.{taken_of}
-use Rattle.sync_stream.specs.declared.line.SyncDoc.{SyncDoc}
 use Rattle.sync_phases.specs.Phases.{by_info, count_of, has_all, if_same, is_level, known_of, known_to, mine_of}
 use Rattle.sync_phases.specs.Phases.{posted_to}
 use Rattle.sync_phases.specs.declared.fault.SyncFault.{SyncFault}
@@ -32,12 +27,12 @@ use Rattle.sync_phases.specs.declared.fault.SyncFault.TheVariants.{Broken, LogCh
 use Rattle.lineage.specs.Histories.{Histories, Descends, Lawful, seen}
 use Rattle.lineage.proofs.Lawful.{made_lawful}
 use Rattle.sync_world.specs.Source.{Session, Idle, AwaitsInfo, HasInfo, AwaitsReturned, Taking, Settled, AwaitsKept}
-use Rattle.sync_world.specs.Source.{Complete, Turn, Letter, goes, makes, asks, posts, unless_fault, takes_by}
+use Rattle.sync_world.specs.Source.{Complete, Turn, goes, makes, asks, posts, unless_fault, takes_by}
 use Rattle.sync_world.specs.Source.{settles_by}
 use Rattle.sync_world.specs.Source.{finishes_by, send_turn, take_turn, settle_turn, finish_turn, info_in, returned_in}
 use Rattle.sync_world.specs.Source.{kept_in, hears}
 use Rattle.sync_world.specs.World.{Command, Put, Delete, Resolve, CreateIndex, DeleteIndex, command_step}
-use Rattle.sync_world.proofs.Made.{DocsWere, QuestionWas, ReplyWas, SessionWas, accepted_lawful, quiet}
+use Rattle.sync_world.proofs.Made.{QuestionWas, ReplyWas, SessionWas, accepted_lawful, quiet}
 use Rattle.sync_world.proofs.Responses.{move_lawful, sent_were, take_lawful}
 
 -- ---- what holds of a turn

@@ -16,7 +16,7 @@ use Rattle.sync_stream.specs.Replies.{Returns, Refuses, LogCheck}
 use Rattle.sync_stream.specs.Requests.{ToExchange}
 use Rattle.sync_stream.specs.Serving.{Response}
 use Rattle.sync_stream.specs.declared.line.SyncDoc.{SyncDoc}
-use Rattle.sync_world.specs.Source.{Session, Idle, Taking, Complete}
+use Rattle.sync_world.specs.Source.{Idle, Taking, Complete}
 use Rattle.sync_world.specs.World.{World, WorldStep, Sent, Serving, Ask, Reach, Apply, Reply, Send, Take, Settle}
 use Rattle.sync_world.specs.World.{Finish}
 use Rattle.sync_world.specs.World.{BreakSession, Local, Put, after_all, histories}

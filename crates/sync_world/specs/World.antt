@@ -1,7 +1,7 @@
 -- A world of replicas: what each one holds, the requests that were ever sent, and what one step changes. A step that
 -- cannot be made changes nothing. So every list of steps is one that may happen: requests and replies are lost, come
 -- again or late, and sessions, servings and replicas stop at any moment.
-use Rattle.std.specs.Prelude.{ℕ, cond, List, [], ◌∷◌, ◌++◌, length, option_to_list, Option, Some, None}
+use Rattle.std.specs.Prelude.{ℕ, cond, List, [], ◌∷◌, ◌++◌, length, Option, Some, None}
 use Rattle.std.specs.List.{slice_get}
 use Rattle.u1_base.specs.Ids.{same_id}
 use Rattle.content.specs.Tree.{Tree}
