@@ -5,7 +5,7 @@ use vector_rev::{Clock, Clocks};
 
 /// One command. Expressions and query values stand as they were given; whoever runs the command
 /// reads them.
-#[derive(Debug, Drop)]
+#[derive(Drop)]
 pub enum Command {
     /// Makes a store. The limit is the greatest length of its image, in bytes.
     Init {
@@ -31,7 +31,7 @@ pub enum Command {
 }
 
 /// A command that shows something.
-#[derive(Debug, Drop)]
+#[derive(Drop)]
 pub enum Show {
     /// A document; a deleted one too, if that is asked.
     Get {
@@ -72,7 +72,7 @@ pub enum Show {
 }
 
 /// A command that makes a step.
-#[derive(Debug, Drop)]
+#[derive(Drop)]
 pub enum Edit {
     /// Creates a document from the input.
     Create { id: Option<DocId> },
@@ -91,7 +91,7 @@ pub enum Edit {
 }
 
 /// A command that meets other replicas, or clients.
-#[derive(Debug, Drop)]
+#[derive(Drop)]
 pub enum Online {
     /// Synchronises with the database at an address.
     Sync {
@@ -118,7 +118,7 @@ pub enum Online {
 }
 
 /// A command on a view.
-#[derive(Debug, Drop)]
+#[derive(Drop)]
 pub enum View {
     /// Makes it.
     Create {

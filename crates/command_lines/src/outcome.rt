@@ -12,7 +12,7 @@ use u1_base::{Memory, Position};
 use vector_rev::Clock;
 
 /// How a run ends.
-#[derive(Debug, PartialEq, Eq, Drop)]
+#[derive(PartialEq, Eq, Drop)]
 pub enum Outcome {
     Done,
     /// The words are no command.
@@ -40,7 +40,7 @@ pub enum Outcome {
 }
 
 /// What is wrong with the words.
-#[derive(Clone, Copy, Debug, PartialEq, Eq)]
+#[derive(Clone, Copy, PartialEq, Eq)]
 pub enum UsageKind {
     /// They are not the words of a command.
     Words,
@@ -49,7 +49,7 @@ pub enum UsageKind {
 }
 
 /// Why a command is refused.
-#[derive(Debug, PartialEq, Eq, Drop)]
+#[derive(PartialEq, Eq, Drop)]
 pub enum Refusal {
     NoDatabase,
     DatabaseExists,

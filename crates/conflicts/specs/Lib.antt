@@ -10,7 +10,7 @@ pub mod Walk
 pub mod Names
 pub mod State
 pub mod Writing
-pub mod Paired
 pub mod Laws
 pub mod Acceptances
 pub mod Receipts
+pub mod inner

@@ -4,4 +4,4 @@ pub mod Joint
 pub mod Moments
 pub mod Disks
 pub mod Laws
-pub mod RootLast
+pub mod inner

@@ -37,7 +37,7 @@ pub enum CompactFault {
 }
 
 /// The lengths of an image before it was compacted and after it, in bytes.
-#[derive(Clone, Copy, Debug, PartialEq, Eq)]
+#[derive(Clone, Copy, PartialEq, Eq)]
 pub struct Sizes {
     pub before: u64,
     pub after: u64,

@@ -2,14 +2,15 @@
 use Rattle.std.proofs.Common.{◌≡◌, ◌≢◌, ℕ, ◌+◌, ◌<◌, ◌≤◌, ◌⊎◌, inl, inr, ⊎_elim, false, List, [], ◌∷◌, ◌++◌, length}
 use Rattle.std.proofs.Common.{get_or, set, take, drop, sym, ◌∙◌, ap, subst, arith, length-append, length-take}
 use Rattle.std.proofs.Common.{length-set, get_or-set_same, get_or-set_other}
-use Rattle.std.proofs.lemmas.List.{ext_get_or, get_or-take, take_at, drop_at, take-append-drop, append-nil, append_assoc, drop-drop}
+use Rattle.std.proofs.lemmas.List.{ext_get_or, get_or-take, take_at, drop_at, take-append-drop, append-nil}
+use Rattle.std.proofs.lemmas.List.{append_assoc, drop-drop}
 use Rattle.std.proofs.lemmas.List.{set_at}
 use Rattle.std.proofs.lemmas.Bool.{cases_eq}
 use Rattle.std.proofs.lemmas.Bool.Decides.{nat_tests}
 use Rattle.disk_model.specs.Disk.{Torn, is_touched, overwritten}
 use Rattle.journal.specs.Image.{Head, AreBodies, ReadsAs, ReadsWithOrWithoutAll, IsBody, body_field, entries, entry}
 use Rattle.journal.specs.Image.{up_to_gate}
-use Rattle.journal.specs.Adding.{IsAdding}
+use Rattle.journal.specs.inner.Adding.{IsAdding}
 use Rattle.journal.proofs.Entries.{AreBodies-append, up_to_gate-append}
 
 outside : (at n k : ℕ) → (k < at) ⊎ (at + n ≤ k) → is_touched ((at, n) ∷ []) k ≡ false

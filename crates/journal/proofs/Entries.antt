@@ -6,7 +6,7 @@ use Rattle.journal.specs.Image.{Head, IsHeader, ReadsAs, AreBodies, IsBody, body
 use Rattle.journal.specs.Image.{header_bytes}
 use Rattle.journal.specs.Damage.{Begins, DamagedAt, IsField}
 use Rattle.journal.specs.Damage.Part.{Gate, Body}
-use Rattle.journal.specs.Fields.{IsAt, Reached, BreaksAt, NoBody}
+use Rattle.journal.specs.inner.Fields.{IsAt, Reached, BreaksAt, NoBody}
 use Rattle.journal.proofs.Fields.{length-body_field}
 use Rattle.journal.proofs.Places.{at_start, advance, damaged}
 

@@ -6,7 +6,7 @@ use Rattle.disk_model.specs.Device.{Device, File, IsSettled, file_of}
 use Rattle.disk_model.specs.Disk.{overwritten}
 use Rattle.disk_model.specs.Moments.{LeavesOnly}
 use Rattle.disk_model.proofs.Runs.{weaker}
-use Rattle.journal.specs.Adding.{IsAdding}
+use Rattle.journal.specs.inner.Adding.{IsAdding}
 use Rattle.journal.specs.Image.{Head, IsBody, ReadsWithOrWithoutAll, body_field, entries, entry, up_to_gate}
 use Rattle.journal.specs.Journal.{Extent, Holds}
 use Rattle.journal.specs.Entries.{AreSpelled, LeavesAllOrNone, extended}

@@ -5,9 +5,7 @@ pub mod Entries
 pub mod Reader
 pub mod Opening
 pub mod Faults
-pub mod Fields
-pub mod Adding
-pub mod Restarting
 pub mod Spelled
 pub mod Stored
 pub mod Passing
+pub mod inner

@@ -5,7 +5,7 @@ ghost use Rattle.disk_model.specs.Disk.{overwritten};
 ghost use Rattle.disk_model.specs.Device.{IsSettled, file_of};
 ghost use Rattle.disk_model.specs.Moments.{LeavesOnly};
 ghost use Rattle.disk_model.specs.Counts.{MakesCalls};
-ghost use Rattle.journal.specs.Adding.{IsAdding};
+ghost use Rattle.journal.specs.inner.Adding.{IsAdding};
 
 use crate::NewEntries;
 use crate::layout::{BEFORE_BODY_BYTES, OPEN_GATE};
@@ -50,7 +50,7 @@ impl Error for AppendFault {}
 
 /// The journal of an image: its length, up to and with the closed gate, and its limit, both in
 /// bytes.
-#[derive(Debug, Drop)]
+#[derive(Drop)]
 pub struct Journal {
     length: u64,
     limit: u64,

@@ -13,7 +13,7 @@ use u1_base::Memory;
 ///
 /// `Journal::stage` adds a body to them, and `Journal::append_all` adds all of them to an image, for
 /// which it needs no memory.
-#[derive(Debug, Drop)]
+#[derive(Drop)]
 pub struct NewEntries {
     bytes: Vec<u8>,
 }

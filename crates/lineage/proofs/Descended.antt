@@ -18,7 +18,8 @@ use Rattle.conflicts.proofs.Members.{from_map}
 use Rattle.conflicts.proofs.Pruned.{from_undominated}
 use Rattle.conflicts.proofs.States.{flat_map-push}
 use Rattle.conflicts.proofs.WellFormed.{document_of-IsDocument}
-use Rattle.lineage.specs.Lineage.{Makes, Parent, Ancestor, parent, earlier, Leads, Was, Lineage, grown}
+use Rattle.lineage.specs.Lineage.{Makes, Parent, Ancestor, parent, earlier, Was, Lineage}
+use Rattle.lineage.specs.inner.Lineage.{Leads, grown}
 use Rattle.lineage.specs.Histories.{Histories, Lawful, Descends, Ancestry, Cover, lines, seen, stepped}
 use Rattle.lineage.proofs.Descent.{covers_leads, ancestor_above, one_making, one_content}
 use Rattle.lineage.proofs.Growing.{after_arrival, after_making}

@@ -12,7 +12,8 @@ use Rattle.conflicts.specs.Lists.{In}
 use Rattle.conflicts.specs.State.{is_own}
 use Rattle.conflicts.specs.declared.member.Member.{Member}
 use Rattle.conflicts.specs.declared.accept.Accept.{Accept}
-use Rattle.lineage.specs.Lineage.{Lines, Makes, Parent, Ancestor, parent, earlier, Leads, Was}
+use Rattle.lineage.specs.Lineage.{Lines, Makes, Parent, Ancestor, parent, earlier, Was}
+use Rattle.lineage.specs.inner.Lineage.{Leads}
 use Rattle.lineage.specs.Lineage.{Rising, Lineage}
 
 pub same_or_other : (u v : Uid) → (u ≡ v) ⊎ (u ≢ v)

@@ -14,7 +14,8 @@ use Rattle.conflicts.specs.State.{is_own}
 use Rattle.conflicts.specs.declared.accept.Accept.{Accept}
 use Rattle.conflicts.proofs.Members.{In-left, In-push, In-last}
 use Rattle.conflicts.proofs.Documents.{accepted_covered}
-use Rattle.lineage.specs.Lineage.{Lines, Makes, Parent, Ancestor, parent, Leads, Was, grown, Arrives}
+use Rattle.lineage.specs.Lineage.{Lines, Makes, Parent, Ancestor, parent, Was, Arrives}
+use Rattle.lineage.specs.inner.Lineage.{Leads, grown}
 use Rattle.lineage.specs.Lineage.{Begins, Rising, Lineage}
 use Rattle.lineage.proofs.Descent.{Ancestor-more, Was-more, Leads-Ancestor}
 use Rattle.lineage.proofs.Descent.{reaches, leads_own}

@@ -1,7 +1,6 @@
 -- One document over all replicas: what each of them accepted of it, which revision was made of which others, and the
 -- six facts that tie the clocks of the makings to their parents.
-use Rattle.std.specs.Prelude.{◌≡◌, ◌≢◌, ◌<◌, ◌≤◌, ◌⊎◌, true, false, cond, List, [], ◌∷◌, ◌++◌}
-use Rattle.u1_base.specs.Ids.{same_id}
+use Rattle.std.specs.Prelude.{◌≡◌, ◌≢◌, ◌<◌, ◌≤◌, true, false, List, [], ◌∷◌}
 use Rattle.vector_rev.specs.Counts.{Uid}
 use Rattle.vector_rev.specs.Clock.{Clock, count_of, dominates}
 use Rattle.conflicts.specs.Lists.{In}
@@ -33,10 +32,6 @@ pub data Ancestor (of : Lines) : Clock → Clock → Type 0 where
   parent : {r s : Clock} → Parent of r s → Ancestor of r s
   earlier : {r s t : Clock} → Parent of r s → Ancestor of s t → Ancestor of r t
 
--- r is s, or an ancestor of it
-abbrev pub Leads : Lines → Clock → Clock → Type 0
-Leads of r s = (r ≡ s) ⊎ Ancestor of r s
-
 -- some replica made the revision, with this content
 pub record Was (of : Lines) (m : Member) : Type 0 where
   pub maker : Uid
@@ -46,9 +41,6 @@ pub record Was (of : Lines) (m : Member) : Type 0 where
   pub content : accept.content ≡ m.content
 
 -- ---- one acceptance more
-
-abbrev pub grown : Lines → Uid → Accept → Lines
-grown of u a v = cond (same_id v u) (of v ++ a ∷ []) (of v)
 
 -- a revision that another replica handed over: it was made somewhere, with this content
 pub record Arrives (of : Lines) (a : Accept) : Type 0 where

@@ -16,8 +16,10 @@ use Rattle.replica_core.specs.Replica.{NeedsBehind, Stands, Stored, after_step, 
 use Rattle.conflicts.specs.Writing.{Answers, Decided, Refuses, step_in}
 use Rattle.replica_core.specs.Calls.{IfFailed, IsDone, is_disk_failure, may_have_written}
 use Rattle.replica_core.specs.Runs.{AllKept, AreMade, Continues, Ends, GoesOn, HaveEnded, HaveRun, IsOpenIf}
-use Rattle.replica_core.specs.Runs.{StandsAfterFirst, after_call, bare, bare_end, call_decides, call_failure}
-use Rattle.replica_core.specs.Runs.{call_fault, stays_open, step_of_call, steps_made, steps_written}
+use Rattle.replica_core.specs.Runs.{StandsAfterFirst, after_call, bare, call_decides, call_failure}
+use Rattle.replica_core.specs.inner.Runs.{bare_end}
+use Rattle.replica_core.specs.Runs.{stays_open, step_of_call, steps_made, steps_written}
+use Rattle.replica_core.specs.inner.Runs.{call_fault}
 use Rattle.replica_core.specs.declared.fault.CommitFault.{CommitFault}
 use Rattle.replica_core.specs.declared.fault.CommitFault.TheVariants as commit
 use Rattle.replica_core.specs.declared.list.Call.{Call}

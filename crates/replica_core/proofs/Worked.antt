@@ -24,7 +24,7 @@ use Rattle.conflicts.specs.declared.moves.Move.{Move}
 use Rattle.conflicts.specs.declared.moves.PosTable.TheVariants as table
 use Rattle.conflicts.specs.Writing.{Answers, Refuses}
 use Rattle.replica_core.specs.CallsDecide.{move_decides}
-use Rattle.conflicts.specs.Paired.{Paired}
+use Rattle.conflicts.specs.inner.Paired.{Paired}
 use Rattle.replica_core.specs.Runs.{steps_made, steps_written}
 use Rattle.replica_core.specs.declared.calls.receipts.TakeFault.TheVariants.{LogCheck}
 use Rattle.replica_core.specs.declared.list.Call.{Call}

@@ -7,3 +7,4 @@ pub mod CallsChecks
 pub mod Runs
 pub mod Staging
 pub mod Commands
+pub mod inner

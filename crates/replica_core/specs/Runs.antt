@@ -26,23 +26,11 @@ use Rattle.replica_core.specs.declared.list.CallFault.TheVariants.{Refused, Full
 
 -- ---- one call of a list
 
--- a fault of a call, without what it says of its refusal
-abbrev pub call_fault : Option CommitFault → CallFault
-call_fault None = Refused
-call_fault (Some (commit.Full need limit)) = Full need limit
-call_fault (Some commit.Disk) = Disk
-call_fault (Some commit.Memory) = Memory
-
 abbrev pub call_failure : CallFault → Option CommitFault
 call_failure Refused = None
 call_failure (Full need limit) = Some (commit.Full need limit)
 call_failure Disk = Some commit.Disk
 call_failure Memory = Some commit.Memory
-
--- an end without what the call answered
-abbrev pub bare_end : {A F : Type 0} → (F → Option CommitFault) → Result A F → Result (Unit {0}) CallFault
-bare_end failure (Ok answer) = Ok tt
-bare_end failure (Err fault) = Err (call_fault (failure fault))
 
 -- the replica is open after it
 abbrev pub stays_open : Result (Unit {0}) CallFault → Bool

@@ -7,8 +7,10 @@ ghost use Rattle.replica_core.specs.Calls.{IsDone};
 ghost use Rattle.replica_core.specs.CallsDecide.{create_decides};
 ghost use Rattle.replica_core.specs.CallsFaults.{index_failure, put_failure, resolve_failure};
 ghost use Rattle.replica_core.specs.CallsFaults.{take_failure};
-ghost use Rattle.replica_core.specs.Runs.{GoesOn, HaveRun, bare, bare_end, call_decides};
-ghost use Rattle.replica_core.specs.Runs.{call_failure, call_fault, stays_open};
+ghost use Rattle.replica_core.specs.Runs.{GoesOn, HaveRun, bare, call_decides};
+ghost use Rattle.replica_core.specs.inner.Runs.{bare_end};
+ghost use Rattle.replica_core.specs.Runs.{call_failure, stays_open};
+ghost use Rattle.replica_core.specs.inner.Runs.{call_fault};
 
 use crate::{
     CommitFault, IndexFault, PutFault, Replica, ResolveDocFault, TakeFault, create_index,

@@ -24,14 +24,15 @@ use Rattle.replica_core.specs.Replica.{Stored, is_disk, stored_as, stored_in}
 use Rattle.replica_core.specs.Replica.Found.{Stands}
 use Rattle.replica_core.specs.declared.fault.CommitFault.{CommitFault}
 use Rattle.replica_core.specs.declared.fault.CommitFault.TheVariants as commit
-use Rattle.replica_volume.specs.Committing.{Commits, IsAsBefore, Takes, fault_adding, opened_behind}
+use Rattle.replica_volume.specs.inner.Committing.{Commits, IsAsBefore, Takes, fault_adding, opened_behind}
 use Rattle.replica_volume.specs.Keeping.{LeavesOldOrMore}
 use Rattle.replica_volume.specs.Settled.{opens_its_state, opens_kept}
 use Rattle.replica_volume.specs.Staging.{IsStagedVolume, KeepsStaged, StagesSteps}
 use Rattle.replica_volume.specs.Steps.{steps_of}
 use Rattle.replica_volume.specs.Volume.{IsOpenVolume, KeepsHistory, devices, volume_crash, volume_known}
 use Rattle.replica_volume.specs.declared.replica.Volume.{Volume}
-use Rattle.replica_volume.proofs.Commits.{append_holds, append_keeps, append_leaves, append_opens, keeps_more, needs_more}
+use Rattle.replica_volume.proofs.Commits.{append_holds, append_keeps, append_leaves, append_opens, keeps_more}
+use Rattle.replica_volume.proofs.Commits.{needs_more}
 use Rattle.replica_volume.proofs.Commits.{needs_same, no_call_adds, no_call_leaves, run_adds, same_store, stages_more}
 use Rattle.replica_volume.proofs.Commits.{still_held}
 

@@ -40,14 +40,16 @@ use Rattle.volume.specs.Store.{IsStore, found_of}
 use Rattle.volume.specs.Store.FoundImages.{Stands as StandingImage}
 use Rattle.volume.proofs.Opens.{still_stands}
 use Rattle.volume.proofs.Standing.{store_stands}
-use Rattle.replica_volume.specs.Compacting.{AreKept, AreKeptSoFar, AreThose, Compacts, HoldOldOrCompacted, IsCompacted}
-use Rattle.replica_volume.specs.Compacting.{IsLeftAlone, IsOneKept, IsWrittenAnew, KeepsAll, KeepsOne, KeepsSteps}
+use Rattle.replica_volume.specs.Compacting.{Compacts, HoldOldOrCompacted, IsCompacted}
+use Rattle.replica_volume.specs.inner.Compacting.{AreKept, AreKeptSoFar, AreThose}
+use Rattle.replica_volume.specs.inner.Compacting.{IsLeftAlone, IsOneKept, IsWrittenAnew, KeepsAll, KeepsOne, KeepsSteps}
 use Rattle.replica_volume.specs.Compacting.{LeavesOldOrCompacted, LeavesStored}
-use Rattle.replica_volume.specs.Compacting.{WritesAnew, other_side, sizes_of}
+use Rattle.replica_volume.specs.Compacting.{other_side, sizes_of}
+use Rattle.replica_volume.specs.inner.Compacting.{WritesAnew}
 use Rattle.disks.specs.Faults.{fault_reading}
 use Rattle.replica_volume.specs.Faults.{fault_compacting}
-use Rattle.replica_volume.specs.Placing.{IsSpelled, LeavesOldOrSpelled, StandsWith}
-use Rattle.replica_volume.specs.Replaying.{DecodesAt, IsBadAt}
+use Rattle.replica_volume.specs.inner.Placing.{IsSpelled, LeavesOldOrSpelled, StandsWith}
+use Rattle.replica_volume.specs.inner.Replaying.{DecodesAt, IsBadAt}
 use Rattle.replica_volume.specs.Settled.{stored_is}
 use Rattle.replica_volume.specs.Steps.{Chronicle, body_in, state_at, steps_of}
 use Rattle.replica_volume.specs.Store.{holds_steps, opened_as, opens_as, store_of, with_steps}

@@ -18,8 +18,8 @@ use Rattle.disks.specs.declared.fault.OpenFault.{OpenFault}
 use Rattle.disks.specs.declared.fault.OpenFault.TheVariants as fault
 use Rattle.replica_volume.specs.Faults.{fault_placing}
 use Rattle.replica_volume.specs.Opening.{IsFormer, IsOpenedFrom, OpensVolume}
-use Rattle.replica_volume.specs.Replaying.{AreMade, IsBadAt, ReplaysOn}
-use Rattle.replica_volume.specs.Placing.{SaysSteps, StandsWith}
+use Rattle.replica_volume.specs.inner.Replaying.{AreMade, IsBadAt, ReplaysOn}
+use Rattle.replica_volume.specs.inner.Placing.{SaysSteps, StandsWith}
 use Rattle.replica_volume.specs.Steps.{steps_of}
 use Rattle.replica_volume.specs.Store.{holds_steps, store_of, with_steps}
 use Rattle.replica_volume.specs.Store.StoreFound.{Damaged, Holds}

@@ -1,4 +1,3 @@
--- Opening a store: what is answered, and what a crash on the way leaves. The last word of this file is private.
 use Rattle.std.specs.Prelude.{◌≡◌, ◌⊎◌, ℕ, List, Result, Ok, Err}
 use Rattle.conflicts.specs.State.{History}
 use Rattle.disks.specs.declared.name.DiskName.{DiskName}
@@ -56,8 +55,3 @@ LeavesOldOrMoved old new =
 -- so it leaves what opens as after a crash at the start
 abbrev pub LeavesAsBefore : Devices → Devices → Type 0
 LeavesAsBefore old new = LeavesTogether old new (λ files. MayOpenAs (now_of old.files) (opens_as files))
-
--- private: a crash on the way leaves what stood at the start, or the same, moved to format 2
-abbrev pub LeavesSameOrMoved : Devices → Devices → Type 0
-LeavesSameOrMoved old new =
-    LeavesTogether old new (λ files. IsSameOrMoved (found_of (seen_of old.files)) (found_of files))

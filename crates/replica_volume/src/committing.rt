@@ -7,8 +7,9 @@ ghost use Rattle.replica_state.specs.Prepared.{IsPartsOf, IsReady};
 ghost use Rattle.replica_state.specs.Steps.{step_of};
 ghost use Rattle.conflicts.specs.State.{after};
 ghost use Rattle.replica_state.specs.declared.step.Step.{Step as Held};
-ghost use Rattle.replica_volume.specs.Committing.{CanTake, HoldsStep, IsAsBefore, IsOfStep, IsSpelled};
-ghost use Rattle.replica_volume.specs.Committing.{WritesStep, fault_adding, opened_behind};
+ghost use Rattle.replica_volume.specs.inner.Committing.{CanTake, HoldsStep, IsAsBefore, IsOfStep};
+ghost use Rattle.replica_volume.specs.inner.Committing.{IsSpelled};
+ghost use Rattle.replica_volume.specs.inner.Committing.{WritesStep, fault_adding, opened_behind};
 ghost use Rattle.replica_volume.specs.Volume.{IsOpenVolume};
 
 use crate::Volume;
@@ -28,7 +29,8 @@ struct Ready {
 }
 
 impl<D: Disk> Replica for Volume<D> {
-    ghost use Rattle.std.specs.Prelude.{◌≡◌, ◌≢◌, ◌<◌, ◌≤◌, [], ◌∷◌, ◌++◌, Err, IfErr, IsOk, IsTrue};
+    ghost use Rattle.std.specs.Prelude.{◌≡◌, ◌≢◌, ◌<◌, ◌≤◌, [], ◌∷◌, ◌++◌, Err, IfErr, IsOk};
+    ghost use Rattle.std.specs.Prelude.{IsTrue};
     ghost use Rattle.std.specs.Prelude.{OnErr, OnOk, Some};
     ghost use Rattle.std.specs.Result.{IsErrAnd};
     ghost use Rattle.conflicts.specs.State.{Fits, History, after};

@@ -12,10 +12,13 @@ ghost use Rattle.replica_core.specs.Replica.{NeedsBehind, stored_in};
 ghost use Rattle.replica_state.specs.Held.{meaning};
 ghost use Rattle.replica_state.specs.Steps.{step_of};
 ghost use Rattle.volume.specs.Crashes.{OnlyLooks};
-ghost use Rattle.replica_volume.specs.Compacting.{AreKeptSoFar, Compacts, KeepsAll, KeepsOne};
-ghost use Rattle.replica_volume.specs.Compacting.{KeepsSteps, LeavesOldOrCompacted};
-ghost use Rattle.replica_volume.specs.Compacting.{LeavesStored, StaysOpen, WritesAnew, sizes_of};
-ghost use Rattle.replica_volume.specs.Placing.{IsSpelled};
+ghost use Rattle.replica_volume.specs.Compacting.{Compacts};
+ghost use Rattle.replica_volume.specs.inner.Compacting.{AreKeptSoFar, KeepsAll, KeepsOne};
+ghost use Rattle.replica_volume.specs.Compacting.{LeavesOldOrCompacted};
+ghost use Rattle.replica_volume.specs.inner.Compacting.{KeepsSteps};
+ghost use Rattle.replica_volume.specs.Compacting.{LeavesStored, StaysOpen, sizes_of};
+ghost use Rattle.replica_volume.specs.inner.Compacting.{WritesAnew};
+ghost use Rattle.replica_volume.specs.inner.Placing.{IsSpelled};
 ghost use Rattle.replica_volume.specs.Volume.{IsOpenVolume, devices, volume_known};
 
 use crate::Volume;

@@ -7,7 +7,7 @@ ghost use Rattle.disks.specs.Joint.{seen_of};
 ghost use Rattle.volume.specs.Crashes.{OnlyLooks};
 ghost use Rattle.replica_volume.specs.Opening.{IsFormer, IsLeft, LeavesAsBefore};
 ghost use Rattle.replica_volume.specs.Opening.{LeavesOldOrMoved, OpensVolume};
-ghost use Rattle.replica_volume.specs.Replaying.{ReplaysOn};
+ghost use Rattle.replica_volume.specs.inner.Replaying.{ReplaysOn};
 ghost use Rattle.replica_volume.specs.Volume.{IsOpenVolume, disks_in, fault_in};
 
 use crate::Volume;

@@ -5,7 +5,7 @@ ghost use Rattle.compaction.specs.Images.{image_of};
 ghost use Rattle.conflicts.specs.State.{History};
 ghost use Rattle.disks.specs.Disks.{disks_known};
 ghost use Rattle.volume.specs.Store.{StandsOnOther};
-ghost use Rattle.replica_volume.specs.Placing.{IsSpelled, LeavesOldOrSpelled, StandsWith};
+ghost use Rattle.replica_volume.specs.inner.Placing.{IsSpelled, LeavesOldOrSpelled, StandsWith};
 
 use compaction::Spelled;
 use disk_model::{Disk, DiskFailed};
@@ -25,7 +25,7 @@ pub(crate) struct Standing {
 }
 
 /// Why an image was not put in place.
-#[derive(Clone, Copy, Debug, PartialEq, Eq)]
+#[derive(Clone, Copy, PartialEq, Eq)]
 pub(crate) enum PlaceFault {
     Disk,
     Memory,

@@ -44,7 +44,7 @@ use Rattle.replica_state.specs.Held.{Held, Lists, lists_of, meaning, meaning_of}
 use Rattle.replica_state.specs.Keyed.{Docs, keyed}
 use Rattle.store_commands.proofs.Called.{index_ends, put_ends, resolve_ends}
 use Rattle.store_commands.specs.Answer.{Occasion, answer, is_opened, opens, opens_for}
-use Rattle.store_commands.specs.Calls.{EndsSo}
+use Rattle.store_commands.specs.inner.Calls.{EndsSo}
 use Rattle.store_commands.specs.Deeds.{Answer, go_on, over_replica}
 use Rattle.store_commands.specs.Found.{Blank, Damaged, Found, HasLists, IsTold, Stands, Store, in_short}
 use Rattle.store_commands.specs.Leaves.{Leaves}

@@ -25,7 +25,7 @@ use Rattle.command_lines.specs.declared.put.PrintFault.{PrintFault}
 use Rattle.command_lines.specs.declared.outcome.Outcome.{Outcome}
 use Rattle.command_lines.specs.declared.outcome.Outcome.TheVariants.{Refused, StoreFull, DiskFault}
 use Rattle.command_lines.specs.declared.outcome.Outcome.TheVariants as outcome
-use Rattle.store_commands.specs.Calls.{EndsSo}
+use Rattle.store_commands.specs.inner.Calls.{EndsSo}
 use Rattle.store_commands.specs.Carries.{Carries}
 use Rattle.store_commands.specs.Deeds.{ended, over_replica}
 use Rattle.store_commands.specs.Prints.{PutsPart}

@@ -20,7 +20,8 @@ use Rattle.command_lines.specs.declared.outcome.Refusal.TheVariants.{DatabaseExi
 use Rattle.command_lines.specs.declared.outcome.UsageKind.TheVariants.{Words}
 use Rattle.store_commands.specs.Answer.{Occasion, answer, built, due_of, is_limit, is_opened, most_input, opens}
 use Rattle.store_commands.specs.Answer.{if_built, opens_for}
-use Rattle.store_commands.specs.Carries.{Answers, Carried, TellsMade}
+use Rattle.store_commands.specs.Carries.{Answers, Carried}
+use Rattle.store_commands.specs.inner.Carries.{TellsMade}
 use Rattle.store_commands.specs.Changes.{IsNeeded, Passes}
 use Rattle.store_commands.specs.Compacting.{Image}
 use Rattle.store_commands.specs.Deeds.{Answer, ended, go_on, init_answer, limit_given, uid_made}

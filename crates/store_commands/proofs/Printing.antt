@@ -19,7 +19,8 @@ use Rattle.command_lines.proofs.Endings.{IsOf, of_kind, other_kind}
 use Rattle.command_lines.specs.declared.outcome.Outcome.TheVariants.{Done, Memory, SinkFault}
 use Rattle.store_commands.specs.Carries.{Answers, AnswersBy}
 use Rattle.store_commands.specs.Deeds.{Answer}
-use Rattle.store_commands.specs.Prints.{Prints, PrintsFront, PutsFront, PutsPart, PutsWhole, done_text, outcome_of}
+use Rattle.store_commands.specs.Prints.{Prints, PrintsFront, PutsFront, PutsPart, done_text, outcome_of}
+use Rattle.store_commands.specs.inner.Prints.{PutsWhole}
 use Rattle.store_commands.specs.Prints.{printed}
 use Rattle.store_commands.proofs.Moving.{Rose-since}
 

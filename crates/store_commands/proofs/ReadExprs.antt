@@ -18,7 +18,8 @@ use Rattle.command_lines.proofs.Endings.{IsOf, of_kind}
 use Rattle.command_lines.specs.declared.outcome.Outcome.TheVariants.{Memory}
 use Rattle.store_commands.specs.Carries.{Carries}
 use Rattle.store_commands.specs.Deeds.{Answer, ended, go_on}
-use Rattle.store_commands.specs.Expressions.{AreRead, AreUnread, EndsBy, EndsFor, HaveRead, before_others, canonicals_in}
+use Rattle.store_commands.specs.Expressions.{AreUnread, HaveRead, before_others, canonicals_in}
+use Rattle.store_commands.specs.inner.Expressions.{AreRead, EndsBy, EndsFor}
 use Rattle.store_commands.proofs.Exits.{declined, starved}
 
 -- one text more

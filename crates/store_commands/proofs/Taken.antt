@@ -25,7 +25,8 @@ use Rattle.command_lines.specs.Endings.{LinkFailed, DoorFailed, OutOfMemory, end
 use Rattle.command_lines.proofs.Endings.{IsOf, of_kind, other_kind}
 use Rattle.command_lines.specs.declared.outcome.Outcome.TheVariants.{DiskFault, Memory, SourceFault}
 use Rattle.store_commands.specs.Answer.{exprs_given, most_input, reads_input, takes}
-use Rattle.store_commands.specs.Carries.{Answers, Carries, CarriesCompacting, InStore, TakesFor, TakesNone, found_open}
+use Rattle.store_commands.specs.Carries.{Answers, Carries, CarriesCompacting, InStore, found_open}
+use Rattle.store_commands.specs.inner.Carries.{TakesFor, TakesNone}
 use Rattle.store_commands.specs.Compacting.{Image}
 use Rattle.store_commands.specs.Deeds.{Answer, compacts_as, does, ended, go_on}
 use Rattle.store_commands.specs.Expressions.{HaveRead}

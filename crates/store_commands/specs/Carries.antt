@@ -4,17 +4,12 @@ use Rattle.u1_base.specs.Causes.{Rose}
 use Rattle.cli_words.specs.declared.command.Command.{Command}
 use Rattle.cli_words.specs.declared.command.Command.TheVariants.{Compact}
 use Rattle.conflicts.specs.State.{Text}
-use Rattle.content.specs.Tree.{Tree}
 use Rattle.link.specs.Streams.{Input, Output, Takes}
 use Rattle.replica_state.specs.Held.{Lists}
 use Rattle.replica_core.specs.Replica.{Found as Left, Known, Stored}
-use Rattle.vector_rev.specs.Counts.{Uid}
-use Rattle.command_lines.specs.Endings.{Ending, Finished, Answered, InputFailed, OutOfMemory, ending_of}
-use Rattle.command_lines.specs.Lines.{init_line}
-use Rattle.command_lines.specs.Outcomes.{make_end}
+use Rattle.command_lines.specs.Endings.{Ending, Finished, ending_of}
 use Rattle.command_lines.specs.declared.outcome.Outcome.{Outcome}
 use Rattle.command_lines.specs.declared.outcome.Outcome.TheVariants.{DiskFault}
-use Rattle.disks.specs.declared.fault.MakeFault.{MakeFault}
 use Rattle.disks.specs.declared.fault.Sizes.{Sizes}
 use Rattle.store_commands.specs.Answer.{due_of, exprs_given, most_input, reads_input, takes}
 use Rattle.store_commands.specs.Compacting.{ComesTo, Image}
@@ -24,7 +19,6 @@ use Rattle.store_commands.specs.Found.{Found, Stands, Store, opened_as, standing
 use Rattle.store_commands.specs.Leaves.{Does, IsRead}
 use Rattle.store_commands.specs.Prints.{PutsPart}
 use Rattle.store_commands.specs.Run.{Decides, LeavesUntouched, Seen}
-use Rattle.store_commands.specs.Store.{Makes}
 
 -- where it was decided as done the text was printed, else nothing yet
 abbrev pub AnswersBy : List ℕ → Output → Output → Outcome → Ending → Result (Unit {0}) Outcome → Type 0
@@ -68,21 +62,6 @@ pub record InStore (command : Command) (seed : ℕ) (stays : Type 0) (found : Fo
   pub is_read : IsRead (due_of (Ok lists) (reads_input command) given) read decided
   pub answers : Answers a.text out_before out_after decided result
 
--- a content was read, or why not
-abbrev pub TakesNone : Input → Input → Outcome → Ending → Type 0
-TakesNone before after outcome Answered =
-    (given : List ℕ) × Takes most_input given given before after × (takes true given ≡ Err outcome)
-TakesNone before after outcome InputFailed =
-    (given : List ℕ) × (read : List ℕ) × Takes most_input given read before after × Rose before.faults after.faults
-TakesNone before after outcome OutOfMemory =
-    (given : List ℕ) × (read : List ℕ) × Takes most_input given read before after
-TakesNone before after outcome _ = ⊥
-
-abbrev pub TakesFor : Input → Input → Result Tree Outcome → Type 0
-TakesFor before after (Ok tree) =
-    (given : List ℕ) × Takes most_input given given before after × (takes true given ≡ Ok tree)
-TakesFor before after (Err outcome) = TakesNone before after outcome (ending_of outcome)
-
 -- a command over an open replica, that answers this
 module _ {R : Type 0} (known : R → Known) (is_open : R → Type 0) (crash : R → ℕ → Left Stored → Type 0) where
   pub record Carries (a : Answer) (old new : R) (out_before out_after : Output)
@@ -104,14 +83,3 @@ module _ {O : Type 0} (known : O → Known) (is_open : O → Type 0) (crash : O 
     pub carries : Carries known is_open crash (compacts_as sizes) old new out_before out_after result
 
 -- ---- making a store
-
--- where the store was made that is printed, else nothing yet
-abbrev pub TellsMade : Text → Uid → Result (Unit {0}) MakeFault → Output → Output → Result (Unit {0}) Outcome → Type 0
-TellsMade name uid (Ok done) before after result = PutsPart (init_line name uid) before after result
-TellsMade name uid (Err fault) before after result = (result ≡ Err (make_end fault)) × (after ≡ before)
-
-pub record CarriesMaking (name : Text) (uid : Uid) (limit : ℕ) (before after : Store) (out_before out_after : Output)
-    (result : Result (Unit {0}) Outcome) : Type 0 where
-  pub made : Result (Unit {0}) MakeFault
-  pub makes : Makes name uid limit before after made
-  pub tells : TellsMade name uid made out_before out_after result

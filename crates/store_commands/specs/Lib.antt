@@ -10,6 +10,5 @@ pub mod Prints
 pub mod Run
 pub mod Complete
 pub mod Carries
-pub mod Calls
-pub mod Shown
 pub mod Memory
+pub mod inner

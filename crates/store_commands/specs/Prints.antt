@@ -6,7 +6,6 @@ use Rattle.link.specs.Streams.{AppendsFront, Output}
 use Rattle.command_lines.specs.Endings.{Ending, Finished, OutputFailed, OutOfMemory, ending_of}
 use Rattle.command_lines.specs.LastLines.{last_line}
 use Rattle.command_lines.specs.Puts.{Puts}
-use Rattle.command_lines.specs.declared.put.PrintFault.{PrintFault}
 use Rattle.command_lines.specs.declared.put.PrintFault.TheVariants as print
 use Rattle.command_lines.specs.declared.outcome.Outcome.{Outcome}
 use Rattle.command_lines.specs.declared.outcome.Outcome.TheVariants.{Done, SinkFault, Memory}
@@ -55,9 +54,3 @@ PutsPart text before after (Err outcome) = PutsFront text before after (ending_o
 abbrev pub outcome_of : Result (Unit {0}) Outcome → Outcome
 outcome_of (Ok done) = Done
 outcome_of (Err outcome) = outcome
-
--- the text was printed, and the output holds nothing back any more
-abbrev pub PutsWhole : List ℕ → Output → Output → Result (Unit {0}) PrintFault → Type 0
-PutsWhole text before after (Ok done) = PrintsWhole text before after
-PutsWhole text before after (Err print.Sink) = PrintsFront text before after × Rose before.faults after.faults
-PutsWhole text before after (Err print.Memory) = PrintsFront text before after

@@ -9,7 +9,8 @@ ghost use Rattle.replica_core.specs.Commands.Indexes.{index_create_effect};
 ghost use Rattle.replica_state.specs.Held.{lists_of};
 ghost use Rattle.store_commands.specs.Carries.{Carries};
 ghost use Rattle.store_commands.specs.Deeds.{go_on, over_replica};
-ghost use Rattle.store_commands.specs.Expressions.{AreRead, EndsFor, HaveRead, texts_read};
+ghost use Rattle.store_commands.specs.Expressions.{HaveRead};
+ghost use Rattle.store_commands.specs.inner.Expressions.{AreRead, EndsFor, texts_read};
 
 use crate::Ended;
 use command_lines::{Outcome, expression_end, print_index_made};

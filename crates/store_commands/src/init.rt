@@ -2,7 +2,8 @@
 ghost use Rattle.std.specs.Prelude.{◌≡◌, ◌≤◌, IfOk, Ok};
 ghost use Rattle.cli_words.specs.declared.command.Command.TheVariants as command;
 ghost use Rattle.link.specs.Streams.{Input};
-ghost use Rattle.store_commands.specs.Carries.{Carried, CarriesMaking, TellsMade};
+ghost use Rattle.store_commands.specs.Carries.{Carried};
+ghost use Rattle.store_commands.specs.inner.Carries.{CarriesMaking, TellsMade};
 ghost use Rattle.store_commands.specs.Answer.{built};
 ghost use Rattle.store_commands.specs.Deeds.{uid_made};
 ghost use Rattle.u1_base.specs.declared.limits.TheConstants.{GREATEST_IMAGE_LIMIT};

@@ -4,7 +4,8 @@ ghost use Rattle.command_lines.specs.LastLines.{last_line};
 ghost use Rattle.store_commands.specs.Complete.{RunsWhole};
 ghost use Rattle.command_lines.specs.Outcomes.{print_end};
 ghost use Rattle.command_lines.specs.declared.outcome.Outcome.TheVariants.{Memory};
-ghost use Rattle.store_commands.specs.Prints.{Prints, PutsWhole, outcome_of};
+ghost use Rattle.store_commands.specs.Prints.{Prints, outcome_of};
+ghost use Rattle.store_commands.specs.inner.Prints.{PutsWhole};
 
 use crate::carrying::carry_out;
 use crate::{Ended, Store};

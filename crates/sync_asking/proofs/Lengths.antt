@@ -1,5 +1,6 @@
 -- The head of a reply, in the bytes that were heard.
-use Rattle.std.proofs.Common.{◌≡◌, ℕ, ◌+◌, ◌≤◌, min, List, [], ◌++◌, length, Ok, IfSome, ap, ◌∙◌, sym, arith, length-append}
+use Rattle.std.proofs.Common.{◌≡◌, ℕ, ◌+◌, ◌≤◌, min, List, [], ◌++◌, length, Ok, IfSome, ap, ◌∙◌, sym, arith}
+use Rattle.std.proofs.Common.{length-append}
 use Rattle.std.proofs.Common.{refl, subst, append-nil}
 use Rattle.std.proofs.lemmas.List.{length-take}
 use Rattle.httparse.specs.Grammar.{print_response}
@@ -10,7 +11,8 @@ use Rattle.sync_http.specs.declared.heads.Heard.TheVariants.{Head, NotYet}
 use Rattle.sync_http.specs.declared.heads.ReplyHead.{ReplyHead}
 use Rattle.sync_link.specs.declared.asking.AskFault.{AskFault}
 use Rattle.sync_link.specs.declared.asking.AskFault.TheVariants as ask
-use Rattle.sync_asking.specs.Heard.{HasNoHead, ask_ends, found_of}
+use Rattle.sync_asking.specs.Heard.{HasNoHead, ask_ends}
+use Rattle.sync_asking.specs.inner.Heard.{found_of}
 
 within : (bytes : List ℕ) (head : ReplyHead) (n : ℕ) → SaysReply bytes (Ok head) n
     → (n ≤ length bytes) × (n ≤ MOST_HEAD_BYTES)

@@ -1,3 +1,4 @@
 pub mod Carried
 pub mod Lines
 pub mod Heard
+pub mod inner

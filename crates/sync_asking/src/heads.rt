@@ -1,11 +1,13 @@
 //! The head of a reply is heard.
-ghost use Rattle.std.specs.Prelude.{◌≡◌, ◌≢◌, ◌≤◌, [], Err, IfErr, IfOk, IfSome, List, Ok, OnOk, length, ℕ};
+ghost use Rattle.std.specs.Prelude.{◌≡◌, ◌≢◌, ◌≤◌, [], Err, IfErr, IfOk, IfSome, List, Ok, OnOk};
+ghost use Rattle.std.specs.Prelude.{length, ℕ};
 ghost use Rattle.std.specs.Io.KnownBytes.{Consumes};
 ghost use Rattle.u1_base.specs.Causes.{HasCauseOf};
 ghost use Rattle.sync_http.specs.Hearing.{SaysReply};
 ghost use Rattle.sync_link.specs.Links.{given_more};
 ghost use Rattle.sync_asking.specs.Carried.{IsGiven};
-ghost use Rattle.sync_asking.specs.Heard.{HasNoHead, SaysHead, ask_ends, found_of};
+ghost use Rattle.sync_asking.specs.Heard.{HasNoHead, ask_ends};
+ghost use Rattle.sync_asking.specs.inner.Heard.{SaysHead, found_of};
 
 use crate::hearing::{PIECE, hear};
 use sync_http::{Heard, ReplyHead, read_reply};
@@ -15,7 +17,7 @@ use u1_base::Bytes;
 use u1_base::limits::MOST_HEAD_BYTES;
 
 /// The head of a reply, and how many bytes it takes.
-#[derive(Clone, Copy, Debug, PartialEq, Eq)]
+#[derive(Clone, Copy, PartialEq, Eq)]
 pub struct Found {
     pub head: ReplyHead,
     pub length: u64,

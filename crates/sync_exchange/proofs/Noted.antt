@@ -12,7 +12,8 @@ use Rattle.conflicts.specs.State.{State, Text}
 use Rattle.conflicts.specs.declared.receipts.Outcome4.{Outcome4}
 use Rattle.conflicts.specs.declared.receipts.Outcome4.TheVariants.{Inserted, Superseded, Converged, Conflicted}
 use Rattle.sync_stream.specs.Serving.{Held, held_after, is_held}
-use Rattle.sync_exchange.specs.Seen.{SeesAs, held_at, is_seen, reaches}
+use Rattle.sync_exchange.specs.Seen.{SeesAs, is_seen, reaches}
+use Rattle.sync_exchange.specs.inner.Seen.{held_at}
 
 or_false : (b : Bool) → (b || false) ≡ b
 or_false true = refl

@@ -5,3 +5,4 @@ pub mod Asks
 pub mod Returned
 pub mod Laws
 pub mod Served
+pub mod inner

@@ -1,11 +1,9 @@
 -- What a table of documents with generations says of a change.
-use Rattle.std.specs.Prelude.{◌≡◌, ℕ, Bool, false, nat_le, List, [], ◌∷◌, Option, Some, None}
+use Rattle.std.specs.Prelude.{◌≡◌, ℕ, Bool, false, nat_le, List, Option, Some, None}
 use Rattle.std.specs.FinMap.Entries.{find}
 use Rattle.u1_base.specs.Ids.{id_cmp}
 use Rattle.translog.specs.declared.entry.Change.{Change}
 use Rattle.conflicts.specs.State.{Text}
-use Rattle.conflicts.specs.declared.receipts.Outcome4.{Outcome4}
-use Rattle.conflicts.specs.declared.receipts.Outcome4.TheVariants.{Inserted, Superseded, Converged, Conflicted}
 use Rattle.sync_stream.specs.Serving.{Held, is_held}
 
 -- a generation up to which something is known, if it is, is not below n
@@ -20,10 +18,3 @@ is_seen pairs change = reaches change.generation (find id_cmp change.doc pairs)
 -- the pairs say of every change what the documents say that the source has
 abbrev pub SeesAs : List (Text × ℕ) → List Held → Type 0
 SeesAs pairs held = (change : Change) → is_seen pairs change ≡ is_held held change
-
--- what the source has of a document after this outcome, where the log has this generation
-abbrev pub held_at : Outcome4 → Text → ℕ → List Held
-held_at Inserted doc generation = record { doc = doc; generation = generation } ∷ []
-held_at Converged doc generation = record { doc = doc; generation = generation } ∷ []
-held_at Superseded doc generation = []
-held_at Conflicted doc generation = []

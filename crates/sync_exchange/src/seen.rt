@@ -2,7 +2,8 @@
 ghost use Rattle.std.specs.Prelude.{◌≡◌, ◌<◌, ◌||◌, [], ◌++◌, OnOk, List, ℕ, Some, nat_le};
 ghost use Rattle.std.specs.Option.{option_copied};
 ghost use Rattle.sync_stream.specs.Serving.{Held};
-ghost use Rattle.sync_exchange.specs.Seen.{SeesAs, held_at, is_seen, reaches};
+ghost use Rattle.sync_exchange.specs.Seen.{SeesAs, is_seen, reaches};
+ghost use Rattle.sync_exchange.specs.inner.Seen.{held_at};
 
 use conflicts::Outcome4;
 use doc_table::Table;

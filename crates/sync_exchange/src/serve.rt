@@ -10,7 +10,7 @@ use thiserror::Error;
 use u1_base::Memory;
 
 /// What was served on a connection.
-#[derive(Clone, Copy, Debug, PartialEq, Eq)]
+#[derive(Clone, Copy, PartialEq, Eq)]
 pub struct Served {
     /// The status of the reply.
     pub status: u16,

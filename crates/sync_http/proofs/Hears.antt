@@ -12,8 +12,8 @@ use Rattle.httparse.specs.Spans.{header_bytes, name_and_value, span_bytes, AreFi
 use Rattle.httparse.proofs.GrammarLemmas.{request_unique, response_unique}
 use Rattle.sync_http.specs.Heads.{request_of, request_said, reply_of, reply_said}
 use Rattle.sync_http.specs.Hearing.{front, most_bytes, most_fields, SaysRequest, SaysReply, Hears, IsReplyFault, heard}
-use Rattle.sync_http.specs.Hearing.{unfinished}
-use Rattle.sync_http.specs.Parts.{Answers}
+use Rattle.sync_http.specs.inner.Hearing.{unfinished}
+use Rattle.sync_http.specs.inner.Parts.{Answers}
 use Rattle.sync_http.specs.declared.heads.Heard.{Heard}
 use Rattle.sync_http.specs.declared.heads.Heard.TheVariants.{NotYet}
 use Rattle.sync_http.specs.declared.heads.RequestHead.{RequestHead}

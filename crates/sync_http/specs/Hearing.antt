@@ -1,5 +1,5 @@
 -- What the first bytes of a connection are.
-use Rattle.std.specs.Prelude.{◌≡◌, ℕ, ◌<◌, ◌≤◌, ◌⊎◌, nat_lt, if◌then◌else◌, List, length, take, Result, Ok, Err}
+use Rattle.std.specs.Prelude.{◌≡◌, ℕ, ◌<◌, ◌≤◌, ◌⊎◌, List, length, take, Result, Ok, Err}
 use Rattle.httparse.specs.Grammar as grammar
 use Rattle.httparse.specs.Spans.{RequestExceeds, ResponseExceeds}
 use Rattle.u1_base.specs.declared.limits.TheConstants.{MOST_HEAD_BYTES, MOST_HEADERS}
@@ -74,10 +74,6 @@ pub record IsNoReply (bytes : List ℕ) : Type 0 where
 abbrev pub heard : {T : Type 0} → Result T WireFault → ℕ → Result (Heard T) WireFault
 heard (Ok head) n = Ok (Head head n)
 heard (Err fault) n = Err fault
-
--- what is answered where more bytes may make a head
-abbrev pub unfinished : {T : Type 0} → List ℕ → Result (Heard T) WireFault
-unfinished bytes = if nat_lt (length bytes) most_bytes then Ok NotYet else Err TooLarge
 
 -- what is answered to bytes of which this is known: what a whole head at their front says (with its length), that it is
 -- still open, or that there is none. The cases exclude each other, but in two places: where a target is still

@@ -10,7 +10,7 @@ use sync_http::Address;
 use u1_base::{Bytes, Memory};
 
 /// An ask that a link carried.
-#[derive(Debug, Drop)]
+#[derive(Drop)]
 pub struct MemAsk {
     to: Address,
     sent: Bytes,
@@ -63,7 +63,7 @@ impl MemAsk {
 }
 
 /// The asks that a link carried, in order. A link that records them keeps one of these.
-#[derive(Debug, Drop)]
+#[derive(Drop)]
 pub struct Carried {
     earlier: Vec<MemAsk>,
     last: Option<MemAsk>,

@@ -15,7 +15,7 @@ use u1_base::{Items, Memory, Numbers};
 pub type Conns = Items<MemConn>;
 
 /// A door whose connections are given beforehand. It keeps those that are given back.
-#[derive(Debug, Drop)]
+#[derive(Drop)]
 pub struct MemAcceptor {
     to_come: IntoIter<MemConn>,
     given_back: Vec<MemConn>,

@@ -26,7 +26,7 @@ pub type Replies = Items<Bytes>;
 /// A link whose replies are given beforehand. It keeps the asks that it carried, and tells no peer.
 ///
 /// Asks are numbered from 0 as they are begun, those included that failed later.
-#[derive(Debug, Drop)]
+#[derive(Drop)]
 pub struct MemLink {
     carried: Carried,
     doing: Doing,

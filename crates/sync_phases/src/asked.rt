@@ -2,7 +2,7 @@
 use crate::Summary;
 
 /// What the info of a target leads to. `S` is the session that goes on.
-#[derive(Debug, Drop)]
+#[derive(Drop)]
 pub enum Asked<S> {
     /// Nothing is new on either side: the session is complete.
     Level(Summary),

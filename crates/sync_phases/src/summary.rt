@@ -3,7 +3,7 @@ use u1_base::ReplicaUid;
 
 /// What a complete session did. Where nothing was new on either side, nothing was sent and nothing
 /// taken.
-#[derive(Debug, Drop)]
+#[derive(Drop)]
 pub struct Summary {
     pub target: ReplicaUid,
     /// How many documents were sent.

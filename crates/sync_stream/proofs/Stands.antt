@@ -10,7 +10,8 @@ use Rattle.std.proofs.lemmas.Option.{cond_some}
 use Rattle.sync_stream.specs.Lines.{ended, IsUnbroken}
 use Rattle.sync_stream.specs.Says.{says}
 use Rattle.sync_stream.specs.Stream.{Begins, counted, said_by, IsGood, Passes, IsFaultyAt}
-use Rattle.sync_stream.specs.HeldText.{HeldText, StandsFor, PassesOne}
+use Rattle.sync_stream.specs.HeldText.{HeldText, StandsFor}
+use Rattle.sync_stream.specs.inner.HeldText.{PassesOne}
 use Rattle.sync_stream.specs.declared.line.HeadKind.{HeadKind}
 use Rattle.sync_stream.specs.declared.line.Line.{Line}
 use Rattle.sync_stream.specs.declared.line.Next.{Next}
@@ -19,14 +20,16 @@ use Rattle.sync_stream.specs.declared.fault.LineFault.{LineFault}
 use Rattle.std.proofs.Common.{Result}
 use Rattle.u1_base.specs.Places.{Place}
 use Rattle.sync_stream.specs.Objects.{head_in, doc_in}
-use Rattle.sync_stream.specs.Says.{IsShape, with_head, with_doc, object_part}
+use Rattle.sync_stream.specs.Says.{with_head, with_doc, object_part}
+use Rattle.sync_stream.specs.inner.Says.{IsShape}
 use Rattle.sync_stream.specs.declared.line.SyncDoc.{SyncDoc}
 use Rattle.sync_stream.specs.Stream.IsFaultyAt.{whole_line}
 use Rattle.sync_stream.specs.declared.fault.LineFault.TheVariants.{At, TooLong}
 use Rattle.sync_stream.specs.declared.fault.StreamFault.{StreamFault}
 use Rattle.sync_stream.specs.declared.fault.StreamFault.TheVariants as fault
 use Rattle.sync_stream.specs.Stream.{answered, fault_of, end_fault, Ends, is_closed}
-use Rattle.sync_stream.specs.HeldText.{IsReadUp, lines_passed, Answers}
+use Rattle.sync_stream.specs.HeldText.{IsReadUp, Answers}
+use Rattle.sync_stream.specs.inner.HeldText.{lines_passed}
 use Rattle.sync_stream.specs.declared.line.Next.TheVariants.{Opening, Heading, After, Closed}
 use Rattle.sync_stream.specs.declared.line.Line.TheVariants.{Head, Doc, End}
 

@@ -4,8 +4,9 @@ ghost use Rattle.u1_base.specs.Ids.{id_in};
 ghost use Rattle.u1_base.specs.declared.ids.Form.TheVariants.{Document, Transaction};
 ghost use Rattle.content.specs.Reading.{content_in};
 ghost use Rattle.vector_rev.specs.ClockText.{clock_in};
-ghost use Rattle.sync_stream.specs.Fields.{content_said, doc_said, generation_said, place_said};
-ghost use Rattle.sync_stream.specs.Fields.{text_said, told, told_of};
+ghost use Rattle.sync_stream.specs.inner.Fields.{content_said, doc_said, generation_said};
+ghost use Rattle.sync_stream.specs.inner.Fields.{place_said};
+ghost use Rattle.sync_stream.specs.inner.Fields.{text_said, told, told_of};
 ghost use Rattle.sync_stream.specs.Objects.{doc_in, head_in};
 
 use crate::fields::{Field, Fields, fields_of, plain_fields};

@@ -1,10 +1,12 @@
 //! Reads a stream that comes in pieces.
-ghost use Rattle.std.specs.Prelude.{◌≡◌, ◌≢◌, ◌++◌, ◌⊎◌, ◌<◌, ◌≤◌, false, true, Err, None, Some, ℕ, List};
+ghost use Rattle.std.specs.Prelude.{◌≡◌, ◌≢◌, ◌++◌, ◌⊎◌, ◌<◌, ◌≤◌, false, true, Err, None, Some, ℕ};
+ghost use Rattle.std.specs.Prelude.{List};
 ghost use Rattle.std.specs.Prelude.{[], IfErr, IfOk, IfSome, IsSomeAnd, OnErr, OnOk, length};
 ghost use Rattle.sync_stream.specs.HeldText.{Answers, EndsAgain, Finishes, HeldText, IsReadUp};
-ghost use Rattle.sync_stream.specs.HeldText.{PassesOne};
-ghost use Rattle.sync_stream.specs.HeldText.{StandsFor, fresh, line_in, lines_given, lines_passed};
-ghost use Rattle.sync_stream.specs.Says.{IsShape};
+ghost use Rattle.sync_stream.specs.inner.HeldText.{PassesOne};
+ghost use Rattle.sync_stream.specs.HeldText.{StandsFor, fresh, line_in, lines_given};
+ghost use Rattle.sync_stream.specs.inner.HeldText.{lines_passed};
+ghost use Rattle.sync_stream.specs.inner.Says.{IsShape};
 ghost use Rattle.sync_stream.specs.Stream.{Ends, IsGood, answered, end_fault, fault_of, is_closed};
 ghost use Rattle.sync_stream.specs.Stream.{is_long_rest};
 ghost use Rattle.sync_stream.specs.declared.fault.LineFault.{LineFault as Fault};

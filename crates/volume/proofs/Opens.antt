@@ -18,7 +18,8 @@ use Rattle.journal.specs.Journal.{Extent, Holds}
 use Rattle.volume.specs.Store.{chosen, Names, IsStore}
 use Rattle.volume.specs.Store.FoundImages.{Damaged}
 use Rattle.volume.specs.Crashes.{OnlyLooks}
-use Rattle.volume.specs.Opening.{OpensStore, RootNames}
+use Rattle.volume.specs.Opening.{OpensStore}
+use Rattle.volume.specs.inner.Opening.{RootNames}
 use Rattle.disks.specs.declared.fault.OpenFault.{OpenFault}
 use Rattle.disks.specs.declared.fault.OpenFault.TheVariants as fault
 use Rattle.volume.proofs.Finding.{found_blank, found_long}

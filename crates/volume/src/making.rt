@@ -9,7 +9,7 @@ ghost use Rattle.journal.specs.declared.layout.TheConstants.{SECOND_FORMAT};
 ghost use Rattle.volume.specs.Store.{IsStore, found_of};
 ghost use Rattle.volume.specs.Crashes.{IsBlankOrEmpty, LeavesOldOrEmpty, OnlyLooks};
 ghost use Rattle.volume.specs.Making.{Inits};
-ghost use Rattle.volume.specs.Steps.{IsBlank, IsMade, LeavesBlankOrEmpty};
+ghost use Rattle.volume.specs.inner.Steps.{IsBlank, IsMade, LeavesBlankOrEmpty};
 
 use crate::one_disk::{name_image, write_on};
 use disk_model::{Disk, DiskFailed};

@@ -7,7 +7,8 @@ ghost use Rattle.disks.specs.Joint.{seen_of};
 ghost use Rattle.disks.specs.Disks.{disks_known};
 ghost use Rattle.volume.specs.Store.{IsStore, Names};
 ghost use Rattle.volume.specs.Crashes.{OnlyLooks};
-ghost use Rattle.volume.specs.Opening.{OpensStore, RootNames};
+ghost use Rattle.volume.specs.Opening.{OpensStore};
+ghost use Rattle.volume.specs.inner.Opening.{RootNames};
 
 use crate::one_disk::read_image_on;
 use crate::root::named_by;
@@ -17,7 +18,7 @@ use journal::{OpenFault as JournalFault, Stored};
 use std::alloc::Global;
 
 /// The image that counts, read whole. It lends its bodies one after the other.
-#[derive(Debug, Drop)]
+#[derive(Drop)]
 pub struct OpenedImages {
     /// The disk on which it lies, left or right.
     pub side: DiskName,

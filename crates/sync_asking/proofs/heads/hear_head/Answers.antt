@@ -1,7 +1,8 @@
 use Rattle.std.proofs.Common.{◌++◌, Ok, subst, sym}
 use Rattle.sync_http.specs.Hearing.{HearsReply}
 use Rattle.sync_http.specs.declared.heads.Heard.TheVariants.{NotYet}
-use Rattle.sync_asking.specs.Heard.{HasNoHead, SaysHead}
+use Rattle.sync_asking.specs.Heard.{HasNoHead}
+use Rattle.sync_asking.specs.inner.Heard.{SaysHead}
 use Rattle.sync_asking.proofs.Given.{err_so, given_is, given_then}
 use Rattle.sync_asking.proofs.Lengths.{no_head_yet}
 use Rattle.sync_asking.proofs.heads.hear_head.Goals as goal

@@ -2,7 +2,7 @@
 use Rattle.std.proofs.Common.{refl, ◌∙◌, ap}
 use Rattle.record_codec.specs.Bodies.{step_in}
 use Rattle.replica_state.specs.Steps.{step_of}
-use Rattle.replica_volume.specs.Committing.{opened_behind}
+use Rattle.replica_volume.specs.inner.Committing.{opened_behind}
 use Rattle.replica_volume.proofs.Committed.{not_taken, same_takes, still_opened, taken}
 use Rattle.replica_volume.proofs.replica.Volume.hold.Goals as goal
 
