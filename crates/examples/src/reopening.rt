@@ -73,10 +73,7 @@ pub fn keep_note<D: Disk + Drop>(
 }
 
 /// Opens the store anew, as the next run of a program does.
-pub fn reopen<D: Disk>(
-    alloc: Global,
-    store: Volume<D>,
-) -> Result<Volume<D>, (Disks<D>, OpenFault)>
+pub fn reopen<D: Disk>(alloc: Global, store: Volume<D>) -> Result<Volume<D>, (Disks<D>, OpenFault)>
     requires { IsOpenVolume D.tells D.known store }
     ensures same { IsTrue D.tells
         → IfOk result (λ again. meaning again.state ≡ meaning store.state) }
