@@ -15,7 +15,7 @@ on_err (Ok x) W w = tt
 on_err (Err e) W w = w
 
 -- a peer that is as it was
-both_as_before : (o : Option State) (related : State → State → Type 0) → ((p : State) → related p p)
+pub both_as_before : (o : Option State) (related : State → State → Type 0) → ((p : State) → related p p)
     → BothTold o o related
 both_as_before None related each = tt
 both_as_before (Some p) related each = each p

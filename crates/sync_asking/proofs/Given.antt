@@ -1,6 +1,7 @@
 -- Bytes that were given, and then more of them.
-use Rattle.std.proofs.Common.{◌≡◌, ℕ, ◌<◌, List, [], ◌++◌, length, Option, Some, None, Result, Ok, Err, IfErr, IfSome, IsErrAnd}
-use Rattle.std.proofs.Common.{refl, sym, ap, subst, ◌∙◌, append_assoc, append-nil}
+use Rattle.std.proofs.Common.{◌≡◌, ℕ, ◌<◌, List, [], ◌++◌, drop, length, Option, Some, None, Result, Ok, Err, IfErr, IfSome}
+use Rattle.std.proofs.Common.{IsErrAnd, refl, sym, ap, ap₂, subst, ◌∙◌, append_assoc, append-nil, drop-drop, length-append}
+use Rattle.std.specs.Option.{option_map}
 use Rattle.std.specs.Io.KnownBytes.{Consumes}
 use Rattle.link.specs.Streams.{IsFront}
 use Rattle.sync_link.specs.Links.{Ask, LinkKnown, and_given, given_more}
@@ -63,3 +64,27 @@ pub err_so : {A E : Type 0} (r : Result A E) (W : E → Type 0) {Q : E → Type 
     → IfErr r W
 err_so (Ok x) W h f = tt
 err_so (Err e) W h f = f e h
+
+-- ---- what is given in two parts
+
+dropped_twice : (coming : Option (List ℕ)) (first more : List ℕ)
+    → option_map (λ xs. drop (length more) xs) (option_map (λ xs. drop (length first) xs) coming)
+    ≡ option_map (λ xs. drop (length (first ++ more)) xs) coming
+dropped_twice None first more = refl
+dropped_twice (Some xs) first more =
+    ap Some (drop-drop (length more) (length first) xs ∙ ap (λ (n : ℕ). drop n xs) (sym (length-append first more)))
+
+pub more_twice : (k mid after : LinkKnown) (first more : List ℕ) → mid ≡ given_more first k
+    → after ≡ given_more more mid → after ≡ given_more (first ++ more) k
+more_twice k mid after first more is then =
+    then ∙ ap (λ (m : LinkKnown). given_more more m) is
+    ∙ ap₂ (λ (a : Option Ask) (c : Option (List ℕ)). record k { ask = a; coming = c }) (given_twice k.ask first more)
+    (dropped_twice k.coming first more)
+
+pub consumed_twice : (coming left last : Option (List ℕ)) (first more : List ℕ) → Consumes coming left first
+    → Consumes left last more → Consumes coming last (first ++ more)
+consumed_twice None left last first more gone then = tt
+consumed_twice (Some xs) None last first more gone then = absurd gone
+consumed_twice (Some xs) (Some ys) None first more gone then = absurd then
+consumed_twice (Some xs) (Some ys) (Some zs) first more gone then =
+    gone ∙ ap (λ zs. first ++ zs) then ∙ sym (append_assoc first more zs)

@@ -1,4 +1,5 @@
 mod Lengths
-mod Given
-mod Asks
+pub mod Given
+pub mod Asks
 mod Ends
+pub mod SmallReplies

@@ -8,8 +8,10 @@ mod heads;
 mod hearing;
 mod lines;
 mod sending;
+mod small;
 
 pub use heads::{Found, ask_fault, hear_head};
 pub use hearing::{hear, hear_up_to};
 pub use lines::{end_lines, next_line, stream_fault};
 pub use sending::send_whole;
+pub use small::{SmallBody, ask_small, hear_small};
