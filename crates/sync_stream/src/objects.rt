@@ -62,7 +62,7 @@ pub(crate) fn doc_in(
     doc_of(alloc, &mut scratch.content, fields_of(&value))
 }
 
-#[tactic(auto, unfolding(crate::specs::Fields::doc_said))]
+#[tactic(auto, unfolding(crate::specs::inner::Fields::doc_said))]
 fn doc_of(
     alloc: Global,
     scratch: &mut Scratch<Global>,
@@ -108,7 +108,7 @@ fn text_in<'a>(field: Field<'a>) -> Option<&'a str>
 }
 
 // The position of a document in the log of its sender.
-#[tactic(auto, unfolding(crate::specs::Fields::place_said))]
+#[tactic(auto, unfolding(crate::specs::inner::Fields::place_said))]
 fn place_of(
     alloc: Global,
     generation: Field<'_>,
