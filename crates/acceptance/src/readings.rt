@@ -1,5 +1,4 @@
 //! All that is read of a replica's state, as lines.
-ghost use Rattle.std.specs.Prelude.{◌≡◌, ◌<◌};
 
 use command_lines::{
     PrintFault, print_change, print_conflict, print_document, print_index, print_key, print_known,
@@ -8,13 +7,11 @@ use command_lines::{
 use conflicts::{DocSet, PosTable};
 use link::MemSink;
 use replica_core::{
-    all_docs, doc_conflicts, get_doc, index_keys, kept_at, range_from_index, whats_changed,
+    all_docs, doc_conflicts, get_doc, kept_at, list_index_keys, query_index_range, whats_changed,
 };
 use replica_state::{Index, State};
 use std::alloc::Global;
-use std::marker::Brand;
-use std::sync::ledger::{Blank, Ledger};
-use u1_base::{DocId, Ids, Keys, Memory, Numbers, Steps};
+use u1_base::{DocId, Ids, Keys, Memory, Numbers};
 
 /// The documents with their members, the log, the positions of peers, and the indexes with their
 /// keys and the documents that they find.
@@ -93,26 +90,15 @@ fn print_positions(state: &State, out: &mut MemSink) -> Result<(), PrintFault> {
 fn print_indexes(alloc: Global, state: &State, out: &mut MemSink) -> Result<(), PrintFault> {
     for index in state.indexes() {
         print_index(alloc, out, index.name(), index.exprs())?;
-        print_answers::<Brand>(alloc, index, out, Blank::new(1))?;
+        print_answers(alloc, index, out)?;
     }
     Ok(())
 }
 
-// The keys, and the documents that a range without ends finds. They take a counter of steps, as
-// who does not count hands them a new one.
-fn print_answers<L: Ledger>(
-    alloc: Global,
-    index: &Index,
-    out: &mut MemSink,
-    blank: Blank,
-) -> Result<(), PrintFault>
-    requires name { blank.name ≡ L.name }
-    requires parts { blank.parts ≡ L.parts }
-    requires some { 0 < L.parts }
-{
-    let mut steps = Steps::<L>::new(blank);
-    let keys = index_keys(alloc, index, &mut steps)?;
-    let Ok(ids) = range_from_index(alloc, index, None, None, &mut steps) else {
+// The keys, and the documents that a range without ends finds.
+fn print_answers(alloc: Global, index: &Index, out: &mut MemSink) -> Result<(), PrintFault> {
+    let keys = list_index_keys(alloc, index)?;
+    let Ok(ids) = query_index_range(alloc, index, None, None) else {
         return Err(PrintFault::Memory);
     };
     print_keys(alloc, &keys, out)?;

@@ -5,7 +5,7 @@ use Rattle.std.proofs.lemmas.Bool.{cases_eq, cases_lt}
 use Rattle.std.specs.Global.{Vec}
 use Rattle.std.specs.Vec.{vec_items, vec_len}
 use Rattle.chunk_list.specs.Chunks.{begin_of, block, joined, start_at, AreStarts}
-use Rattle.chunk_list.specs.Edits.{IsGiven}
+use Rattle.chunk_list.specs.inner.Edits.{IsGiven}
 use Rattle.chunk_list.proofs.Blocks.{block_behind, block_below}
 use Rattle.chunk_list.proofs.Pieces.{start_at-later, start_at-most, start_at-next}
 

@@ -7,7 +7,8 @@ use Rattle.std.proofs.Math.Seq.{get_or-append_seam}
 use Rattle.std.specs.Global.{Vec}
 use Rattle.std.specs.List.{flat_map}
 use Rattle.std.specs.Vec.{vec_items}
-use Rattle.chunk_list.specs.Chunks.{begin_of, block, start_at, AreStarts, AreStartsUpTo}
+use Rattle.chunk_list.specs.Chunks.{begin_of, block, start_at, AreStarts}
+use Rattle.chunk_list.specs.inner.Chunks.{AreStartsUpTo}
 use Rattle.chunk_list.proofs.Blocks.{block_begins, block_behind, earlier_block}
 use Rattle.chunk_list.proofs.Pieces.{start_at-next}
 

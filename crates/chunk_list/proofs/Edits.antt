@@ -10,8 +10,10 @@ use Rattle.std.proofs.lemmas.List.Edits.{remove-append_right}
 use Rattle.std.specs.Global.{Vec}
 use Rattle.std.specs.Vec.{vec_items, vec_len, vec_capacity}
 use Rattle.std.specs.List.{insert, remove}
-use Rattle.chunk_list.specs.Chunks.{begin_of, block, full, joined, start_at, AreChunks, AreChunksBut, AreLaidOut}
-use Rattle.chunk_list.specs.Chunks.{AreStarts, IsAt, IsHeld, IsWide}
+use Rattle.chunk_list.specs.Chunks.{begin_of, block, full, joined, start_at, AreChunks, AreLaidOut}
+use Rattle.chunk_list.specs.inner.Chunks.{AreChunksBut}
+use Rattle.chunk_list.specs.Chunks.{AreStarts, IsHeld, IsWide}
+use Rattle.chunk_list.specs.inner.Chunks.{IsAt}
 use Rattle.chunk_list.proofs.Blocks.{block_behind, block_below}
 use Rattle.chunk_list.proofs.Pieces.{start_at-set_low, start_at-set_high, edit-joined}
 

@@ -7,7 +7,7 @@ use Rattle.std.specs.List.{All}
 use Rattle.std.specs.Global.{Vec}
 use Rattle.std.specs.Vec.{vec_items, vec_len, vec_capacity}
 use Rattle.chunk_list.specs.Chunks.{joined, IsWide}
-use Rattle.chunk_list.specs.Edits.{IsGiven}
+use Rattle.chunk_list.specs.inner.Edits.{IsGiven}
 use Rattle.chunk_list.proofs.Pieces.{parted-joined}
 
 -- two chunks, one behind the other, that hold what they held

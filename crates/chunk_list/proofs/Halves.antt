@@ -1,7 +1,7 @@
 -- What one look of a search by halves leaves.
 use Rattle.std.proofs.Common.{◌≡◌, ℕ, ◌+◌, ◌*◌, ◌^◌, ◌<◌, ◌≤◌, zero, suc, subst, arith}
 use Rattle.std.proofs.Math.Nat.{pow-suc}
-use Rattle.chunk_list.specs.Halves.{StepsLeft}
+use Rattle.chunk_list.specs.inner.Halves.{StepsLeft}
 
 -- a half is held by one bit less
 one_bit_less : (gap left now next bound j : ℕ) → next ≡ now + 1 → 0 < gap → left * 2 ≤ gap → gap < 2 ^ j

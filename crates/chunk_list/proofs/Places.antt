@@ -8,7 +8,8 @@ use Rattle.std.proofs.lemmas.Option.{slice_get_read}
 use Rattle.std.specs.Global.{Vec}
 use Rattle.std.specs.Vec.{vec_items, vec_len}
 use Rattle.std.specs.Prelude.{slice_get, Some}
-use Rattle.chunk_list.specs.Chunks.{start_at, joined, IsAt}
+use Rattle.chunk_list.specs.Chunks.{start_at, joined}
+use Rattle.chunk_list.specs.inner.Chunks.{IsAt}
 use Rattle.chunk_list.proofs.Pieces.{start_at-next, start_at-end}
 
 -- an item of a chunk is one of the list

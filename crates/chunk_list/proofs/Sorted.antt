@@ -10,7 +10,7 @@ use Rattle.std.specs.List.{HoldsAt, insert, remove}
 use Rattle.std.specs.Ordering.{eq_by_cmp, is_lt, is_eq, ordering_reverse}
 use Rattle.std.specs.Cmp.{IsTotalOrder}
 use Rattle.std.specs.FinMap.Entries.{find, put, where_key, is_sorted, below_all, is_sorted-put, by_order}
-use Rattle.chunk_list.specs.Sorted.{StandsAt, FitsAt}
+use Rattle.chunk_list.specs.inner.Sorted.{StandsAt, FitsAt}
 
 is_less : (r : Ordering) → IsTrue (is_lt r) → r ≡ Less
 is_less Less p = refl

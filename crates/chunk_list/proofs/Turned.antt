@@ -9,9 +9,10 @@ use Rattle.std.proofs.lemmas.List.Elements.{All-append, All-cons, All-drop, All-
 use Rattle.std.specs.Global.{Vec}
 use Rattle.std.specs.Vec.{vec_items, vec_len, vec_capacity}
 use Rattle.std.specs.List.{All, insert, remove}
-use Rattle.chunk_list.specs.Chunks.{begin_of, block, full, joined, start_at, AreChunks, AreChunksBut, AreLaidOut}
+use Rattle.chunk_list.specs.Chunks.{begin_of, block, full, joined, start_at, AreChunks, AreLaidOut}
+use Rattle.chunk_list.specs.inner.Chunks.{AreChunksBut}
 use Rattle.chunk_list.specs.Chunks.{CanTurn, IsHeld, IsSpare, IsWide}
-use Rattle.chunk_list.specs.Edits.{AreTurned, IsGiven}
+use Rattle.chunk_list.specs.inner.Edits.{AreTurned, IsGiven}
 use Rattle.chunk_list.proofs.Pieces.{gone-joined}
 
 module _ {T : Type 0} (old : List (Vec T)) (at : ℕ) (b : AreChunksBut old at) where

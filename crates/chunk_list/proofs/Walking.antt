@@ -5,7 +5,8 @@ use Rattle.std.proofs.lemmas.List.Concat.{get_or-flat_map}
 use Rattle.std.proofs.lemmas.List.Folds.{length-flat_map-take}
 use Rattle.std.specs.Global.{Vec}
 use Rattle.std.specs.Vec.{vec_items}
-use Rattle.chunk_list.specs.Chunks.{joined, IsAt, IsRun}
+use Rattle.chunk_list.specs.Chunks.{joined, IsRun}
+use Rattle.chunk_list.specs.inner.Chunks.{IsAt}
 
 module _ {T : Type 0} (chunks : List (Vec T)) (i p inside : ℕ) (w : IsAt chunks p i inside) (c : Vec T)
     (c_is : c ≡ get_or chunks i c) (lt : p < length (joined chunks))

@@ -1,4 +1,4 @@
--- The chunks behind a list, one after another, and the spare ones beside them. Only private clauses speak of them.
+-- The chunks behind a list, one after another, and the spare ones beside them.
 use Rattle.std.specs.Prelude.{◌≡◌, ℕ, ◌+◌, ◌*◌, ◌/◌, ◌^◌, ◌<◌, ◌≤◌, List, length, take, slice_index, slice_index_or}
 use Rattle.std.specs.Prelude.{vec_len, vec_capacity}
 use Rattle.std.specs.List.{All, flat_map}
@@ -48,13 +48,6 @@ module _ {T : Type 0} where
     pub short : vec_len chunk ≤ full
     pub some : 0 < k → 0 < vec_len chunk
 
-  -- the chunks of a list, but that the one at `at` may be empty or have one item too many
-  pub record AreChunksBut (chunks : List (Vec T)) (at : ℕ) : Type 0 where
-    pub within : at < length chunks
-    pub wide : All IsWide chunks
-    pub top : (d : Vec T) → vec_len (slice_index_or chunks at d) ≤ full + 1
-    pub others : (k : ℕ) (d : Vec T) → k < length chunks → (k ≡ at → ⊥) → IsHeld k (slice_index_or chunks k d)
-
   -- the chunks of a list
   pub record AreChunks (chunks : List (Vec T)) : Type 0 where
     pub wide : All IsWide chunks
@@ -67,20 +60,6 @@ module _ {T : Type 0} where
     pub no_more : length bases * block < length chunks + block
     pub begins : (k : ℕ) → k < length chunks → begin_of inside bases k ≡ start_at vec_items chunks k
     pub blocks : (b : ℕ) → b < length bases → slice_index bases b ≡ start_at vec_items chunks (b * block)
-
-  -- the same of those chunks that stand no further behind than the one at `last`
-  pub record AreStartsUpTo (chunks : List (Vec T)) (inside bases : List ℕ) (last : ℕ) : Type 0 where
-    pub within : last < length inside
-    pub enough : length inside ≤ length bases * block
-    pub begins : (k : ℕ) → k ≤ last → begin_of inside bases k ≡ start_at vec_items chunks k
-    pub blocks : (b : ℕ) → b * block ≤ last → slice_index bases b ≡ start_at vec_items chunks (b * block)
-
-  -- a place of the list is so far inside a chunk; the end of the list is the end of a chunk
-  pub record IsAt (chunks : List (Vec T)) (place at inside : ℕ) : Type 0 where
-    pub within : at < length chunks
-    pub is : start_at vec_items chunks at + inside ≡ place
-    pub up_to : (d : Vec T) → inside ≤ vec_len (slice_index_or chunks at d)
-    pub before : place < length (joined chunks) → (d : Vec T) → inside < vec_len (slice_index_or chunks at d)
 
   -- the chunks, and where they begin
   pub record AreLaidOut (chunks : List (Vec T)) (inside bases : List ℕ) : Type 0 where

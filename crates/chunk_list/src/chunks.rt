@@ -2,9 +2,10 @@
 ghost use Rattle.std.specs.Prelude.{◌≡◌, ◌+◌, ◌*◌, ◌<◌, ◌≤◌, ◌⊎◌, ◌++◌, ℕ, length, slice_index_or};
 ghost use Rattle.std.specs.Prelude.{slice_set, take, OnOk, vec_len, vec_capacity};
 ghost use Rattle.std.specs.List.{All, insert};
-ghost use Rattle.chunk_list.specs.Chunks.{AreChunks, AreChunksBut, AreLaidOut, CanTurn, IsSpare};
+ghost use Rattle.chunk_list.specs.Chunks.{AreChunks, AreLaidOut, CanTurn, IsSpare};
+ghost use Rattle.chunk_list.specs.inner.Chunks.{AreChunksBut};
 ghost use Rattle.chunk_list.specs.Chunks.{IsWide, block, full, joined};
-ghost use Rattle.chunk_list.specs.Edits.{AreTurned, IsGiven};
+ghost use Rattle.chunk_list.specs.inner.Edits.{AreTurned, IsGiven};
 
 use crate::list::{CHUNK, NEARLY_FULL};
 use crate::starts::{BLOCK, Starts};

@@ -2,9 +2,10 @@
 ghost use Rattle.std.specs.Prelude.{◌≡◌, ◌≢◌, ◌⊎◌, ◌+◌, ◌*◌, ◌^◌, ◌<◌, ◌≤◌, length, slice_index_or};
 ghost use Rattle.std.specs.Prelude.{MatchOption, vec_len, vec_capacity};
 ghost use Rattle.std.specs.List.{All, insert, remove};
-ghost use Rattle.chunk_list.specs.Chunks.{AreChunks, AreChunksBut, AreLaidOut, AreStarts, IsSpare};
+ghost use Rattle.chunk_list.specs.Chunks.{AreChunks, AreLaidOut, AreStarts, IsSpare};
+ghost use Rattle.chunk_list.specs.inner.Chunks.{AreChunksBut};
 ghost use Rattle.chunk_list.specs.Chunks.{block, full, joined};
-ghost use Rattle.chunk_list.specs.Edits.{AreTurned, HasFree, NoneFree};
+ghost use Rattle.chunk_list.specs.inner.Edits.{AreTurned, HasFree, NoneFree};
 
 use crate::chunks::{cut, give, put};
 use crate::list::CHUNK;

@@ -4,7 +4,8 @@ ghost use Rattle.std.specs.Prelude.{IfSome, IsTrue, Some, slice_get};
 ghost use Rattle.std.specs.Fn.{FnReturnsAt};
 ghost use Rattle.std.specs.List.{HoldsAt};
 ghost use Rattle.chunk_list.specs.Chunks.{AreChunks, AreLaidOut, joined};
-ghost use Rattle.chunk_list.specs.Ends.{FailsAt, IsLastBegun, PassesBefore};
+ghost use Rattle.chunk_list.specs.Ends.{FailsAt, PassesBefore};
+ghost use Rattle.chunk_list.specs.inner.Ends.{IsLastBegun};
 
 use crate::spot::Spot;
 use crate::starts::Starts;

@@ -2,7 +2,7 @@
 
 /// A place of a list, which counts from 0, and the chunk that it was found in. The chunk is a hint:
 /// a next search begins there, and the list may have changed since.
-#[derive(Clone, Copy, Debug)]
+#[derive(Clone, Copy)]
 pub struct Spot {
     pub place: usize,
     pub(crate) chunk: usize,

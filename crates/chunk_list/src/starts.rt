@@ -1,8 +1,9 @@
 //! The places where the chunks begin.
 ghost use Rattle.std.specs.Prelude.{◌≡◌, ◌≢◌, ◌+◌, ◌*◌, ◌/◌, ◌^◌, ◌<◌, ◌≤◌, ℕ, [], length};
 ghost use Rattle.std.specs.Prelude.{slice_index, slice_index_or, vec_len, vec_capacity};
-ghost use Rattle.chunk_list.specs.Chunks.{AreStarts, AreStartsUpTo, IsAt, begin_of, block, joined};
-ghost use Rattle.chunk_list.specs.Edits.{IsGiven};
+ghost use Rattle.chunk_list.specs.Chunks.{AreStarts, begin_of, block, joined};
+ghost use Rattle.chunk_list.specs.inner.Chunks.{AreStartsUpTo, IsAt};
+ghost use Rattle.chunk_list.specs.inner.Edits.{IsGiven};
 
 use crate::spot::Spot;
 use std::alloc::Global;

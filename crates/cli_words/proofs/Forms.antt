@@ -28,8 +28,8 @@ use Rattle.clap.proofs.FaultLemmas.{leaf_fault}
 use Rattle.cli_words.specs.Word.{Word}
 use Rattle.cli_words.specs.Words.{fits, is_within, is_whole}
 use Rattle.cli_words.specs.Given.{allows}
-use Rattle.cli_words.specs.Form.{bare, operands_rule, with_option, form, most_of, option_text, asked, listed}
-use Rattle.cli_words.specs.Form.{has_no_kind}
+use Rattle.cli_words.specs.inner.Form.{bare, operands_rule, with_option, form, most_of, option_text, asked, listed}
+use Rattle.cli_words.specs.inner.Form.{has_no_kind}
 use Rattle.cli_words.specs.declared.given.Given.{Given}
 use Rattle.cli_words.specs.declared.given.Given.TheVariants as given
 use Rattle.cli_words.specs.declared.synopsis.Synopsis.{Synopsis}

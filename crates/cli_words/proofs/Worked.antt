@@ -3,20 +3,21 @@ use Rattle.std.proofs.Common.{◌≡◌, [], ◌∷◌, true, false, Some, None,
 use Rattle.std.specs.Prelude.{codes}
 use Rattle.cli_words.specs.Words.{command_in}
 use Rattle.cli_words.specs.declared.command.Command.TheVariants as to
+use Rattle.cli_words.specs.declared.command.Show.TheVariants as show
 use Rattle.cli_words.specs.declared.fault.WordsFault.TheVariants.{Words, Value}
 
 -- an option may stand before the operand and behind it
 option_first : command_in (codes "DIR" ∷ codes "get" ∷ codes "--deleted" ∷ codes "d1" ∷ [])
-    ≡ Ok (to.Get (codes "d1") true)
+    ≡ Ok (to.Show (show.Get (codes "d1") true))
 option_first = refl
 
 option_last : command_in (codes "DIR" ∷ codes "get" ∷ codes "d1" ∷ codes "--deleted" ∷ [])
-    ≡ Ok (to.Get (codes "d1") true)
+    ≡ Ok (to.Show (show.Get (codes "d1") true))
 option_last = refl
 
 -- behind `--` it is an operand
 option_as_id : command_in (codes "DIR" ∷ codes "get" ∷ codes "--" ∷ codes "--deleted" ∷ [])
-    ≡ Ok (to.Get (codes "--deleted") false)
+    ≡ Ok (to.Show (show.Get (codes "--deleted") false))
 option_as_id = refl
 
 -- a limit in a word of its own and in that of the option

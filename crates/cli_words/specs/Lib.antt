@@ -7,4 +7,4 @@ pub mod Parted
 pub mod Given
 pub mod Table
 pub mod Words
-pub mod Form
+pub mod inner

@@ -7,6 +7,10 @@ use Rattle.cli_words.specs.declared.limits.TheConstants.{GREATEST_PORT, MOST_CON
 use Rattle.cli_words.specs.declared.limits.TheConstants.{MOST_WORKLOAD}
 use Rattle.cli_words.specs.declared.command.Command.{Command}
 use Rattle.cli_words.specs.declared.command.Command.TheVariants as to
+use Rattle.cli_words.specs.declared.command.Edit.TheVariants as edit
+use Rattle.cli_words.specs.declared.command.Online.TheVariants as online
+use Rattle.cli_words.specs.declared.command.Show.TheVariants as show
+use Rattle.cli_words.specs.declared.command.View.TheVariants as view
 use Rattle.cli_words.specs.declared.fault.Refused.{Refused}
 use Rattle.cli_words.specs.declared.given.Given.{Given}
 use Rattle.cli_words.specs.declared.synopsis.Allowed.{Allowed}
@@ -69,56 +73,56 @@ abbrev pub row_of : Verb → Row
 row_of verb.Init = row (codes "init") (codes "NAME [UID] [--limit N]") 1 (Some 2) Limit (λ w o.
     with_option (λ n l. to.Init n.0 n.1 l) (names w) (limit o))
 row_of verb.Create = row (codes "create") (codes "[ID]") 0 (Some 1) Nothing (λ w o.
-    with_one to.Create (maybe document (slice_get w 0)))
+    with_one (λ id. to.Edit (edit.Create id)) (maybe document (slice_get w 0)))
 row_of verb.Get = row (codes "get") (codes "ID [--deleted]") 1 (Some 1) Deleted (λ w o.
-    with_one (λ id. to.Get id (is_deleted o)) (document (word_at w 0)))
+    with_one (λ id. to.Show (show.Get id (is_deleted o))) (document (word_at w 0)))
 row_of verb.Put = row (codes "put") (codes "ID [REV]") 1 (Some 2) Nothing (λ w o.
-    with_two to.Put (document (word_at w 0)) (maybe revision (slice_get w 1)))
+    with_two (λ id rev. to.Edit (edit.Put id rev)) (document (word_at w 0)) (maybe revision (slice_get w 1)))
 row_of verb.Delete = row (codes "delete") (codes "ID REV") 2 (Some 2) Nothing (λ w o.
-    with_two to.Delete (document (word_at w 0)) (revision (word_at w 1)))
+    with_two (λ id rev. to.Edit (edit.Delete id rev)) (document (word_at w 0)) (revision (word_at w 1)))
 row_of verb.Conflicts = row (codes "conflicts") (codes "ID") 1 (Some 1) Nothing (λ w o.
-    with_one to.Conflicts (document (word_at w 0)))
+    with_one (λ id. to.Show (show.Conflicts id)) (document (word_at w 0)))
 row_of verb.Resolve = row (codes "resolve") (codes "ID REV...") 2 None Nothing (λ w o.
-    with_two to.Resolve (document (word_at w 0)) (each revision (drop 1 w)))
+    with_two (λ id revs. to.Edit (edit.Resolve id revs)) (document (word_at w 0)) (each revision (drop 1 w)))
 row_of verb.ResolveDeleted = row (codes "resolve-deleted") (codes "ID REV...") 2 None Nothing (λ w o.
-    with_two to.ResolveDeleted (document (word_at w 0)) (each revision (drop 1 w)))
+    with_two (λ id revs. to.Edit (edit.ResolveDeleted id revs)) (document (word_at w 0)) (each revision (drop 1 w)))
 row_of verb.IndexCreate = row (codes "index-create") (codes "NAME EXPRESSION...") 2 (Some 9) Nothing (λ w o.
-    with_one (λ n. to.IndexCreate n (texts (drop 1 w))) (name (word_at w 0)))
+    with_one (λ n. to.Edit (edit.IndexCreate n (texts (drop 1 w)))) (name (word_at w 0)))
 row_of verb.IndexDelete = row (codes "index-delete") (codes "NAME") 1 (Some 1) Nothing (λ w o.
-    with_one to.IndexDelete (name (word_at w 0)))
+    with_one (λ n. to.Edit (edit.IndexDelete n)) (name (word_at w 0)))
 row_of verb.IndexList = row (codes "index-list") (codes "") 0 (Some 0) Nothing (λ w o.
-    Ok to.IndexList)
+    Ok (to.Show show.IndexList))
 row_of verb.Query = row (codes "query") (codes "NAME VALUE...") 2 None Nothing (λ w o.
-    with_one (λ n. to.Query n (texts (drop 1 w))) (name (word_at w 0)))
+    with_one (λ n. to.Show (show.Query n (texts (drop 1 w)))) (name (word_at w 0)))
 row_of verb.Range = row (codes "range") (codes "NAME START END") 3 (Some 3) Nothing (λ w o.
-    with_three to.Range (name (word_at w 0)) (end (word_at w 1)) (end (word_at w 2)))
+    with_three (λ n first last. to.Show (show.Range n first last)) (name (word_at w 0)) (end (word_at w 1)) (end (word_at w 2)))
 row_of verb.Keys = row (codes "keys") (codes "NAME") 1 (Some 1) Nothing (λ w o.
-    with_one to.Keys (name (word_at w 0)))
+    with_one (λ n. to.Show (show.Keys n)) (name (word_at w 0)))
 row_of verb.All = row (codes "all") (codes "[--deleted]") 0 (Some 0) Deleted (λ w o.
-    Ok (to.All (is_deleted o)))
+    Ok (to.Show (show.All (is_deleted o))))
 row_of verb.Changes = row (codes "changes") (codes "GENERATION") 1 (Some 1) Nothing (λ w o.
-    with_one to.Changes (number 0 GREATEST_COUNT (word_at w 0)))
+    with_one (λ after. to.Show (show.Changes after)) (number 0 GREATEST_COUNT (word_at w 0)))
 row_of verb.Info = row (codes "info") (codes "") 0 (Some 0) Nothing (λ w o.
-    Ok to.Info)
+    Ok (to.Show show.Info))
 row_of verb.Compact = row (codes "compact") (codes "") 0 (Some 0) Nothing (λ w o.
     Ok to.Compact)
 row_of verb.Sync = row (codes "sync") (codes "ADDRESS") 1 (Some 1) Nothing (λ w o.
-    with_one to.Sync (address (word_at w 0)))
+    with_one (λ with. to.Online (online.Sync with)) (address (word_at w 0)))
 row_of verb.Serve = row (codes "serve") (codes "PORT COUNT") 2 (Some 2) Nothing (λ w o.
-    with_two to.Serve (port (word_at w 0)) (connections (word_at w 1)))
+    with_two (λ p n. to.Online (online.Serve p n)) (port (word_at w 0)) (connections (word_at w 1)))
 row_of verb.ServeDocs = row (codes "serve-docs") (codes "PORT COUNT") 2 (Some 2) Nothing (λ w o.
-    with_two to.ServeDocs (port (word_at w 0)) (connections (word_at w 1)))
+    with_two (λ p n. to.Online (online.ServeDocs p n)) (port (word_at w 0)) (connections (word_at w 1)))
 row_of verb.Node = row (codes "node") (codes "PORT ADDRESS ROUNDS BETWEEN") 4 (Some 4) Nothing (λ w o.
-    with_four to.Node (port (word_at w 0)) (address (word_at w 1)) (number 1 MOST_ROUNDS (word_at w 2))
-    (number 0 MOST_BETWEEN (word_at w 3)))
+    with_four (λ p with rounds between. to.Online (online.Node p with rounds between)) (port (word_at w 0))
+    (address (word_at w 1)) (number 1 MOST_ROUNDS (word_at w 2)) (number 0 MOST_BETWEEN (word_at w 3)))
 row_of verb.Work = row (codes "work") (codes "SEED COUNT") 2 (Some 2) Nothing (λ w o.
     with_two to.Work (number 0 (2 ^ 64 - 1) (word_at w 0)) (number 0 MOST_WORKLOAD (word_at w 1)))
 row_of verb.ViewCreate = row (codes "view-create") (codes "NAME INDEX VALUE...") 3 None Nothing (λ w o.
-    with_two (λ n i. to.ViewCreate n i (texts (drop 2 w))) (name (word_at w 0)) (name (word_at w 1)))
+    with_two (λ n i. to.View (view.Create n i (texts (drop 2 w)))) (name (word_at w 0)) (name (word_at w 1)))
 row_of verb.ViewShow = row (codes "view-show") (codes "NAME") 1 (Some 1) Nothing (λ w o.
-    with_one to.ViewShow (name (word_at w 0)))
+    with_one (λ n. to.View (view.Show n)) (name (word_at w 0)))
 row_of verb.ViewDelete = row (codes "view-delete") (codes "NAME") 1 (Some 1) Nothing (λ w o.
-    with_one to.ViewDelete (name (word_at w 0)))
+    with_one (λ n. to.View (view.Delete n)) (name (word_at w 0)))
 
 -- the command that a word names
 abbrev pub verb_in : List ℕ → Option Verb

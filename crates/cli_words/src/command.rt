@@ -5,7 +5,7 @@ use vector_rev::{Clock, Clocks};
 
 /// One command. Expressions and query values stand as they were given; whoever runs the command
 /// reads them.
-#[derive(Debug, Drop)]
+#[derive(Drop)]
 pub enum Command {
     /// Makes a store. The limit is the greatest length of its image, in bytes.
     Init {
@@ -13,77 +13,86 @@ pub enum Command {
         uid: Option<ReplicaUid>,
         limit: Option<u64>,
     },
-    /// Creates a document from the input.
-    Create {
-        id: Option<DocId>,
+    /// Shows something of the store, and leaves it as it is.
+    Show(Show),
+    /// Makes a step in the store.
+    Edit(Edit),
+    /// Writes the image anew, with what a compaction leaves of its steps.
+    Compact,
+    /// Meets other replicas, or clients.
+    Online(Online),
+    /// Makes that many documents by a seed.
+    Work {
+        seed: u64,
+        count: u64,
     },
-    /// Shows a document; a deleted one too, if that is asked.
+    /// Works with a view: a stored query.
+    View(View),
+}
+
+/// A command that shows something.
+#[derive(Drop)]
+pub enum Show {
+    /// A document; a deleted one too, if that is asked.
     Get {
         id: DocId,
         deleted: bool,
     },
-    /// Puts the content of the input over a revision, or where there is none.
-    Put {
-        id: DocId,
-        rev: Option<Clock>,
-    },
-    /// Deletes a document.
-    Delete {
-        id: DocId,
-        rev: Clock,
-    },
-    /// Shows the revisions of a document that are in conflict.
+    /// The revisions of a document that are in conflict.
     Conflicts {
         id: DocId,
     },
-    /// Resolves revisions to the content of the input.
-    Resolve {
-        id: DocId,
-        revs: Clocks,
-    },
-    /// Resolves revisions to a deleted document.
-    ResolveDeleted {
-        id: DocId,
-        revs: Clocks,
-    },
-    /// Makes an index of 1 to 8 expressions.
-    IndexCreate {
-        name: IndexName,
-        exprs: Texts,
-    },
-    /// Drops an index.
-    IndexDelete {
-        name: IndexName,
-    },
-    /// Lists the indexes.
+    /// The indexes.
     IndexList,
-    /// Shows the documents that have a key which meets the values.
+    /// The documents that have a key which meets the values.
     Query {
         name: IndexName,
         values: Texts,
     },
-    /// Shows the documents that have a key from start to end. An end that is None is open.
+    /// The documents that have a key from start to end. An end that is None is open.
     Range {
         name: IndexName,
         start: Option<Key>,
         end: Option<Key>,
     },
-    /// Shows the keys of an index.
+    /// The keys of an index.
     Keys {
         name: IndexName,
     },
-    /// Shows all documents; deleted ones too, if that is asked.
+    /// All documents; deleted ones too, if that is asked.
     All {
         deleted: bool,
     },
-    /// Shows what changed after a generation.
+    /// What changed after a generation.
     Changes {
         after: u64,
     },
-    /// Says what the store knows of itself and of others.
+    /// What the store knows of itself and of others.
     Info,
-    /// Writes the image anew, with what a compaction leaves of its steps.
-    Compact,
+}
+
+/// A command that makes a step.
+#[derive(Drop)]
+pub enum Edit {
+    /// Creates a document from the input.
+    Create { id: Option<DocId> },
+    /// Puts the content of the input over a revision, or where there is none.
+    Put { id: DocId, rev: Option<Clock> },
+    /// Deletes a document.
+    Delete { id: DocId, rev: Clock },
+    /// Resolves revisions to the content of the input.
+    Resolve { id: DocId, revs: Clocks },
+    /// Resolves revisions to a deleted document.
+    ResolveDeleted { id: DocId, revs: Clocks },
+    /// Makes an index of 1 to 8 expressions.
+    IndexCreate { name: IndexName, exprs: Texts },
+    /// Drops an index.
+    IndexDelete { name: IndexName },
+}
+
+/// A command that meets other replicas, or clients.
+#[derive(Drop)]
+pub enum Online {
     /// Synchronises with the database at an address.
     Sync {
         with: Address,
@@ -106,23 +115,23 @@ pub enum Command {
         rounds: u64,
         between: u64,
     },
-    /// Makes that many documents by a seed.
-    Work {
-        seed: u64,
-        count: u64,
-    },
-    /// Makes a view: a stored query.
-    ViewCreate {
+}
+
+/// A command on a view.
+#[derive(Drop)]
+pub enum View {
+    /// Makes it.
+    Create {
         name: IndexName,
         index: IndexName,
         values: Texts,
     },
-    /// Shows a view.
-    ViewShow {
+    /// Shows it.
+    Show {
         name: IndexName,
     },
-    /// Drops a view.
-    ViewDelete {
+    /// Drops it.
+    Delete {
         name: IndexName,
     },
 }

@@ -7,17 +7,17 @@ ghost use Rattle.cli_words.specs.declared.verb.Verb.TheVariants as verb;
 use crate::given::Given;
 use crate::operands::{id, operand, revision, revisions};
 use crate::word::Word;
-use crate::{Command, WordsFault};
+use crate::{Command, Edit, Show, WordsFault};
 use std::alloc::Global;
 
 pub fn create(alloc: Global, operands: &[Word]) -> Result<Command, WordsFault>
     ensures { Reads verb.Create operands.now option_is.Nothing result }
 {
     match operands.first() {
-        Some(word) => Ok(Command::Create {
+        Some(word) => Ok(Command::Edit(Edit::Create {
             id: Some(id(alloc, word)??),
-        }),
-        None => Ok(Command::Create { id: None }),
+        })),
+        None => Ok(Command::Edit(Edit::Create { id: None })),
     }
 }
 
@@ -27,7 +27,7 @@ pub fn get(alloc: Global, operands: &[Word], given: &Given) -> Result<Command, W
 {
     let id = id(alloc, operand(operands, 0))??;
     let deleted = given.is_deleted();
-    Ok(Command::Get { id, deleted })
+    Ok(Command::Show(Show::Get { id, deleted }))
 }
 
 pub fn put(alloc: Global, operands: &[Word]) -> Result<Command, WordsFault>
@@ -36,11 +36,11 @@ pub fn put(alloc: Global, operands: &[Word]) -> Result<Command, WordsFault>
 {
     let id = id(alloc, operand(operands, 0))??;
     match operands.get(1) {
-        Some(word) => Ok(Command::Put {
+        Some(word) => Ok(Command::Edit(Edit::Put {
             id,
             rev: Some(revision(alloc, word)??),
-        }),
-        None => Ok(Command::Put { id, rev: None }),
+        })),
+        None => Ok(Command::Edit(Edit::Put { id, rev: None })),
     }
 }
 
@@ -50,7 +50,7 @@ pub fn delete(alloc: Global, operands: &[Word]) -> Result<Command, WordsFault>
 {
     let id = id(alloc, operand(operands, 0))??;
     let rev = revision(alloc, operand(operands, 1))??;
-    Ok(Command::Delete { id, rev })
+    Ok(Command::Edit(Edit::Delete { id, rev }))
 }
 
 pub fn conflicts(alloc: Global, operands: &[Word]) -> Result<Command, WordsFault>
@@ -58,7 +58,7 @@ pub fn conflicts(alloc: Global, operands: &[Word]) -> Result<Command, WordsFault
     ensures { Reads verb.Conflicts operands.now option_is.Nothing result }
 {
     let id = id(alloc, operand(operands, 0))??;
-    Ok(Command::Conflicts { id })
+    Ok(Command::Show(Show::Conflicts { id }))
 }
 
 pub fn resolve(alloc: Global, operands: &[Word]) -> Result<Command, WordsFault>
@@ -67,7 +67,7 @@ pub fn resolve(alloc: Global, operands: &[Word]) -> Result<Command, WordsFault>
 {
     let id = id(alloc, operand(operands, 0))??;
     let revs = revisions(alloc, &operands[1..])??;
-    Ok(Command::Resolve { id, revs })
+    Ok(Command::Edit(Edit::Resolve { id, revs }))
 }
 
 pub fn resolve_deleted(alloc: Global, operands: &[Word]) -> Result<Command, WordsFault>
@@ -76,5 +76,5 @@ pub fn resolve_deleted(alloc: Global, operands: &[Word]) -> Result<Command, Word
 {
     let id = id(alloc, operand(operands, 0))??;
     let revs = revisions(alloc, &operands[1..])??;
-    Ok(Command::ResolveDeleted { id, revs })
+    Ok(Command::Edit(Edit::ResolveDeleted { id, revs }))
 }

@@ -4,8 +4,8 @@ ghost use Rattle.std.specs.Prelude.{option_map, string_bytes};
 ghost use Rattle.clap.specs.Faults.{fault_of};
 ghost use Rattle.clap.specs.Kinds.{FailsBy, Kinds};
 ghost use Rattle.clap.specs.Words.{app_of};
-ghost use Rattle.cli_words.specs.Form.{HasNoGlobals, IsForm, asked, bare, form, has_no_kind};
-ghost use Rattle.cli_words.specs.Form.{option_text, with_option};
+ghost use Rattle.cli_words.specs.inner.Form.{HasNoGlobals, IsForm, asked, bare, form, has_no_kind};
+ghost use Rattle.cli_words.specs.inner.Form.{option_text, with_option};
 ghost use Rattle.cli_words.specs.Given.{allows};
 ghost use Rattle.cli_words.specs.Words.{fits};
 

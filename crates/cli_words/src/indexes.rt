@@ -6,7 +6,7 @@ ghost use Rattle.cli_words.specs.declared.verb.Verb.TheVariants as verb;
 
 use crate::operands::{end, id, operand, texts};
 use crate::word::Word;
-use crate::{Command, WordsFault};
+use crate::{Command, Edit, Show, View, WordsFault};
 use std::alloc::Global;
 
 pub fn index_create(alloc: Global, operands: &[Word]) -> Result<Command, WordsFault>
@@ -15,7 +15,7 @@ pub fn index_create(alloc: Global, operands: &[Word]) -> Result<Command, WordsFa
 {
     let name = id(alloc, operand(operands, 0))??;
     let exprs = texts(alloc, &operands[1..])?;
-    Ok(Command::IndexCreate { name, exprs })
+    Ok(Command::Edit(Edit::IndexCreate { name, exprs }))
 }
 
 pub fn index_delete(alloc: Global, operands: &[Word]) -> Result<Command, WordsFault>
@@ -23,7 +23,7 @@ pub fn index_delete(alloc: Global, operands: &[Word]) -> Result<Command, WordsFa
     ensures { Reads verb.IndexDelete operands.now option_is.Nothing result }
 {
     let name = id(alloc, operand(operands, 0))??;
-    Ok(Command::IndexDelete { name })
+    Ok(Command::Edit(Edit::IndexDelete { name }))
 }
 
 pub fn query(alloc: Global, operands: &[Word]) -> Result<Command, WordsFault>
@@ -32,7 +32,7 @@ pub fn query(alloc: Global, operands: &[Word]) -> Result<Command, WordsFault>
 {
     let name = id(alloc, operand(operands, 0))??;
     let values = texts(alloc, &operands[1..])?;
-    Ok(Command::Query { name, values })
+    Ok(Command::Show(Show::Query { name, values }))
 }
 
 pub fn range(alloc: Global, operands: &[Word]) -> Result<Command, WordsFault>
@@ -42,7 +42,7 @@ pub fn range(alloc: Global, operands: &[Word]) -> Result<Command, WordsFault>
     let name = id(alloc, operand(operands, 0))??;
     let start = end(alloc, operand(operands, 1))??;
     let end = end(alloc, operand(operands, 2))??;
-    Ok(Command::Range { name, start, end })
+    Ok(Command::Show(Show::Range { name, start, end }))
 }
 
 pub fn keys(alloc: Global, operands: &[Word]) -> Result<Command, WordsFault>
@@ -50,7 +50,7 @@ pub fn keys(alloc: Global, operands: &[Word]) -> Result<Command, WordsFault>
     ensures { Reads verb.Keys operands.now option_is.Nothing result }
 {
     let name = id(alloc, operand(operands, 0))??;
-    Ok(Command::Keys { name })
+    Ok(Command::Show(Show::Keys { name }))
 }
 
 pub fn view_create(alloc: Global, operands: &[Word]) -> Result<Command, WordsFault>
@@ -60,11 +60,11 @@ pub fn view_create(alloc: Global, operands: &[Word]) -> Result<Command, WordsFau
     let name = id(alloc, operand(operands, 0))??;
     let index = id(alloc, operand(operands, 1))??;
     let values = texts(alloc, &operands[2..])?;
-    Ok(Command::ViewCreate {
+    Ok(Command::View(View::Create {
         name,
         index,
         values,
-    })
+    }))
 }
 
 pub fn view_show(alloc: Global, operands: &[Word]) -> Result<Command, WordsFault>
@@ -72,7 +72,7 @@ pub fn view_show(alloc: Global, operands: &[Word]) -> Result<Command, WordsFault
     ensures { Reads verb.ViewShow operands.now option_is.Nothing result }
 {
     let name = id(alloc, operand(operands, 0))??;
-    Ok(Command::ViewShow { name })
+    Ok(Command::View(View::Show { name }))
 }
 
 pub fn view_delete(alloc: Global, operands: &[Word]) -> Result<Command, WordsFault>
@@ -80,5 +80,5 @@ pub fn view_delete(alloc: Global, operands: &[Word]) -> Result<Command, WordsFau
     ensures { Reads verb.ViewDelete operands.now option_is.Nothing result }
 {
     let name = id(alloc, operand(operands, 0))??;
-    Ok(Command::ViewDelete { name })
+    Ok(Command::View(View::Delete { name }))
 }

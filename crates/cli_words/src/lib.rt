@@ -24,6 +24,6 @@ mod synopsis;
 mod verb;
 mod word;
 
-pub use command::Command;
+pub use command::{Command, Edit, Online, Show, View};
 pub use fault::WordsFault;
 pub use read::{operands_shown, read_words};

@@ -8,7 +8,7 @@ use std::alloc::Global;
 use u1_base::{Items, Memory, Text};
 
 /// What the words before it make of the next word.
-#[derive(Clone, Copy, Debug, PartialEq, Eq)]
+#[derive(Clone, Copy, PartialEq, Eq)]
 pub enum Next {
     /// An operand, an option or `--`.
     Any,
@@ -19,7 +19,7 @@ pub enum Next {
 }
 
 /// What a word is.
-#[derive(Clone, Copy, Debug, PartialEq, Eq)]
+#[derive(Clone, Copy, PartialEq, Eq)]
 pub enum Role {
     Operand,
     /// An option, with a value in the same word or without one.

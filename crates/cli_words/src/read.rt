@@ -9,7 +9,7 @@ use crate::given::{Given, given_in};
 use crate::parted::{Parted, part};
 use crate::verb::Verb;
 use crate::word::Word;
-use crate::{Command, WordsFault, documents, indexes, stores, syncs};
+use crate::{Command, Show, WordsFault, documents, indexes, stores, syncs};
 use std::alloc::Global;
 use u1_base::Text;
 
@@ -68,15 +68,15 @@ fn read(alloc: Global, verb: Verb, operands: &[Word], given: &Given) -> Result<C
         Verb::ResolveDeleted => documents::resolve_deleted(alloc, operands),
         Verb::IndexCreate => indexes::index_create(alloc, operands),
         Verb::IndexDelete => indexes::index_delete(alloc, operands),
-        Verb::IndexList => Ok(Command::IndexList),
+        Verb::IndexList => Ok(Command::Show(Show::IndexList)),
         Verb::Query => indexes::query(alloc, operands),
         Verb::Range => indexes::range(alloc, operands),
         Verb::Keys => indexes::keys(alloc, operands),
-        Verb::All => Ok(Command::All {
+        Verb::All => Ok(Command::Show(Show::All {
             deleted: given.is_deleted(),
-        }),
+        })),
         Verb::Changes => stores::changes(operands),
-        Verb::Info => Ok(Command::Info),
+        Verb::Info => Ok(Command::Show(Show::Info)),
         Verb::Compact => Ok(Command::Compact),
         Verb::Sync => syncs::sync(alloc, operands),
         Verb::Serve => syncs::serve(operands),

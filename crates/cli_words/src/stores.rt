@@ -10,7 +10,7 @@ use crate::given::Given;
 use crate::limits::MOST_WORKLOAD;
 use crate::operands::{id, number, operand};
 use crate::word::Word;
-use crate::{Command, WordsFault};
+use crate::{Command, Show, WordsFault};
 use std::alloc::Global;
 use u1_base::limits::{GREATEST_COUNT, GREATEST_IMAGE_LIMIT, LEAST_IMAGE_LIMIT};
 use u1_base::{DbName, Memory, ReplicaUid};
@@ -75,7 +75,7 @@ pub fn changes(operands: &[Word]) -> Result<Command, WordsFault>
     ensures { Reads verb.Changes operands.now option_is.Nothing result }
 {
     let after = number(operand(operands, 0), 0, GREATEST_COUNT)?;
-    Ok(Command::Changes { after })
+    Ok(Command::Show(Show::Changes { after }))
 }
 
 pub fn work(operands: &[Word]) -> Result<Command, WordsFault>

@@ -7,7 +7,7 @@ ghost use Rattle.cli_words.specs.declared.verb.Verb.TheVariants as verb;
 use crate::limits::{MOST_BETWEEN, MOST_CONNECTIONS, MOST_ROUNDS};
 use crate::operands::{address, number, operand, port};
 use crate::word::Word;
-use crate::{Command, WordsFault};
+use crate::{Command, Online, WordsFault};
 use std::alloc::Global;
 
 pub fn sync(alloc: Global, operands: &[Word]) -> Result<Command, WordsFault>
@@ -15,7 +15,7 @@ pub fn sync(alloc: Global, operands: &[Word]) -> Result<Command, WordsFault>
     ensures { Reads verb.Sync operands.now option_is.Nothing result }
 {
     let with = address(alloc, operand(operands, 0))??;
-    Ok(Command::Sync { with })
+    Ok(Command::Online(Online::Sync { with }))
 }
 
 pub fn serve(operands: &[Word]) -> Result<Command, WordsFault>
@@ -24,7 +24,7 @@ pub fn serve(operands: &[Word]) -> Result<Command, WordsFault>
 {
     let port = port(operand(operands, 0))?;
     let count = number(operand(operands, 1), 1, MOST_CONNECTIONS)?;
-    Ok(Command::Serve { port, count })
+    Ok(Command::Online(Online::Serve { port, count }))
 }
 
 pub fn serve_docs(operands: &[Word]) -> Result<Command, WordsFault>
@@ -33,7 +33,7 @@ pub fn serve_docs(operands: &[Word]) -> Result<Command, WordsFault>
 {
     let port = port(operand(operands, 0))?;
     let count = number(operand(operands, 1), 1, MOST_CONNECTIONS)?;
-    Ok(Command::ServeDocs { port, count })
+    Ok(Command::Online(Online::ServeDocs { port, count }))
 }
 
 pub fn node(alloc: Global, operands: &[Word]) -> Result<Command, WordsFault>
@@ -44,10 +44,10 @@ pub fn node(alloc: Global, operands: &[Word]) -> Result<Command, WordsFault>
     let with = address(alloc, operand(operands, 1))??;
     let rounds = number(operand(operands, 2), 1, MOST_ROUNDS)?;
     let between = number(operand(operands, 3), 0, MOST_BETWEEN)?;
-    Ok(Command::Node {
+    Ok(Command::Online(Online::Node {
         port,
         with,
         rounds,
         between,
-    })
+    }))
 }

@@ -1,7 +1,7 @@
 //! How many operands a command has, and which option.
 
 /// The option that a command has, if it has one.
-#[derive(Clone, Copy, Debug, PartialEq, Eq)]
+#[derive(Clone, Copy, PartialEq, Eq)]
 pub enum Allowed {
     Nothing,
     /// `--deleted`, without a value.
@@ -11,7 +11,7 @@ pub enum Allowed {
 }
 
 /// What a command may stand with.
-#[derive(Clone, Copy, Debug, PartialEq, Eq)]
+#[derive(Clone, Copy, PartialEq, Eq)]
 pub struct Synopsis {
     /// The least number of operands.
     pub least: usize,

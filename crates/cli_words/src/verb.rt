@@ -5,7 +5,7 @@ ghost use Rattle.cli_words.specs.Table.{row_of, verb_in};
 use crate::synopsis::{Allowed, Synopsis};
 
 /// A command without its operands.
-#[derive(Clone, Copy, Debug, PartialEq, Eq)]
+#[derive(Clone, Copy, PartialEq, Eq)]
 pub enum Verb {
     Init,
     Create,

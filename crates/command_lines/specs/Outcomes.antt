@@ -2,6 +2,12 @@
 use Rattle.std.specs.Prelude.{ℕ}
 use Rattle.content.specs.declared.fault.ContentFault.{ContentFault}
 use Rattle.content.specs.declared.fault.ContentFault.TheVariants as content
+use Rattle.disks.specs.declared.fault.CompactFault.{CompactFault}
+use Rattle.disks.specs.declared.fault.CompactFault.TheVariants as compacting
+use Rattle.disks.specs.declared.fault.MakeFault.{MakeFault}
+use Rattle.disks.specs.declared.fault.MakeFault.TheVariants as making
+use Rattle.disks.specs.declared.fault.OpenFault.{OpenFault}
+use Rattle.disks.specs.declared.fault.OpenFault.TheVariants as opening
 use Rattle.expr_parser.specs.declared.fault.ParseFault.{ParseFault}
 use Rattle.expr_parser.specs.declared.fault.ParseFault.TheVariants as parse
 use Rattle.link.specs.declared.input.InputFault.{InputFault}
@@ -106,6 +112,23 @@ abbrev pub expression_end : ℕ → ParseFault → Outcome
 expression_end place parse.TooLong = Refused (refusal.IndexTooLong place)
 expression_end place (parse.At at) = Refused (refusal.IndexParse place at)
 expression_end place parse.Memory = Memory
+
+-- of a store that was not opened, not made, or not compacted
+abbrev pub open_end : OpenFault → Outcome
+open_end opening.Blank = Refused refusal.NoDatabase
+open_end (opening.Damaged disk place) = Damaged disk place
+open_end opening.Disk = DiskFault
+open_end opening.Memory = Memory
+
+abbrev pub make_end : MakeFault → Outcome
+make_end making.Exists = Refused refusal.DatabaseExists
+make_end making.Disk = DiskFault
+make_end making.Memory = Memory
+
+abbrev pub compact_end : CompactFault → Outcome
+compact_end (compacting.Damaged disk place) = Damaged disk place
+compact_end compacting.Disk = DiskFault
+compact_end compacting.Memory = Memory
 
 -- of a command that is refused
 abbrev pub refusal_end : CommandRefusal → Outcome

@@ -1,5 +1,5 @@
 -- What printing a text leaves of an output.
-use Rattle.std.specs.Prelude.{ℕ, ◌≤◌, List, codes, Result, Ok, Err}
+use Rattle.std.specs.Prelude.{ℕ, ◌≤◌, List, Result, Ok, Err}
 use Rattle.std.specs.Io.KnownBytes.{Appends}
 use Rattle.u1_base.specs.Causes.{Rose}
 use Rattle.link.specs.Streams.{AppendsFront, Output}
@@ -13,7 +13,3 @@ Puts text before after (Ok done) = Appends before.taken after.taken text × (bef
 Puts text before after (Err Sink) =
     AppendsFront before.taken after.taken text × (before.faults ≤ after.faults) × Rose before.faults after.faults
 Puts text before after (Err Memory) = AppendsFront before.taken after.taken text × (before.faults ≤ after.faults)
-
-abbrev pub print_fault_text : PrintFault → List ℕ
-print_fault_text Sink = codes "the output failed"
-print_fault_text Memory = codes "out of memory"

@@ -4,7 +4,7 @@ ghost use Rattle.command_lines.specs.Outcomes.{expression_end, status_of};
 
 use crate::PrintFault;
 use content::ContentFault;
-use disks::DiskName;
+use disks::{CompactFault, DiskName, MakeFault, OpenFault};
 use expr_parser::ParseFault;
 use link::InputFault;
 use replica_core::{IndexFault, PutFault, QueryFault, ResolveDocFault};
@@ -12,7 +12,7 @@ use u1_base::{Memory, Position};
 use vector_rev::Clock;
 
 /// How a run ends.
-#[derive(Debug, PartialEq, Eq, Drop)]
+#[derive(PartialEq, Eq, Drop)]
 pub enum Outcome {
     Done,
     /// The words are no command.
@@ -40,7 +40,7 @@ pub enum Outcome {
 }
 
 /// What is wrong with the words.
-#[derive(Clone, Copy, Debug, PartialEq, Eq)]
+#[derive(Clone, Copy, PartialEq, Eq)]
 pub enum UsageKind {
     /// They are not the words of a command.
     Words,
@@ -49,7 +49,7 @@ pub enum UsageKind {
 }
 
 /// Why a command is refused.
-#[derive(Debug, PartialEq, Eq, Drop)]
+#[derive(PartialEq, Eq, Drop)]
 pub enum Refusal {
     NoDatabase,
     DatabaseExists,
@@ -244,6 +244,52 @@ impl From<QueryFault> for Outcome {
             QueryFault::WrongWidth => Outcome::Refused(Refusal::WrongWidth),
             QueryFault::BadGlob(place) => Outcome::Refused(Refusal::BadGlob(place)),
             QueryFault::Memory => Outcome::Memory,
+        }
+    }
+}
+
+impl From<OpenFault> for Outcome {
+    ghost use Rattle.std.specs.Prelude.{◌≡◌};
+    ghost use Rattle.command_lines.specs.Outcomes.{open_end};
+
+    ghost from_gives = { λ fault e. e ≡ open_end fault };
+
+    fn from(fault: OpenFault) -> Outcome {
+        match fault {
+            OpenFault::Blank => Outcome::Refused(Refusal::NoDatabase),
+            OpenFault::Damaged { disk, place } => Outcome::Damaged { disk, place },
+            OpenFault::Disk => Outcome::DiskFault,
+            OpenFault::Memory => Outcome::Memory,
+        }
+    }
+}
+
+impl From<MakeFault> for Outcome {
+    ghost use Rattle.std.specs.Prelude.{◌≡◌};
+    ghost use Rattle.command_lines.specs.Outcomes.{make_end};
+
+    ghost from_gives = { λ fault e. e ≡ make_end fault };
+
+    fn from(fault: MakeFault) -> Outcome {
+        match fault {
+            MakeFault::Exists => Outcome::Refused(Refusal::DatabaseExists),
+            MakeFault::Disk => Outcome::DiskFault,
+            MakeFault::Memory => Outcome::Memory,
+        }
+    }
+}
+
+impl From<CompactFault> for Outcome {
+    ghost use Rattle.std.specs.Prelude.{◌≡◌};
+    ghost use Rattle.command_lines.specs.Outcomes.{compact_end};
+
+    ghost from_gives = { λ fault e. e ≡ compact_end fault };
+
+    fn from(fault: CompactFault) -> Outcome {
+        match fault {
+            CompactFault::Damaged { disk, place } => Outcome::Damaged { disk, place },
+            CompactFault::Disk => Outcome::DiskFault,
+            CompactFault::Memory => Outcome::Memory,
         }
     }
 }

@@ -8,7 +8,7 @@ use Rattle.conflicts.specs.State.{History, State}
 use Rattle.replica_state.specs.Steps.{step_of}
 use Rattle.replica_state.specs.declared.step.Step.{Step as Held}
 use Rattle.compaction.specs.Compaction.{Later, later_in, nothing_later, left, compacted}
-use Rattle.compaction.specs.Noted.{with_step, with_steps, backward}
+use Rattle.compaction.specs.inner.Noted.{with_step, with_steps, backward}
 use Rattle.compaction.proofs.Repeated.{left_same}
 
 -- ---- the definition

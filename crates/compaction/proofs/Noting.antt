@@ -20,7 +20,7 @@ use Rattle.conflicts.specs.declared.moves.PosTable.TheVariants.{Known, Told}
 use Rattle.doc_table.specs.Listed.{without}
 use Rattle.replica_state.specs.Held.{chosen}
 use Rattle.compaction.specs.Compaction.{Later, accepts_rev, left, marked_by}
-use Rattle.compaction.specs.Noted.{has_clock, with_accepted, with_moved, with_steps}
+use Rattle.compaction.specs.inner.Noted.{has_clock, with_accepted, with_moved, with_steps}
 
 pub same_later : (a b : Later) → ((d : Text) (r : Clock) → a.accepted d r ≡ b.accepted d r)
     → ((t : PosTable) (u : Uid) → a.moved t u ≡ b.moved t u) → ((n : Text) → a.created n ≡ b.created n) → a ≡ b

@@ -1,4 +1,4 @@
 pub mod Compaction
 pub mod Images
 pub mod Law
-pub mod Noted
+pub mod inner

@@ -9,7 +9,7 @@ ghost use Rattle.replica_state.specs.Steps.{step_of};
 ghost use Rattle.replica_state.specs.declared.step.Step.TheVariants as steps;
 ghost use Rattle.compaction.specs.Compaction.{compacted, compaction, left, marked_by};
 ghost use Rattle.compaction.specs.Compaction.{nothing_later};
-ghost use Rattle.compaction.specs.Noted.{later_of, with_steps};
+ghost use Rattle.compaction.specs.inner.Noted.{later_of, with_steps};
 
 use crate::noted::Noted;
 use crate::standing::{has_index, is_current, is_member};

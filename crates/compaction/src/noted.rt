@@ -8,8 +8,8 @@ ghost use Rattle.vector_rev.specs.Clock.{Clock};
 ghost use Rattle.vector_rev.specs.Compare.{same};
 ghost use Rattle.conflicts.specs.State.{Text};
 ghost use Rattle.compaction.specs.Compaction.{nothing_later};
-ghost use Rattle.compaction.specs.Noted.{has_clock, later_of, with_accepted, with_created};
-ghost use Rattle.compaction.specs.Noted.{with_moved};
+ghost use Rattle.compaction.specs.inner.Noted.{has_clock, later_of, with_accepted, with_created};
+ghost use Rattle.compaction.specs.inner.Noted.{with_moved};
 
 use conflicts::{Move, PosTable};
 use doc_table::Table;

@@ -10,7 +10,7 @@ use std::alloc::Global;
 use u1_base::{Memory, ReplicaUid};
 
 /// The bodies of steps in format 2, and the uids that have numbers after them.
-#[derive(Debug, Drop)]
+#[derive(Drop)]
 pub struct Spelled {
     pub bodies: Bodies,
     pub uids: Uids,

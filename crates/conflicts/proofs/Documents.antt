@@ -4,7 +4,8 @@ use Rattle.std.proofs.Common.{sym, ◌∙◌, ap, append_assoc, append-nil}
 use Rattle.vector_rev.specs.Clock.{Clock, covers}
 use Rattle.vector_rev.proofs.ClockLaws.{covers-itself, covers-trans}
 use Rattle.conflicts.specs.Lists.{In}
-use Rattle.conflicts.specs.Pruning.{IsPreorder, undominated, pruned}
+use Rattle.conflicts.specs.Pruning.{undominated, pruned}
+use Rattle.conflicts.specs.inner.Pruning.{IsPreorder}
 use Rattle.conflicts.specs.Document.{member_of, covers_member, members_of, current_after, current_from, Document}
 use Rattle.conflicts.specs.Document.{no_document, document_of, document_after, document_after_all}
 use Rattle.conflicts.specs.declared.member.Member.{Member}

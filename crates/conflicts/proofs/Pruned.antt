@@ -7,8 +7,9 @@ use Rattle.std.proofs.lemmas.Bool.{and_parts, and_from}
 use Rattle.std.proofs.lemmas.List.Elements.{filter-append, filter_agree}
 use Rattle.std.proofs.lemmas.List.Folds.{list_any-append}
 use Rattle.conflicts.specs.Lists.{In}
-use Rattle.conflicts.specs.Pruning.{IsPreorder, is_above, is_equal, last_ones, undominated, pruned, pruned_all}
-use Rattle.conflicts.specs.Pruning.{AllCovered}
+use Rattle.conflicts.specs.Pruning.{is_above, is_equal, last_ones, undominated, pruned}
+use Rattle.conflicts.specs.inner.Pruning.{IsPreorder, pruned_all}
+use Rattle.conflicts.specs.inner.Pruning.{AllCovered}
 use Rattle.u1_base.proofs.Booleans.{not_both, not_true, none_true}
 use Rattle.conflicts.proofs.Members.{In-left, In-last, In-push, found, finds, In-filter, from_filter, filter-filter}
 

@@ -10,7 +10,7 @@ use Rattle.conflicts.specs.Lists.{In}
 use Rattle.conflicts.specs.Document.{has_rev, others}
 use Rattle.conflicts.specs.Kept.{Kept, current, current_first, document}
 use Rattle.conflicts.specs.Decision.{nothing, accepts, may_merge, merge_of, decides_over, decides}
-use Rattle.conflicts.specs.Walk.{IsMerging, SomeNewer, SomeSame}
+use Rattle.conflicts.specs.inner.Walk.{IsMerging, SomeNewer, SomeSame}
 use Rattle.conflicts.specs.declared.member.Member.{Member}
 use Rattle.conflicts.specs.declared.merges.Merging.{Merging}
 use Rattle.conflicts.specs.declared.accept.Accept.{Accept}

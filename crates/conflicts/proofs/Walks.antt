@@ -16,7 +16,8 @@ use Rattle.conflicts.specs.Document.{others}
 use Rattle.conflicts.specs.Kept.{Kept, current, current_first}
 use Rattle.conflicts.specs.Making.{greatest, revs}
 use Rattle.conflicts.specs.Decision.{same_content, is_alike, is_unlike, alike, unlike, merge_parents, may_merge}
-use Rattle.conflicts.specs.Walk.{IsMerging, LooksAt, FoundAt, StepsTo, seen, SomeNewer, SomeSame}
+use Rattle.conflicts.specs.Walk.{seen}
+use Rattle.conflicts.specs.inner.Walk.{IsMerging, LooksAt, FoundAt, StepsTo, SomeNewer, SomeSame}
 use Rattle.conflicts.specs.declared.member.Member.{Member}
 use Rattle.conflicts.specs.declared.merges.Merging.{Merging}
 use Rattle.conflicts.specs.declared.merges.Met.{Met}

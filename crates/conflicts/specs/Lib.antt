@@ -9,6 +9,8 @@ pub mod Decision
 pub mod Walk
 pub mod Names
 pub mod State
+pub mod Writing
 pub mod Laws
 pub mod Acceptances
 pub mod Receipts
+pub mod inner

@@ -118,12 +118,16 @@ abbrev pub after_all : State → List Step → State
 after_all s [] = s
 after_all s (x ∷ later) = after_all (after s x) later
 
+-- the place that is kept of a peer; where none was ever kept, the one before the first entry
+abbrev pub position_kept : State → PosTable → Uid → Place
+position_kept s table uid = unwrap_or (s.position table uid) nowhere
+
 -- ---- which step fits
 
 -- a move passes the source check: it does not take the position back from where it is
 abbrev pub MoveFits : State → Option Move → Type 0
 MoveFits s None = Unit {0}
-MoveFits s (Some m) = GoesOn (unwrap_or (s.position m.table m.uid) nowhere) m.at
+MoveFits s (Some m) = GoesOn (position_kept s m.table m.uid) m.at
 
 -- a step fits a state: an acceptance by its document and its move, a move by the source check, an index is created
 -- where there is none of its name and deleted where there is one

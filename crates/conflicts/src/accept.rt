@@ -8,7 +8,7 @@ use u1_base::Memory;
 use vector_rev::{Clock, Clocks};
 
 /// How an accepted revision came to be.
-#[derive(Clone, Copy, Debug, PartialEq, Eq)]
+#[derive(Clone, Copy, PartialEq, Eq)]
 pub enum Making {
     /// An edit or a deletion at this replica.
     Edit,

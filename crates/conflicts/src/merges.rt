@@ -6,7 +6,8 @@ ghost use Rattle.vector_rev.specs.Clock.{count_of, covers, dominates};
 ghost use Rattle.conflicts.specs.Decision.{may_merge, merge_of, same_content};
 ghost use Rattle.conflicts.specs.Kept.{current, current_first};
 ghost use Rattle.conflicts.specs.Making.{greatest};
-ghost use Rattle.conflicts.specs.Walk.{FoundAt, IsMerging, StepsTo, WalksTo, seen};
+ghost use Rattle.conflicts.specs.Walk.{seen};
+ghost use Rattle.conflicts.specs.inner.Walk.{FoundAt, IsMerging, StepsTo, WalksTo};
 ghost use Rattle.content.specs.Values.{is_same};
 
 use crate::apply::is_newer;

@@ -4,7 +4,7 @@ ghost use Rattle.std.specs.Prelude.{◌≡◌, IfOk};
 use u1_base::{Memory, Position, ReplicaUid};
 
 /// Which of the two positions that are kept of a peer.
-#[derive(Clone, Copy, Debug, PartialEq, Eq)]
+#[derive(Clone, Copy, PartialEq, Eq)]
 pub enum PosTable {
     /// The place up to which this replica knows the peer's log.
     Known,

@@ -3,7 +3,7 @@ ghost use Rattle.std.specs.Prelude.{◌≡◌, false, cond, IfOk, Some, option_c
 ghost use Rattle.vector_rev.specs.Clock.{covers};
 ghost use Rattle.conflicts.specs.Decision.{accepts as accepts_it, decides, nothing};
 ghost use Rattle.conflicts.specs.Kept.{current, current_first, document};
-ghost use Rattle.conflicts.specs.Walk.{IsMerging};
+ghost use Rattle.conflicts.specs.inner.Walk.{IsMerging};
 
 use crate::member::copied;
 use crate::merges::{Merging, Met, look_at_others, merged, merging_with};
@@ -13,7 +13,7 @@ use u1_base::{Memory, ReplicaUid};
 use vector_rev::{Clocks, Order};
 
 /// What is answered of a revision that was handed over.
-#[derive(Clone, Copy, Debug, PartialEq, Eq)]
+#[derive(Clone, Copy, PartialEq, Eq)]
 pub enum Outcome4 {
     /// It is the current revision now.
     Inserted,

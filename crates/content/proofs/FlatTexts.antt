@@ -24,7 +24,7 @@ use Rattle.json.proofs.Printed.Strings.{escape_byte_plain}
 use Rattle.content.specs.Tree.{Tree, whole, text, nesting}
 use Rattle.content.specs.Canonical.{canonical}
 use Rattle.content.specs.Contents.{IsFormed}
-use Rattle.content.specs.Fronts.{IsNumberBefore, IsValueBefore}
+use Rattle.content.specs.inner.Fronts.{IsNumberBefore, IsValueBefore}
 use Rattle.content.proofs.PlainLanes.{IsPlainTo}
 
 -- ---- the front of a list

@@ -9,7 +9,7 @@ use Rattle.serde_json.specs.Find.{of_integer}
 use Rattle.serde_json.specs.Read.{max_depth, number_of, read}
 use Rattle.content.specs.Canonical.{canonical, data_of}
 use Rattle.content.specs.Contents.{IsContent}
-use Rattle.content.specs.Fronts.{IsBefore, IsNumberBefore}
+use Rattle.content.specs.inner.Fronts.{IsBefore, IsNumberBefore}
 use Rattle.content.specs.Reading.{tree_in, whole_in}
 use Rattle.content.specs.Spelled.{IsSpelled, spelled_tree}
 use Rattle.content.specs.Tree.{Tree, whole, Items, no_items, item, Fields, no_fields, field}

@@ -1,10 +1,11 @@
 -- Fields of which some are asked for.
-use Rattle.std.proofs.Common.{◌≡◌, ℕ, List, [], ◌∷◌, ◌++◌, map, Bool, true, false, cond, sym, ap, arith, ◌∙◌, append-nil, filter, refl}
+use Rattle.std.proofs.Common.{◌≡◌, ℕ, List, [], ◌∷◌, ◌++◌, map, Bool, true, false, cond, sym, ap, arith, ◌∙◌}
+use Rattle.std.proofs.Common.{append-nil, filter, refl}
 use Rattle.std.specs.Prelude.{if◌then◌else◌}
 use Rattle.serde_json.specs.Written.{members_text}
 use Rattle.content.specs.Canonical.{fields_data}
 use Rattle.content.specs.Parts.{fields_among, is_among}
-use Rattle.content.specs.Pieces.{IsPartBefore, SomeBefore, asked}
+use Rattle.content.specs.inner.Pieces.{IsPartBefore, SomeBefore, asked}
 use Rattle.content.specs.Tree.{Tree, Fields, no_fields, field, object}
 use Rattle.content.specs.TreeOf.{fields_view, pair_of}
 use Rattle.content.specs.declared.value.Field.{Field}

@@ -9,7 +9,7 @@ use Rattle.std.proofs.lemmas.Simd.{zip2_splat_left, none_from_empty_mask, run_in
 use Rattle.std.specs.List.{prefix_len}
 use lib.Count.{count_trailing_zeros}
 use lib.Lanes.{chunk, zip2, mask_l, top}
-use Rattle.content.specs.Fronts.{is_special}
+use Rattle.content.specs.inner.Fronts.{is_special}
 
 -- what a comparison puts into a lane
 abbrev flag : Bool → ℕ

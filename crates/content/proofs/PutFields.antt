@@ -10,7 +10,8 @@ use Rattle.std.specs.Ordering.{is_lt, match_ordering, ordering_reverse}
 use Rattle.serde_json.specs.Data.{Num, Data, Members, no_members, member, put, depth, members_depth}
 use Rattle.content.specs.Canonical.{data_of, fields_data}
 use Rattle.content.specs.Faults.{any_number, any_in_members}
-use Rattle.content.specs.Plain.{comes_after, place_among}
+use Rattle.content.specs.Plain.{comes_after}
+use Rattle.content.specs.inner.Plain.{place_among}
 use Rattle.content.specs.Tree.{Tree, Fields, nesting, fields_nesting}
 use Rattle.content.specs.TreeOf.{pair_of, fields_view}
 use Rattle.content.specs.declared.value.Field.{Field}

@@ -13,8 +13,8 @@ use Rattle.content.specs.Tree.{items_nesting, fields_nesting}
 use Rattle.content.specs.Canonical.{canonical, items_data, fields_data}
 use Rattle.content.specs.Contents.{AreFormed, HasFormedFields, Precedes, most_bytes}
 use Rattle.content.specs.Plain.{comes_after}
-use Rattle.content.specs.Fronts.{AreFieldsBefore, AreItemsBefore, FieldsBefore, IsBefore, IsNamed, IsValueBefore}
-use Rattle.content.specs.Fronts.{ItemsBefore}
+use Rattle.content.specs.inner.Fronts.{AreFieldsBefore, AreItemsBefore, FieldsBefore, IsBefore, IsNamed, IsValueBefore}
+use Rattle.content.specs.inner.Fronts.{ItemsBefore}
 use Rattle.content.specs.Spelled.{IsSpelled}
 use Rattle.content.proofs.PutFields.{is_less}
 

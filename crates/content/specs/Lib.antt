@@ -6,9 +6,7 @@ pub mod Faults
 pub mod Reading
 pub mod TreeOf
 pub mod Values
-pub mod Kinds
 pub mod Parts
-pub mod Pieces
 pub mod Plain
 pub mod Spelled
-pub mod Fronts
+pub mod inner

@@ -1,8 +1,7 @@
 -- Words of private clauses: how a plain text is read where it stands.
-use Rattle.std.specs.Prelude.{ℕ, suc, ◌+◌, List, Bool, true, Option, Some, None, option_map}
+use Rattle.std.specs.Prelude.{ℕ, ◌+◌, List, Bool, true, Option, Some, None}
 use Rattle.std.specs.Cmp.Lexicographic.{slice_cmp}
-use Rattle.std.specs.Ordering.{nat_cmp, is_lt, match_ordering}
-use Rattle.content.specs.Tree.{Fields, no_fields, field}
+use Rattle.std.specs.Ordering.{nat_cmp, is_lt}
 
 -- how many levels the grammar of `serde_json`, which takes 127, still allows where a content, which has at most 64, may
 -- nest so many deep
@@ -13,9 +12,3 @@ more_levels levels = levels + 63
 abbrev pub comes_after : Option (List ℕ) → List ℕ → Bool
 comes_after None name = true
 comes_after (Some last) name = is_lt (slice_cmp nat_cmp last name)
-
--- where the name goes among fields whose names ascend, if it is not there yet
-abbrev pub place_among : List ℕ → Fields → Option ℕ
-place_among name no_fields = Some 0
-place_among name (field other t fs) =
-    match_ordering (slice_cmp nat_cmp name other) (Some 0) None (option_map suc (place_among name fs))

@@ -3,7 +3,7 @@ ghost use Rattle.std.specs.Prelude.{◌≡◌, nat_lt};
 ghost use Rattle.serde_json.specs.Data.{depth, items_depth, members_depth};
 ghost use Rattle.serde_json.specs.View.{view, items_view, members_view, number_view};
 ghost use Rattle.content.specs.Faults.{any_number, any_in_items, any_in_members, fault_of_value};
-ghost use Rattle.content.specs.Kinds.{is_kind};
+ghost use Rattle.content.specs.inner.Kinds.{is_kind};
 
 use crate::ContentFault;
 use serde_json::{Map, Number, Value};

@@ -6,7 +6,7 @@ ghost use Rattle.std.specs.Char.{is_ascii_digit};
 ghost use Rattle.std.specs.Fmt.{decimal};
 ghost use Rattle.json.specs.Print.{quoted};
 ghost use Rattle.json.specs.Run.{is_stop};
-ghost use Rattle.content.specs.Fronts.{IsValueBefore};
+ghost use Rattle.content.specs.inner.Fronts.{IsValueBefore};
 
 use crate::scan::plain_end;
 

@@ -4,7 +4,7 @@
 //! made where they stand.
 ghost use Rattle.std.specs.Prelude.{◌≡◌, ◌<◌, ◌∷◌, [], IfOk, length};
 ghost use Rattle.content.specs.Contents.{most_depth};
-ghost use Rattle.content.specs.Fronts.{FieldsBefore, IsBefore, IsNumberBefore, ItemsBefore};
+ghost use Rattle.content.specs.inner.Fronts.{FieldsBefore, IsBefore, IsNumberBefore, ItemsBefore};
 ghost use Rattle.content.specs.TreeOf.{fields_view, items_view, tree_of};
 
 use crate::flat::{behind_negative, behind_number, behind_word, plain_text};

@@ -3,7 +3,7 @@
 ghost use Rattle.std.specs.Prelude.{◌≡◌, ◌<◌, IfOk, filter, length};
 ghost use Rattle.std.specs.Str.{bytes_eq};
 ghost use Rattle.content.specs.Parts.{is_among, part_of};
-ghost use Rattle.content.specs.Pieces.{IsPartBefore, IsTaken, SomeBefore};
+ghost use Rattle.content.specs.inner.Pieces.{IsPartBefore, IsTaken, SomeBefore};
 ghost use Rattle.content.specs.TreeOf.{fields_view, tree_of};
 
 use crate::made::{made_value, text_of};

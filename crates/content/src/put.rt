@@ -4,7 +4,7 @@ ghost use Rattle.std.specs.Cmp.Lexicographic.{slice_cmp};
 ghost use Rattle.std.specs.Ordering.{nat_cmp};
 ghost use Rattle.serde_json.specs.Data.{put};
 ghost use Rattle.content.specs.Canonical.{data_of, fields_data};
-ghost use Rattle.content.specs.Plain.{place_among};
+ghost use Rattle.content.specs.inner.Plain.{place_among};
 ghost use Rattle.content.specs.TreeOf.{fields_view, pair_of};
 
 use crate::Field;

@@ -1,7 +1,7 @@
 //! Where the plain text of ASCII ends, sixteen bytes at a time.
 ghost use Rattle.std.specs.Prelude.{◌≡◌, ◌+◌, ◌<◌, ◌≤◌, ℕ, false, length, map, slice_index};
 ghost use Rattle.std.specs.Simd.Lanes.{chunk, mask_l};
-ghost use Rattle.content.specs.Fronts.{is_special};
+ghost use Rattle.content.specs.inner.Fronts.{is_special};
 
 use std::simd::prelude::*;
 

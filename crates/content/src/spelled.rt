@@ -5,7 +5,8 @@ ghost use Rattle.std.specs.Prelude.{◌≡◌, ◌<◌, ◌++◌, ◌∷◌, IfS
 ghost use Rattle.std.specs.Prelude.{length, option_map};
 ghost use Rattle.json.specs.Print.{quoted};
 ghost use Rattle.content.specs.Plain.{comes_after as comes_behind};
-ghost use Rattle.content.specs.Fronts.{AreFieldsBefore, AreItemsBefore, IsNamed, IsValueBefore};
+ghost use Rattle.content.specs.inner.Fronts.{AreFieldsBefore, AreItemsBefore, IsNamed};
+ghost use Rattle.content.specs.inner.Fronts.{IsValueBefore};
 ghost use Rattle.content.specs.Spelled.{IsSpelled};
 
 use crate::flat::{behind_flat, plain_text};

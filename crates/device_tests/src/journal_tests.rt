@@ -1,13 +1,18 @@
-//! An image on one disk: opened, written, and begun anew with a stop at each device call. What is
-//! added to an image, and each damage of one, is tested in `volume_tests`.
+//! An image on one disk: opened, written, begun anew, and given two bodies together, with a stop at
+//! each device call. What single bodies add to an image, and each damage of one, is tested in
+//! `volume_tests`.
+ghost use Rattle.disk_model.specs.Device.{file_of};
+ghost use Rattle.disk_model.specs.MemDisk.{mem_known};
+ghost use Rattle.journal.specs.Journal.{IsHeld};
+
 use crash_harness::{are, disk_of, images_during};
 use disk_model::MemDisk;
 use journal::{
-    Bodies, Header, ImageFault, Journal, NewImage, OpenFault, Opened, open_image, restart_image,
-    write_image,
+    AppendFault, Bodies, Header, ImageFault, Journal, NewEntries, NewImage, OpenFault, Opened,
+    open_image, restart_image, write_image,
 };
 use std::alloc::Global;
-use u1_base::limits::GREATEST_IMAGE_LIMIT;
+use u1_base::limits::{GREATEST_IMAGE_LIMIT, LEAST_IMAGE_LIMIT};
 use u1_base::{Bytes, DbName, IdFault, Memory, ReplicaUid};
 
 // The empty image of the database `db` at the replica `a`, with the greatest limit.
@@ -23,6 +28,10 @@ const ONE: &[u8] = b"U1DBVOL\x02\0\x02db\0\x01a\0\0\x01\0\0\0\0\0\x01\0\0\0\x03x
 
 const ONE_AND_MORE: &[u8] =
     b"U1DBVOL\x02\0\x02db\0\x01a\0\0\x01\0\0\0\0\0\x01\0\0\0\x03xyz\0\x01\0\0\0\x01z\0";
+
+// The image with both bodies, as it is where they came one by one.
+const TWO: &[u8] =
+    b"U1DBVOL\x02\0\x02db\0\x01a\0\0\x01\0\0\0\0\0\x01\0\0\0\x03xyz\x01\0\0\0\x01z\0";
 
 fn header(alloc: Global) -> Result<Header, IdFault> {
     let name = DbName::read(alloc, "db")?;
@@ -44,11 +53,14 @@ enum Found {
     Other,
 }
 
-// The bodies are none, or the one above.
+// The bodies are none, the one above, or that and `z`.
 fn count(opened: &Opened) -> Found {
     match opened.bodies.as_slice() {
         [] => Found::Bodies(0),
         [body] if are(body.as_slice(), BODY) => Found::Bodies(1),
+        [body, last] if are(body.as_slice(), BODY) && are(last.as_slice(), b"z") => {
+            Found::Bodies(2)
+        }
         _ => Found::Other,
     }
 }
@@ -183,4 +195,117 @@ fn is_image_written(alloc: Global) -> bool {
 #[test]
 fn writes_the_empty_image(rt: HostRuntime) {
     assert!(rt; is_image_written(rt.alloc()));
+}
+
+// ---- two bodies are added together
+
+// Whether both bodies were staged, and added.
+fn adds_both(alloc: Global, disk: &mut MemDisk, journal: &mut Journal) -> bool
+    requires { IsHeld journal.old (file_of (mem_known disk.old)) }
+{
+    let mut entries = NewEntries::new(alloc);
+    if journal.stage(alloc, &mut entries, BODY).is_err() {
+        return false;
+    }
+    if journal.stage(alloc, &mut entries, b"z").is_err() {
+        return false;
+    }
+    journal.append_all(disk, &entries).is_ok()
+}
+
+fn opens_and_adds(alloc: Global, disk: &mut MemDisk) -> bool {
+    match open_image(alloc, disk) {
+        Ok(opened) => {
+            let mut journal = opened.journal;
+            adds_both(alloc, disk, &mut journal)
+        }
+        Err(_) => false,
+    }
+}
+
+// A stop leaves both bodies or none.
+fn are_all_or_none(alloc: Global, images: &Vec<Bytes>) -> bool {
+    for image in images {
+        let found = read_in(alloc, image.as_slice());
+        if found != Found::Bodies(0) && found != Found::Bodies(2) {
+            return false;
+        }
+    }
+    true
+}
+
+fn each_stop_leaves_all_or_none(alloc: Global, disk: &MemDisk) -> bool {
+    for call in 0..disk.calls() {
+        match images_during(alloc, disk, call) {
+            Ok(images) if are_all_or_none(alloc, &images) => {}
+            _ => return false,
+        }
+    }
+    true
+}
+
+// Whether both are added just if no call fails, and each stop leaves both or none.
+fn adds_all_or_none(alloc: Global, failing: u64) -> bool {
+    match disk_of(alloc, EMPTY, &[failing]) {
+        Ok(mut disk) => {
+            let are_added = opens_and_adds(alloc, &mut disk);
+            are_added == (disk.calls() <= failing)
+                && (!are_added || are(disk.bytes(), TWO))
+                && each_stop_leaves_all_or_none(alloc, &disk)
+        }
+        Err(_) => false,
+    }
+}
+
+// Opening and adding make at most seven calls.
+fn adds_over_each(alloc: Global) -> bool {
+    for failing in 0..8u64 {
+        if !adds_all_or_none(alloc, failing) {
+            return false;
+        }
+    }
+    true
+}
+
+#[test]
+fn adds_two_bodies_together(rt: HostRuntime) {
+    assert!(rt; adds_over_each(rt.alloc()));
+}
+
+// The empty image has 24 bytes, and an entry five more than its body. The first body fits behind
+// them, and the second does not fit behind the first.
+fn second_is_full(alloc: Global, journal: &Journal) -> bool {
+    let body = [7u8; 500];
+    let mut entries = NewEntries::new(alloc);
+    let first = journal.stage(alloc, &mut entries, &body);
+    let second = journal.stage(alloc, &mut entries, &body);
+    let full = AppendFault::Full {
+        need: 1034,
+        limit: 1024,
+    };
+    first == Ok(()) && second == Err(full) && entries.len() == 505
+}
+
+fn is_full_behind_staged(alloc: Global) -> bool {
+    let Ok(head) = header(alloc) else {
+        return false;
+    };
+    let Header { name, uid, .. } = head;
+    let head = Header {
+        name,
+        uid,
+        limit: LEAST_IMAGE_LIMIT,
+    };
+    let Ok(mut disk) = disk_of(alloc, b"", &[]) else {
+        return false;
+    };
+    match write_image(alloc, &mut disk, &head, &Bodies::new(alloc)) {
+        Ok(journal) => second_is_full(alloc, &journal),
+        Err(_) => false,
+    }
+}
+
+#[test]
+fn counts_what_is_staged(rt: HostRuntime) {
+    assert!(rt; is_full_behind_staged(rt.alloc()));
 }

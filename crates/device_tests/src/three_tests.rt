@@ -4,7 +4,7 @@ ghost use Rattle.std.specs.Prelude.{◌≡◌, IfOk, IsTrue, OnOk, [], ◌∷◌
 ghost use Rattle.disk_model.specs.MemDisk.{mem_known};
 ghost use Rattle.disks.specs.Disks.{disks_known};
 ghost use Rattle.disks.specs.Moments.{LeavesTogether};
-ghost use Rattle.disks.specs.RootLast.{AreEmpty, IsRootLast, whole};
+ghost use Rattle.disks.specs.inner.RootLast.{AreEmpty, IsRootLast, whole};
 
 use crash_harness::{Files, Left, NO_FAILING, are, disk_of, disks_of, got};
 use disk_model::{Disk, DiskFailed, MemDisk};

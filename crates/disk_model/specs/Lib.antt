@@ -8,3 +8,4 @@ pub mod Front
 pub mod Faults
 pub mod FileDisk
 pub mod MemDisk
+pub mod inner

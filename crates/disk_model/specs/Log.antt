@@ -1,5 +1,4 @@
--- What the log of a disk in memory says of its past: each call can be taken back. `is_open` is private.
-use Rattle.std.specs.Prelude.{ℕ, Bool, true, false, List, [], ◌∷◌, ◌++◌, take}
+use Rattle.std.specs.Prelude.{ℕ, List, [], ◌∷◌, ◌++◌, take}
 use Rattle.disk_model.specs.Disk.{Unsynced, settled, wrote, was_cut, overwritten}
 use Rattle.disk_model.specs.Device.{Moment, moment, alone}
 use Rattle.disk_model.specs.declared.calls.Call.{Call}
@@ -44,10 +43,3 @@ now_of log file = reached (settled (before log file)) log file
 
 abbrev pub past_of : List Call → List ℕ → List Moment
 past_of log file = moments (settled (before log file)) log file
-
--- no sync
-abbrev pub is_open : Call → Bool
-is_open Look = true
-is_open (Write at size replaced former) = true
-is_open (Cut to removed) = true
-is_open Sync = false

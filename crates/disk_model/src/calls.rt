@@ -4,7 +4,8 @@ ghost use Rattle.std.specs.Prelude.{length, take, drop};
 ghost use Rattle.std.specs.List.{list_all};
 ghost use Rattle.disk_model.specs.Disk.{IsCrashImage, overwritten, settled, was_cut, wrote};
 ghost use Rattle.disk_model.specs.Device.{alone, moment};
-ghost use Rattle.disk_model.specs.Log.{before, is_open, now_of, past_of, undone};
+ghost use Rattle.disk_model.specs.Log.{before, now_of, past_of, undone};
+ghost use Rattle.disk_model.specs.inner.Log.{is_open};
 ghost use Rattle.disk_model.specs.Losses.{left_of};
 ghost use Rattle.disk_model.specs.declared.losses.Choice.{Choice};
 
@@ -12,7 +13,7 @@ use std::alloc::Global;
 use u1_base::{Bytes, Memory};
 
 /// One call, and what it replaced or removed.
-#[derive(Debug, Drop)]
+#[derive(Drop)]
 pub enum Call {
     /// A call that changed nothing.
     Look,

@@ -2,7 +2,8 @@
 ghost use Rattle.std.specs.Prelude.{◌≡◌, ℕ, ◌≤◌, true, List, IfOk, OnOk, length, take, drop};
 ghost use Rattle.disk_model.specs.Disk.{Cut, IsCrashImage, Torn, Unsynced, overwritten};
 ghost use Rattle.std.specs.List.{list_all};
-ghost use Rattle.disk_model.specs.Log.{before, is_open, now_of, step};
+ghost use Rattle.disk_model.specs.Log.{before, now_of, step};
+ghost use Rattle.disk_model.specs.inner.Log.{is_open};
 ghost use Rattle.disk_model.specs.Losses.{arrived, left_of, lost, remaining};
 
 use crate::calls::{Call, put, settled_calls, take_back};
@@ -10,7 +11,7 @@ use std::alloc::Global;
 use u1_base::{Bytes, Memory};
 
 /// What a crash leaves of that which was written and cut since the last sync.
-#[derive(Clone, Copy, Debug, PartialEq, Eq)]
+#[derive(Clone, Copy, PartialEq, Eq)]
 pub enum Choice {
     /// Nothing of it: the bytes of the last sync.
     Nothing,

@@ -143,7 +143,7 @@ pub fn first_byte<D: Disk>(disk: &mut D) -> Result<Option<u8>, DiskFailed>
 }
 
 /// How a file begins: its first byte, and its length in bytes.
-#[derive(Clone, Copy, Debug, PartialEq, Eq)]
+#[derive(Clone, Copy, PartialEq, Eq)]
 pub struct Front {
     pub first: u8,
     pub length: u64,

@@ -11,7 +11,7 @@ use Rattle.disks.specs.declared.trio.Trio.{Trio}
 use Rattle.disks.specs.Trio.{pick}
 use Rattle.disks.specs.Joint.{Devices, now_of}
 use Rattle.disks.specs.Moments.{LeavesTogether, ChangedOnly, SameElsewhere}
-use Rattle.disks.specs.RootLast.{AreEmpty, IsRootLast, whole}
+use Rattle.disks.specs.inner.RootLast.{AreEmpty, IsRootLast, whole}
 use Rattle.disks.proofs.Runs.{begins, goes_on, weaker}
 
 -- a file that holds these bytes has one image

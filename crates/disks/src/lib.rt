@@ -5,6 +5,7 @@
 //! what a crash leaves of all three at one moment.
 #![tactic(auto)]
 
+mod fault;
 mod history;
 mod laws;
 mod name;
@@ -12,6 +13,7 @@ mod synced;
 mod three;
 mod trio;
 
+pub use fault::{CompactFault, MakeFault, OpenFault, Sizes};
 pub use laws::{law_each_moment, law_moments, law_one_disk, law_reads, law_settled};
 pub use name::DiskName;
 pub use synced::{front_synced_on, write_synced_on};

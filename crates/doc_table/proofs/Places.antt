@@ -7,12 +7,14 @@ use Rattle.std.proofs.lemmas.List.{get_or_read}
 use Rattle.std.specs.List.{HoldsAt, insert, remove}
 use Rattle.std.specs.Ordering.{is_lt, is_eq, ordering_reverse}
 use Rattle.std.specs.FinMap.Entries.{find, put, is_sorted, is_sorted-put, is_sorted-where_key}
-use Rattle.chunk_list.specs.Sorted.{StandsAt, FitsAt}
-use Rattle.chunk_list.proofs.Sorted.{fits_at, from_test, put_fits, find_fits, where_fits, put_stands, find_stands, where_stands}
+use Rattle.chunk_list.specs.inner.Sorted.{StandsAt, FitsAt}
+use Rattle.chunk_list.proofs.Sorted.{fits_at, from_test, put_fits, find_fits, where_fits, put_stands, find_stands}
+use Rattle.chunk_list.proofs.Sorted.{where_stands}
 use Rattle.doc_table.specs.Listed.{without}
 use Rattle.u1_base.specs.Ids.{id_cmp, same_id}
 use Rattle.u1_base.proofs.SameIds.{equal_is, id_tied}
-use Rattle.doc_table.specs.Entries.{AreSorted, IsFound}
+use Rattle.doc_table.specs.Entries.{AreSorted}
+use Rattle.doc_table.specs.inner.Entries.{IsFound}
 
 apart : (r : Ordering) → is_eq r ≡ false → r ≢ Equal
 apart Less e same = cc

@@ -3,9 +3,10 @@ ghost use Rattle.std.specs.Prelude.{◌≡◌, ◌+◌, ◌<◌, ◌≤◌, [], 
 ghost use Rattle.std.specs.Prelude.{IsSome, None, cond, is_some};
 ghost use Rattle.std.specs.Option.{option_copied};
 ghost use Rattle.std.specs.FinMap.Entries.{find, put};
-ghost use Rattle.chunk_list.specs.Sorted.{FitsAt};
+ghost use Rattle.chunk_list.specs.inner.Sorted.{FitsAt};
 ghost use Rattle.doc_table.specs.Abbreviated.{IsAbbreviated};
-ghost use Rattle.doc_table.specs.Entries.{AreSorted, IsFound};
+ghost use Rattle.doc_table.specs.Entries.{AreSorted};
+ghost use Rattle.doc_table.specs.inner.Entries.{IsFound};
 ghost use Rattle.doc_table.specs.Listed.{without};
 ghost use Rattle.u1_base.specs.Ids.{id_cmp};
 

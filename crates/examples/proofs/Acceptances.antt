@@ -12,7 +12,7 @@ use Rattle.conflicts.specs.State.{State, Text, after}
 use Rattle.conflicts.specs.declared.accept.Accept.{Accept}
 use Rattle.conflicts.specs.declared.moves.Move.{Move}
 use Rattle.conflicts.proofs.Accepted.{is_read, takes_over}
-use Rattle.replica_core.specs.CallsDecide.{accept_next}
+use Rattle.conflicts.specs.Writing.{accept_next}
 
 -- an acceptance of the document as the next entry of the log
 pub after_next : (seed : ℕ) (s : State) (id : Text) (a : Accept) (moved : Option Move)

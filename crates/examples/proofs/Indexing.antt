@@ -5,8 +5,8 @@ use Rattle.std.proofs.lemmas.Slice.Eq.{bytes_eq-Decides, slice_eq-Decides}
 use Rattle.u1_base.proofs.SameIds.{same_id-itself}
 use Rattle.conflicts.specs.Lists.{last_or}
 use Rattle.conflicts.specs.State.{State, Text}
-use Rattle.replica_core.specs.Calls.{Answers, Decided, IsAnswer, Refuses, step_in}
-use Rattle.replica_core.specs.CallsDecide.{create_decides, create_over, same_exprs}
+use Rattle.conflicts.specs.Writing.{Answers, Decided, IsAnswer, Refuses, create_over, same_exprs, step_in}
+use Rattle.replica_core.specs.CallsDecide.{create_decides}
 use Rattle.replica_core.specs.Replica.{after_step}
 use Rattle.replica_core.specs.declared.calls.indexes.IndexFault.{IndexFault}
 use Rattle.replica_core.specs.declared.calls.indexes.IndexFault.TheVariants.{IndexTaken}
@@ -24,8 +24,8 @@ kept_there s new name exprs kept true e there answer is =
     ∙ ap Some ((slice_eq-Decides bytes_eq-Decides kept exprs (same_exprs kept exprs) refl).0 e)
 
 module _ (s new : State) (name : Text) (exprs : List Text) where
-  by_kept : (o : Option (List Text)) → s.index name ≡ o → IsAnswer (create_over name exprs o) tt
-      → new ≡ after_step s (step_in (create_over name exprs o)) → new.index name ≡ Some exprs
+  by_kept : (o : Option (List Text)) → s.index name ≡ o → IsAnswer (create_over IndexTaken name exprs o) tt
+      → new ≡ after_step s (step_in (create_over IndexTaken name exprs o)) → new.index name ≡ Some exprs
   by_kept None there answer is =
       ap (λ (x : State). x.index name) is
       ∙ ap (λ (b : Bool). last_or (s.index name) (cond b (Some exprs ∷ []) [])) (same_id-itself name)

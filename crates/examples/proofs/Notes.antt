@@ -27,8 +27,8 @@ use Rattle.conflicts.proofs.LeftByReceipts.{law}
 use Rattle.conflicts.proofs.Makings.{edited_makes}
 use Rattle.conflicts.proofs.WellFormed.{kept-IsDocument}
 use Rattle.replica_state.specs.Held.{Held, lists_of, meaning}
-use Rattle.replica_core.specs.Calls.{IsAnswer, Refuses, step_in}
-use Rattle.replica_core.specs.CallsDecide.{accept_made, kept_place, put_decides, take_answers, take_decides, take_step}
+use Rattle.conflicts.specs.Writing.{IsAnswer, Refuses, accept_made, kept_place, step_in, take_answers, take_step}
+use Rattle.replica_core.specs.CallsDecide.{put_decides, take_decides}
 use Rattle.replica_core.specs.CallsFaults.{put_refusal}
 use Rattle.replica_core.specs.Replica.{after_step}
 use Rattle.replica_core.specs.declared.calls.receipts.TakeFault.TheVariants.{LogCheck}

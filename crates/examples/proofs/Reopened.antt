@@ -1,22 +1,21 @@
 -- What a store opens as that was closed.
 use Rattle.std.specs.Prelude.{◌≡◌, ◌⊎◌, ℕ, List, Result, Ok, Err, IfOk, IfErr, refl}
 use Rattle.std.proofs.Common.{sym, ◌∙◌, ap, inl, inr}
-use Rattle.conflicts.specs.State.{State}
 use Rattle.disk_model.specs.Device.{Device}
 use Rattle.disks.specs.declared.three.Disks.{Disks}
 use Rattle.disks.specs.declared.trio.Trio.{Trio}
 use Rattle.disks.specs.Joint.{seen_of}
-use Rattle.replica_core.specs.Replica.{Found}
+use Rattle.replica_core.specs.Replica.{Found, Stored}
 use Rattle.replica_core.specs.Replica.Found.{Stands}
 use Rattle.replica_state.specs.Held.{meaning}
 use Rattle.volume.proofs.Standing.{store_stands}
 use Rattle.replica_volume.specs.Opening.{IsOpenedFrom, OpensVolume}
-use Rattle.replica_volume.specs.Steps.{Chronicle, state_at}
-use Rattle.replica_volume.specs.Store.{StoreFound, holds_steps, opened_as, store_of, with_steps}
+use Rattle.replica_volume.specs.Steps.{Chronicle}
+use Rattle.replica_volume.specs.Store.{StoreFound, holds_steps, opened_as, store_of, stored_at, with_steps}
 use Rattle.replica_volume.specs.Store.StoreFound.{Blank, Damaged, Holds}
 use Rattle.replica_volume.specs.Volume.{KeepsHistory, devices}
-use Rattle.replica_volume.specs.declared.fault.VolumeFault.{VolumeFault}
-use Rattle.replica_volume.specs.declared.fault.VolumeFault.TheVariants as fault
+use Rattle.disks.specs.declared.fault.OpenFault.{OpenFault}
+use Rattle.disks.specs.declared.fault.OpenFault.TheVariants as fault
 use Rattle.replica_volume.specs.declared.replica.Volume.{Volume}
 
 module _ {D : Type 0} (known : D → Device) (v : Volume D) (k : KeepsHistory v (devices known v).files)
@@ -29,18 +28,18 @@ module _ {D : Type 0} (known : D → Device) (v : Volume D) (k : KeepsHistory v 
 
   same_state : (again : Volume D) → IsOpenedFrom files again → meaning again.state ≡ meaning v.state
   same_state again from =
-      from.leaves ∙ same (state_at from.head from.history) (state_at k.head k.history)
+      from.leaves ∙ same (stored_at from.head from.history) (stored_at k.head k.history)
       (sym (ap opened_as from.found) ∙ ap opened_as stands) ∙ sym k.leaves
     where
-      same : (s t : State) → ◌≡◌ {A = Found State} (Stands s) (Stands t) → s ≡ t
-      same s t e = cc (e)
+      same : (s t : Stored) → ◌≡◌ {A = Found Stored} (Stands s) (Stands t) → s.state ≡ t.state
+      same s t e = let is : s ≡ t = cc (e) in ap (λ (x : Stored). x.state) is
 
-  pub reopens : (r : Result (Volume D) (Disks D × VolumeFault)) → OpensVolume files r
+  pub reopens : (r : Result (Volume D) (Disks D × OpenFault)) → OpensVolume files r
       → IfOk r (λ again. meaning again.state ≡ meaning v.state)
   reopens (Ok again) from = same_state again from
   reopens (Err why) from = tt
 
-  pub fails_only : (r : Result (Volume D) (Disks D × VolumeFault)) → OpensVolume files r
+  pub fails_only : (r : Result (Volume D) (Disks D × OpenFault)) → OpensVolume files r
       → IfErr r (λ why. (why.1 ≡ fault.Disk) ⊎ (why.1 ≡ fault.Memory))
   fails_only (Ok again) from = tt
   fails_only (Err (disks, fault.Blank)) found =

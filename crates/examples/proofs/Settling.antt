@@ -28,8 +28,7 @@ use Rattle.conflicts.proofs.Apart.{same_itself}
 use Rattle.conflicts.proofs.Makings.{resolved_makes}
 use Rattle.conflicts.proofs.Members.{In-filter, In-left, In-map, In-right, filter_nothing, filter_whole, finds}
 use Rattle.replica_core.specs.Commands.Documents.{members_by}
-use Rattle.replica_core.specs.Calls.{IsAnswer, step_in}
-use Rattle.replica_core.specs.CallsDecide.{accept_made}
+use Rattle.conflicts.specs.Writing.{IsAnswer, accept_made, step_in}
 use Rattle.replica_core.specs.CallsFaults.{resolve_refusal}
 use Rattle.replica_core.specs.Replica.{after_step}
 use Rattle.examples.specs.Notes.{Reads, conflicting_in, settle_decides}

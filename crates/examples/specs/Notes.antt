@@ -7,7 +7,7 @@ use Rattle.conflicts.specs.Document.{Document, current_member, is_conflicted}
 use Rattle.conflicts.specs.Making.{revs}
 use Rattle.conflicts.specs.State.{State, Text}
 use Rattle.conflicts.specs.declared.member.Member.{Member}
-use Rattle.replica_core.specs.Calls.{Decided}
+use Rattle.conflicts.specs.Writing.{Decided}
 use Rattle.replica_core.specs.CallsDecide.{put_decides, resolve_decides}
 use Rattle.replica_core.specs.Commands.Documents.{members_in_order}
 use Rattle.replica_core.specs.declared.calls.documents.PutFault.{PutFault}

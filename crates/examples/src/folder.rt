@@ -7,9 +7,9 @@ ghost use Rattle.disk_model.specs.FileDisk.{file_known};
 ghost use Rattle.replica_volume.specs.Volume.{IsOpenVolume};
 
 use disk_model::{Disk, FileDisk, FileFault};
-use disks::{DiskName, Disks};
+use disks::{DiskName, Disks, MakeFault, OpenFault};
 use journal::Header;
-use replica_volume::{InitFault, Volume, VolumeFault};
+use replica_volume::Volume;
 use std::alloc::Global;
 use std::error::Error;
 use std::fmt;
@@ -25,17 +25,13 @@ pub enum NotesFault {
     /// A call on this file of the store failed.
     File(DiskName, FileFault),
     /// The store is damaged, or memory ran out.
-    Open(VolumeFault),
+    Open(OpenFault),
     /// No store was made: memory ran out, or another process made one meanwhile, which comes only
     /// where the system locks no folders.
-    Make(InitFault),
+    Make(MakeFault),
 }
 
 impl fmt::Display for NotesFault {
-    ghost use Rattle.examples.specs.Faults.{notes_fault_text};
-
-    ghost output = { notes_fault_text };
-
     fn fmt<W: fmt::Write>(&self, f: &mut fmt::Formatter<W>) -> fmt::Result {
         match self {
             NotesFault::Lock(fault) => fmt::Display::fmt(fault, f),
@@ -74,7 +70,7 @@ fn open_files<R: Files<File = File> + Clock + AllocGlobal + Copy + Drop>(
     ensures open { IfOk result (IsOpenVolume false file_known) }
 {
     let Ok(files) = files_in(rt, folder) else {
-        return Err(NotesFault::Open(VolumeFault::Memory));
+        return Err(NotesFault::Open(OpenFault::Memory));
     };
     match open_or_make(rt.alloc(), files, header) {
         Ok(notes) => Ok(notes),
@@ -92,7 +88,7 @@ fn open_or_make<D: Disk>(
 {
     match Volume::open_volume(alloc, disks) {
         Ok(notes) => Ok(notes),
-        Err((disks, VolumeFault::Blank)) => made(alloc, disks, header),
+        Err((disks, OpenFault::Blank)) => made(alloc, disks, header),
         Err((disks, fault)) => Err((disks, NotesFault::Open(fault))),
     }
 }

@@ -11,10 +11,10 @@ ghost use Rattle.examples.specs.Notes.{Reads};
 use crate::conflict::write_note;
 use content::Content;
 use disk_model::Disk;
-use disks::Disks;
+use disks::{Disks, MakeFault, OpenFault};
 use journal::Header;
 use replica_core::PutFault;
-use replica_volume::{InitFault, Volume, VolumeFault};
+use replica_volume::Volume;
 use std::alloc::Global;
 use std::error::Error;
 use std::fmt;
@@ -25,19 +25,14 @@ use u1_base::DocId;
 pub enum KeepFault {
     /// There is a store already, or a disk or the memory failed; after a failed disk the empty
     /// store may stand.
-    Init(InitFault),
+    Init(MakeFault),
     /// The note was refused, or a disk or the memory failed; after a failed disk it may stand.
     Write(PutFault),
     /// The store was not opened again.
-    Open(VolumeFault),
+    Open(OpenFault),
 }
 
 impl fmt::Display for KeepFault {
-    ghost use Rattle.std.specs.Prelude.{Some};
-    ghost use Rattle.examples.specs.Faults.{keep_fault_text};
-
-    ghost output = { λ fault. Some (keep_fault_text fault) };
-
     fn fmt<W: fmt::Write>(&self, f: &mut fmt::Formatter<W>) -> fmt::Result {
         match self {
             KeepFault::Init(fault) => fmt::Display::fmt(fault, f),
@@ -78,15 +73,12 @@ pub fn keep_note<D: Disk + Drop>(
 }
 
 /// Opens the store anew, as the next run of a program does.
-pub fn reopen<D: Disk>(
-    alloc: Global,
-    store: Volume<D>,
-) -> Result<Volume<D>, (Disks<D>, VolumeFault)>
+pub fn reopen<D: Disk>(alloc: Global, store: Volume<D>) -> Result<Volume<D>, (Disks<D>, OpenFault)>
     requires { IsOpenVolume D.tells D.known store }
     ensures same { IsTrue D.tells
         → IfOk result (λ again. meaning again.state ≡ meaning store.state) }
     ensures fails { IsTrue D.tells → IfErr result
-        (λ why. (why.1 ≡ VolumeFault.Disk) ⊎ (why.1 ≡ VolumeFault.Memory)) }
+        (λ why. (why.1 ≡ OpenFault.Disk) ⊎ (why.1 ≡ OpenFault.Memory)) }
     ensures open { IfOk result (IsOpenVolume D.tells D.known) }
 {
     Volume::open_volume(alloc, store.into_disks())

@@ -1,5 +1,5 @@
 //! Example: an index over notes, and a query.
-ghost use Rattle.std.specs.Prelude.{◌≡◌, ◌<◌, [], ◌∷◌, IfOk, OnErr, OnOk, Some};
+ghost use Rattle.std.specs.Prelude.{◌≡◌, [], ◌∷◌, IfOk, OnErr, OnOk, Some};
 ghost use Rattle.expr_parser.specs.Canonical.{canonical};
 ghost use Rattle.expr_parser.specs.FormOf.{form_of};
 ghost use Rattle.expr_parser.specs.Reading.{IsExpr};
@@ -7,16 +7,13 @@ ghost use Rattle.replica_core.specs.Calls.{IsDone};
 ghost use Rattle.replica_core.specs.CallsDecide.{create_decides};
 ghost use Rattle.replica_core.specs.CallsFaults.{index_failure};
 ghost use Rattle.replica_core.specs.Replica.{state_in};
-ghost use Rattle.replica_reads.specs.Indexes.{Gives, OverDocuments, queried};
 ghost use Rattle.examples.specs.Tags.{Finds};
 
 use expr_parser::{Expr, Exprs};
-use replica_core::{IndexFault, QueryFault, Replica, create_index, from_index, index_table};
-use replica_state::{Index, IndexExprs, State};
+use replica_core::{IndexFault, QueryFault, Replica, create_index, index_table, query_index};
+use replica_state::{IndexExprs, State};
 use std::alloc::Global;
-use std::marker::Brand;
-use std::sync::ledger::{Blank, Ledger};
-use u1_base::{Ids, IndexName, Memory, Steps, Text, Texts};
+use u1_base::{Ids, IndexName, Memory, Text, Texts};
 
 /// Makes an index of all notes by an expression, as `tag` or `lower(title)`. Each later call on the
 /// notes keeps it up to date.
@@ -67,26 +64,8 @@ pub fn notes_with(
     let Some(index) = index_table(state, name) else {
         return Ok(None);
     };
-    match counted::<Brand>(alloc, index, values.as_slice(), Blank::new(1)) {
+    match query_index(alloc, index, values.as_slice()) {
         Ok(ids) => Ok(Some(ids)),
         Err(fault) => Err(fault),
     }
-}
-
-// A query takes a counter, with which its contract says how seldom it looks at the table. Who does
-// not count hands it a new one, as here.
-fn counted<L: Ledger>(
-    alloc: Global,
-    index: &Index,
-    values: &[Text],
-    blank: Blank,
-) -> Result<Ids, QueryFault>
-    requires name { blank.name ≡ L.name }
-    requires parts { blank.parts ≡ L.parts }
-    requires some { 0 < L.parts }
-    ensures { OverDocuments index.now
-        (λ docs. Gives (queried index.now.exprs.texts docs values.now) result) }
-{
-    let mut steps = Steps::<L>::new(blank);
-    from_index(alloc, index, values, &mut steps)
 }

@@ -12,7 +12,7 @@ use Rattle.std.specs.Cmp.Lexicographic.{slice_cmp}
 use Rattle.std.specs.List.{filter, list_any}
 use Rattle.std.specs.Ordering.{is_eq, nat_cmp}
 use Rattle.std.specs.Str.{bytes_eq}
-use Rattle.expr_eval.specs.Lent.{lent}
+use Rattle.expr_eval.specs.inner.Lent.{lent}
 use Rattle.expr_eval.specs.Words.{distinct}
 
 -- whether the list has the text

@@ -6,7 +6,7 @@ use Rattle.std.specs.List.{flat_map, list_any}
 use Rattle.content.specs.Tree.{Tree}
 use Rattle.expr_parser.specs.declared.expr.Expr.{Expr}
 use Rattle.expr_parser.specs.FormOf.{form_of}
-use Rattle.expr_eval.specs.Lent.{behind, lent}
+use Rattle.expr_eval.specs.inner.Lent.{behind, lent}
 use Rattle.expr_eval.specs.Values.{texts_of}
 use Rattle.std.proofs.lemmas.Bool.{eqb-true, false≢true, or_cases}
 use Rattle.std.proofs.lemmas.List.{nil_from_length, length-take, take_at}

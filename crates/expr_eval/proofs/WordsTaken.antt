@@ -4,7 +4,7 @@ use Rattle.std.proofs.Common.{encode_utf8_all, chars, IsUtf8, refl, sym, ap, sub
 use Rattle.std.proofs.Common.{append_assoc, Bor}
 use Rattle.std.proofs.lemmas.Bool.{and_parts, ne_eqb, not-false}
 use Rattle.std.proofs.lemmas.List.{nil_from_length, map-append}
-use Rattle.expr_eval.specs.Lent.{lent}
+use Rattle.expr_eval.specs.inner.Lent.{lent}
 use Rattle.std.proofs.lemmas.Str.{chars-encodes, encodes_same, cons_from_encodes, length-le-encodes}
 use Rattle.std.specs.Char.{is_whitespace, is_not_whitespace}
 use Rattle.std.specs.List.{filter, slice_split, onto_first}

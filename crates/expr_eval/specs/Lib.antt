@@ -4,5 +4,5 @@ pub mod Words
 pub mod Texts
 pub mod Values
 pub mod Keys
-pub mod Lent
 pub mod Asked
+pub mod inner

@@ -3,7 +3,7 @@ ghost use Rattle.std.specs.Prelude.{◌≡◌, ◌++◌, IfOk, OnOk, map, flat_m
 ghost use Rattle.content.specs.TreeOf.{tree_of};
 ghost use Rattle.expr_parser.specs.FormOf.{form_of, forms_of_all};
 ghost use Rattle.expr_eval.specs.Kinds.{texts_in, truths_in, wholes_in};
-ghost use Rattle.expr_eval.specs.Lent.{lent};
+ghost use Rattle.expr_eval.specs.inner.Lent.{lent};
 ghost use Rattle.expr_eval.specs.Texts.{folded, number_text, truth_text};
 ghost use Rattle.expr_eval.specs.Values.{texts_of, values_of, values_of_each};
 ghost use Rattle.expr_eval.specs.Words.{distinct, words_in};

@@ -2,7 +2,7 @@
 ghost use Rattle.std.specs.Prelude.{◌≡◌, IfOk};
 ghost use Rattle.std.specs.List.{list_any};
 ghost use Rattle.std.specs.Str.{bytes_eq};
-ghost use Rattle.expr_eval.specs.Lent.{lent};
+ghost use Rattle.expr_eval.specs.inner.Lent.{lent};
 ghost use Rattle.expr_eval.specs.Words.{distinct};
 
 use std::alloc::Global;

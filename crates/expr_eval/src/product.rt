@@ -7,7 +7,7 @@ ghost use Rattle.content.specs.TreeOf.{tree_of};
 ghost use Rattle.expr_parser.specs.FormOf.{form_of};
 ghost use Rattle.expr_parser.specs.Limits.{most_exprs};
 ghost use Rattle.expr_eval.specs.Keys.{key_texts, keys_of, longest, most};
-ghost use Rattle.expr_eval.specs.Lent.{behind, lent};
+ghost use Rattle.expr_eval.specs.inner.Lent.{behind, lent};
 ghost use Rattle.expr_eval.specs.Values.{texts_of};
 
 use crate::evaluate::values;

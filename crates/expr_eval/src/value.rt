@@ -2,7 +2,7 @@
 ghost use Rattle.std.specs.Prelude.{◌≡◌, ◌++◌, ◌∷◌, [], IfOk, OnOk};
 ghost use Rattle.expr_eval.specs.Kinds.{text_of, texts_in, truth_of, truths_in, whole_of};
 ghost use Rattle.expr_eval.specs.Kinds.{wholes_in};
-ghost use Rattle.expr_eval.specs.Lent.{lent};
+ghost use Rattle.expr_eval.specs.inner.Lent.{lent};
 
 use std::alloc::{AllocError, Global};
 use u1_base::Text;

@@ -1,6 +1,6 @@
 //! The words of texts.
 ghost use Rattle.std.specs.Prelude.{◌≡◌, ◌++◌, IfOk, OnOk, flat_map};
-ghost use Rattle.expr_eval.specs.Lent.{lent};
+ghost use Rattle.expr_eval.specs.inner.Lent.{lent};
 ghost use Rattle.expr_eval.specs.Words.{words_in};
 
 use std::alloc::Global;

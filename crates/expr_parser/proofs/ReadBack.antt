@@ -14,7 +14,8 @@ use Rattle.expr_parser.specs.Forms.{Form}
 use Rattle.expr_parser.specs.Grammar.{Spells}
 use Rattle.expr_parser.specs.Canonical.{canonical}
 use Rattle.expr_parser.specs.Machine.{begin, none, run}
-use Rattle.expr_parser.specs.Reading.{IsText, expr_in, IsExpr, spells_back, is_spelled, IsSpelled, AreExprs, forms_in}
+use Rattle.expr_parser.specs.Reading.{IsText, expr_in, IsExpr, spells_back, is_spelled, AreExprs, forms_in}
+use Rattle.expr_parser.specs.inner.Reading.{IsSpelled}
 use Rattle.expr_parser.proofs.Complete.{read-spelled}
 use Rattle.expr_parser.proofs.Sound.{spelled-read}
 use Rattle.expr_parser.proofs.Spelled.{canonical-shortest, IsUtf8-canonical}

@@ -10,7 +10,8 @@ use Rattle.expr_parser.specs.declared.transform.Transform.TheVariants.{Lower, Sp
 use Rattle.expr_parser.specs.Forms.{Form, lower, split_words, number, truth, combine, forms_of}
 use Rattle.expr_parser.specs.FormOf.{form_of}
 use Rattle.expr_parser.specs.Grammar.{is_white, is_part, IsPart}
-use Rattle.expr_parser.specs.Descent.{Fails, Goes, Parses, ReadsPart, StartsPart, lead_of, rest_of}
+use Rattle.expr_parser.specs.Descent.{Fails, Goes, ReadsPart, StartsPart, lead_of, rest_of}
+use Rattle.expr_parser.specs.inner.Descent.{Parses}
 use Rattle.expr_parser.specs.Machine.{Open, none, within, combined, State, begin, word, dot, behind, done, more, width}
 use Rattle.expr_parser.specs.Machine.{digits, spaced, ready, step, run, goes_on}
 use Rattle.expr_parser.proofs.Classes.{is_part-dot, is_white-comma, digit_not_white, goes_on-parts}

@@ -4,10 +4,8 @@ use Rattle.std.specs.Borrow.{Bor}
 use Rattle.std.specs.Str.{IsUtf8}
 use Rattle.expr_parser.specs.declared.descent.Stop.{Stop}
 use Rattle.expr_parser.specs.declared.descent.Stop.TheVariants.{Here, Memory}
-use Rattle.expr_parser.specs.declared.expr.Expr.{Expr}
-use Rattle.expr_parser.specs.FormOf.{form_of}
 use Rattle.expr_parser.specs.Grammar.{is_part}
-use Rattle.expr_parser.specs.Machine.{Open, none, State, begin, run}
+use Rattle.expr_parser.specs.Machine.{Open, State, begin, run}
 
 -- the front of a text whose characters pass the test, and what follows it
 abbrev pub lead_of : (ℕ → Bool) → List ℕ → List ℕ
@@ -28,12 +26,6 @@ abbrev pub Goes : {T : Type 0} → (Open → State) → (T → Open → State) �
 Goes from to old new (Ok x) = (K : Open) → run (from K) old ≡ run (to x K) new
 Goes from to old new (Err Here) = (K : Open) → run (from K) old ≡ Err new
 Goes from to old new (Err Memory) = Unit {0}
-
--- a reading of a whole text: the one form of a run from the beginning, or what a run leaves
-abbrev pub Parses : List ℕ → List ℕ → Result Expr Stop → Type 0
-Parses old new (Ok e) = run (begin none) old ≡ Ok (form_of e)
-Parses old new (Err Here) = run (begin none) old ≡ Err new
-Parses old new (Err Memory) = Unit {0}
 
 -- a text begins with a character of a part
 abbrev pub StartsPart : List ℕ → Type 0

@@ -8,3 +8,4 @@ pub mod Faults
 pub mod Machine
 pub mod Reading
 pub mod Descent
+pub mod inner

@@ -32,9 +32,6 @@ spells_back text (Some f) = bytes_eq (canonical f) text
 unfoldable pub is_spelled : List ℕ → Bool
 is_spelled text = spells_back text (expr_in text)
 
-abbrev pub IsSpelled : List ℕ → Type 0
-IsSpelled text = IsTrue (is_spelled text)
-
 -- whether these are the canonical texts of one to eight expressions, as an index has them
 abbrev pub are_exprs : List (List ℕ) → Bool
 are_exprs texts = nat_le 1 (length texts) && nat_le (length texts) most_exprs && list_all is_spelled texts

@@ -4,7 +4,8 @@ ghost use Rattle.std.specs.Prelude.{MatchOption, length, map, Ok, Err, Result, L
 ghost use Rattle.expr_parser.specs.Forms.{Form, combine, field, number};
 ghost use Rattle.expr_parser.specs.FormOf.{form_of, forms_of_all};
 ghost use Rattle.expr_parser.specs.Grammar.{is_part, is_white};
-ghost use Rattle.expr_parser.specs.Descent.{Fails, Goes, Parses, ReadsPart};
+ghost use Rattle.expr_parser.specs.Descent.{Fails, Goes, ReadsPart};
+ghost use Rattle.expr_parser.specs.inner.Descent.{Parses};
 ghost use Rattle.expr_parser.specs.Machine.{Open, begin, behind, done, ready, run, within};
 
 use crate::reader::Reader;
@@ -14,7 +15,7 @@ use std::alloc::{AllocError, AllocFailed, Global};
 use u1_base::{Memory, Text, Texts};
 
 /// Why a reading stops.
-#[derive(Clone, Copy, Debug, PartialEq, Eq)]
+#[derive(Clone, Copy, PartialEq, Eq)]
 pub(crate) enum Stop {
     /// What is left begins with a character that cannot stand there, or nothing is left and more
     /// has to come.

@@ -14,7 +14,7 @@ use u1_base::{Items, Memory, Text};
 
 /// An index expression: a field, or a transform of what other expressions give (U1DB's index
 /// expressions).
-#[derive(Debug, Drop)]
+#[derive(Drop)]
 pub enum Expr {
     Field(Path),
     /// `lower(..)`

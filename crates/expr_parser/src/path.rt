@@ -6,7 +6,7 @@ use std::marker::Model;
 use u1_base::{Memory, Text, Texts};
 
 /// One or more parts, the outermost first, seen as their list.
-#[derive(Debug, Drop)]
+#[derive(Drop)]
 pub struct Path {
     parts: Texts,
 }

@@ -10,7 +10,7 @@ use Rattle.std.specs.Cmp.{IsTotalOrder, eq_by_cmp_equiv}
 use Rattle.std.specs.FinMap.Entries.{find, where_key, is_sorted, below_all, same_entries}
 use Rattle.std.proofs.lemmas.List.{length-map}
 use Rattle.std.proofs.lemmas.List.Elements.{filter_agree}
-use Rattle.chunk_list.specs.Sorted.{StandsAt, FitsAt}
+use Rattle.chunk_list.specs.inner.Sorted.{StandsAt, FitsAt}
 use Rattle.chunk_list.proofs.Sorted.{fits_at, put_fits, sorted_put, where_fits, where_stands}
 use Rattle.u1_base.proofs.Booleans.{both, first, second}
 use Rattle.u1_base.proofs.SameIds.{equal_is}

@@ -4,3 +4,4 @@ pub mod Entries
 pub mod Order
 pub mod Seen
 pub mod Table
+pub mod inner

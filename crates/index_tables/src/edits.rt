@@ -6,7 +6,8 @@ ghost use Rattle.std.specs.List.Sorted.{IsPermutation};
 ghost use Rattle.index_tables.specs.Entries.{AreDistinct, AreNew, HoldsBoth, entries_of, has};
 ghost use Rattle.index_tables.specs.Entries.{is_of, not_among, not_of, same};
 ghost use Rattle.index_tables.specs.Order.{IsInOrder};
-ghost use Rattle.index_tables.specs.Seen.{EndsAt, Tells, entry_of, is_below, seen};
+ghost use Rattle.index_tables.specs.Seen.{entry_of, seen};
+ghost use Rattle.index_tables.specs.inner.Seen.{EndsAt, Tells, is_below};
 
 use crate::abbreviated::abbreviated;
 use crate::order::{compare_pair, compare_pairs};

@@ -5,7 +5,8 @@ ghost use Rattle.std.specs.List.{AllPairs};
 ghost use Rattle.chunk_list.specs.Looks.{FewLooks};
 ghost use Rattle.index_tables.specs.Entries.{AreNew, HoldsBoth, entries_of, not_among, not_of};
 ghost use Rattle.index_tables.specs.Order.{FallsAt, IsInOrder};
-ghost use Rattle.index_tables.specs.Seen.{EndsAt, has_lower_key, seen};
+ghost use Rattle.index_tables.specs.Seen.{seen};
+ghost use Rattle.index_tables.specs.inner.Seen.{EndsAt, has_lower_key};
 
 use crate::abbreviated::abbreviated;
 use crate::edits::{put_all, take_id, take_keys};

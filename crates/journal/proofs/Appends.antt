@@ -1,15 +1,17 @@
--- What the two writes of an append leave, whole or torn.
+-- What the two writes of an append leave, whole or torn, of one entry or of many.
 use Rattle.std.proofs.Common.{◌≡◌, ◌≢◌, ℕ, ◌+◌, ◌<◌, ◌≤◌, ◌⊎◌, inl, inr, ⊎_elim, false, List, [], ◌∷◌, ◌++◌, length}
 use Rattle.std.proofs.Common.{get_or, set, take, drop, sym, ◌∙◌, ap, subst, arith, length-append, length-take}
 use Rattle.std.proofs.Common.{length-set, get_or-set_same, get_or-set_other}
-use Rattle.std.proofs.lemmas.List.{ext_get_or, get_or-take, take_at, drop_at, take-append-drop, append_assoc, drop-drop}
+use Rattle.std.proofs.lemmas.List.{ext_get_or, get_or-take, take_at, drop_at, take-append-drop, append-nil}
+use Rattle.std.proofs.lemmas.List.{append_assoc, drop-drop}
 use Rattle.std.proofs.lemmas.List.{set_at}
 use Rattle.std.proofs.lemmas.Bool.{cases_eq}
 use Rattle.std.proofs.lemmas.Bool.Decides.{nat_tests}
 use Rattle.disk_model.specs.Disk.{Torn, is_touched, overwritten}
-use Rattle.journal.specs.Image.{Head, ReadsAs, IsBody, body_field, entry, up_to_gate}
-use Rattle.journal.specs.Adding.{IsAdding}
-use Rattle.journal.proofs.Entries.{up_to_gate-push, AreBodies-push}
+use Rattle.journal.specs.Image.{Head, AreBodies, ReadsAs, ReadsWithOrWithoutAll, IsBody, body_field, entries, entry}
+use Rattle.journal.specs.Image.{up_to_gate}
+use Rattle.journal.specs.inner.Adding.{IsAdding}
+use Rattle.journal.proofs.Entries.{AreBodies-append, up_to_gate-append}
 
 outside : (at n k : ℕ) → (k < at) ⊎ (at + n ≤ k) → is_touched ((at, n) ∷ []) k ≡ false
 outside at n k (inl h) = grind (arith, nat_tests)
@@ -93,22 +95,22 @@ torn_behind format head bodies file image gate n r size t =
           ∙ append_assoc f (r.gate ∷ []) (drop (gate + 1) image);
     }
 
--- a body behind the gate that is open
-with_body : (format : ℕ) (head : Head) (bodies : List (List ℕ)) (body file image rest : List ℕ)
-    → ReadsAs format head bodies file → IsBody body
-    → image ≡ up_to_gate format head bodies ++ 1 ∷ ((body_field body ++ 0 ∷ []) ++ rest)
-    → ReadsAs format head (bodies ++ body ∷ []) image
-with_body format head bodies body file image rest r is e =
+-- the entries behind the gate that is open
+with_bodies : (format : ℕ) (head : Head) (bodies more : List (List ℕ)) (file image piece rest : List ℕ)
+    → ReadsAs format head bodies file → AreBodies more → 1 ∷ piece ≡ entries more ++ 0 ∷ []
+    → image ≡ up_to_gate format head bodies ++ 1 ∷ (piece ++ rest) → ReadsAs format head (bodies ++ more) image
+with_bodies format head bodies more file image piece rest r are spelled e =
     let f = up_to_gate format head bodies in
     record {
       gate = 0;
       rest = rest;
       header = r.header;
-      fit = AreBodies-push bodies body r.fit is;
+      fit = AreBodies-append bodies more r.fit are;
       shut = λ z. cc z;
-      split = e ∙ ap (λ (l : List ℕ). f ++ 1 ∷ l) (append_assoc (body_field body) (0 ∷ []) rest)
-          ∙ sym (append_assoc f (entry body) (0 ∷ rest))
-          ∙ ap (λ (l : List ℕ). l ++ 0 ∷ rest) (sym (up_to_gate-push format head bodies body));
+      split = e ∙ ap (λ (l : List ℕ). f ++ (l ++ rest)) spelled
+          ∙ ap (λ (l : List ℕ). f ++ l) (append_assoc (entries more) (0 ∷ []) rest)
+          ∙ sym (append_assoc f (entries more) (0 ∷ rest))
+          ∙ ap (λ (l : List ℕ). l ++ 0 ∷ rest) (sym (up_to_gate-append format head bodies more));
     }
 
 written_behind : (format : ℕ) (head : Head) (bodies : List (List ℕ)) (file piece : List ℕ) (gate : ℕ)
@@ -121,19 +123,17 @@ written_behind format head bodies file piece gate r size =
     ∙ overwritten_behind (up_to_gate format head bodies) r.gate r.rest piece gate size
 
 -- the gate is open then, or it is not
-pub torn_gate : (format : ℕ) (head : Head) (bodies : List (List ℕ)) (body file image : List ℕ) (gate : ℕ)
-    → ReadsAs format head bodies file → IsBody body
-    → length (up_to_gate format head bodies) ≡ gate
-    → Torn gate 1 (overwritten file (gate + 1) (body_field body ++ 0 ∷ [])) image
-    → ReadsAs format head bodies image ⊎ ReadsAs format head (bodies ++ body ∷ []) image
-torn_gate format head bodies body file image gate r is size t =
-    let f = up_to_gate format head bodies in let piece = body_field body ++ 0 ∷ []
-    in let tail = piece ++ drop (length piece) r.rest in
+torn_gate : (format : ℕ) (head : Head) (bodies more : List (List ℕ)) (file image piece : List ℕ) (gate : ℕ)
+    → ReadsAs format head bodies file → AreBodies more → 1 ∷ piece ≡ entries more ++ 0 ∷ []
+    → length (up_to_gate format head bodies) ≡ gate → Torn gate 1 (overwritten file (gate + 1) piece) image
+    → ReadsWithOrWithoutAll more format head bodies image
+torn_gate format head bodies more file image piece gate r are spelled size t =
+    let f = up_to_gate format head bodies in let tail = piece ++ drop (length piece) r.rest in
     let image_is : image ≡ f ++ get_or image gate 0 ∷ tail =
     gate_one f r.gate tail image gate size
     (subst (λ (l : List ℕ). Torn gate 1 l image) (written_behind format head bodies file piece gate r size) t) in
     ⊎_elim
-    (λ e. inr (with_body format head bodies body file image (drop (length piece) r.rest) r is
+    (λ e. inr (with_bodies format head bodies more file image piece (drop (length piece) r.rest) r are spelled
     (image_is ∙ ap (λ (g : ℕ). f ++ g ∷ tail) e)))
     (λ ne. inl (record {
       gate = get_or image gate 0;
@@ -147,37 +147,40 @@ torn_gate format head bodies body file image gate r is size t =
     (cases_eq (get_or image gate 0) 1)
 
 -- both writes whole
-pub added : (format : ℕ) (head : Head) (bodies : List (List ℕ)) (body file : List ℕ) (gate : ℕ)
-    → ReadsAs format head bodies file → IsBody body
+pub all_added : (format : ℕ) (head : Head) (bodies more : List (List ℕ)) (file new piece : List ℕ) (gate : ℕ)
+    → ReadsAs format head bodies file → AreBodies more → 1 ∷ piece ≡ entries more ++ 0 ∷ []
     → length (up_to_gate format head bodies) ≡ gate
-    → ReadsAs format head (bodies ++ body ∷ [])
-    (overwritten (overwritten file (gate + 1) (body_field body ++ 0 ∷ [])) gate (1 ∷ []))
-added format head bodies body file gate r is size =
-    let f = up_to_gate format head bodies in let piece = body_field body ++ 0 ∷ []
-    in let rest = drop (length piece) r.rest in
-    with_body format head bodies body file _ rest r is
-    (ap (λ (l : List ℕ). overwritten l gate (1 ∷ [])) (written_behind format head bodies file piece gate r size)
+    → new ≡ overwritten (overwritten file (gate + 1) piece) gate (1 ∷ [])
+    → ReadsAs format head (bodies ++ more) new
+all_added format head bodies more file new piece gate r are spelled size e =
+    let f = up_to_gate format head bodies in let rest = drop (length piece) r.rest in
+    with_bodies format head bodies more file new piece rest r are spelled
+    (e ∙ ap (λ (l : List ℕ). overwritten l gate (1 ∷ [])) (written_behind format head bodies file piece gate r size)
     ∙ overwritten_gate f r.gate 1 (piece ++ rest) gate size)
 
 -- what may be left on the way
-pub adding : (format : ℕ) (head : Head) (bodies : List (List ℕ)) (body file image : List ℕ) (gate : ℕ)
-    → ReadsAs format head bodies file → IsBody body
-    → length (up_to_gate format head bodies) ≡ gate → IsAdding gate (body_field body ++ 0 ∷ []) file image
-    → ReadsAs format head bodies image ⊎ ReadsAs format head (bodies ++ body ∷ []) image
-adding format head bodies body file image gate r is size a =
-    ⊎_elim (λ t. inl (torn_behind format head bodies file image gate (length (body_field body ++ 0 ∷ [])) r size t))
-    (λ t. torn_gate format head bodies body file image gate r is size t) a
+pub all_or_none : (format : ℕ) (head : Head) (bodies more : List (List ℕ)) (file piece : List ℕ) (gate : ℕ)
+    → ReadsAs format head bodies file → AreBodies more → 1 ∷ piece ≡ entries more ++ 0 ∷ []
+    → length (up_to_gate format head bodies) ≡ gate → (image : List ℕ) → IsAdding gate piece file image
+    → ReadsWithOrWithoutAll more format head bodies image
+all_or_none format head bodies more file piece gate r are spelled size image a =
+    ⊎_elim (λ t. inl (torn_behind format head bodies file image gate (length piece) r size t))
+    (λ t. torn_gate format head bodies more file image piece gate r are spelled size t) a
 
--- the same over what was written
+-- ---- one entry
+
+one_entry : (body piece : List ℕ) → piece ≡ body_field body ++ 0 ∷ []
+    → 1 ∷ piece ≡ entries (body ∷ []) ++ 0 ∷ []
+one_entry body piece p =
+    ap (λ (l : List ℕ). 1 ∷ l) p ∙ ap (λ (l : List ℕ). l ++ 0 ∷ []) (sym (append-nil (entry body)))
+
 pub was_added : (format : ℕ) (head : Head) (bodies : List (List ℕ)) (body file new piece : List ℕ) (gate : ℕ)
     → ReadsAs format head bodies file → IsBody body
     → length (up_to_gate format head bodies) ≡ gate → piece ≡ body_field body ++ 0 ∷ []
     → new ≡ overwritten (overwritten file (gate + 1) piece) gate (1 ∷ [])
     → ReadsAs format head (bodies ++ body ∷ []) new
 was_added format head bodies body file new piece gate r is size p e =
-    subst (ReadsAs format head (bodies ++ body ∷ []))
-    (sym (e ∙ ap (λ (l : List ℕ). overwritten (overwritten file (gate + 1) l) gate (1 ∷ [])) p))
-    (added format head bodies body file gate r is size)
+    all_added format head bodies (body ∷ []) file new piece gate r (is, tt) (one_entry body piece p) size e
 
 pub is_adding : (format : ℕ) (head : Head) (bodies : List (List ℕ)) (body file piece : List ℕ) (gate : ℕ)
     → ReadsAs format head bodies file → IsBody body
@@ -185,4 +188,4 @@ pub is_adding : (format : ℕ) (head : Head) (bodies : List (List ℕ)) (body fi
     → IsAdding gate piece file image
     → ReadsAs format head bodies image ⊎ ReadsAs format head (bodies ++ body ∷ []) image
 is_adding format head bodies body file piece gate r is size p image a =
-    adding format head bodies body file image gate r is size (subst (λ (l : List ℕ). IsAdding gate l file image) p a)
+    all_or_none format head bodies (body ∷ []) file piece gate r (is, tt) (one_entry body piece p) size image a

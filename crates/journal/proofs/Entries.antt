@@ -6,7 +6,7 @@ use Rattle.journal.specs.Image.{Head, IsHeader, ReadsAs, AreBodies, IsBody, body
 use Rattle.journal.specs.Image.{header_bytes}
 use Rattle.journal.specs.Damage.{Begins, DamagedAt, IsField}
 use Rattle.journal.specs.Damage.Part.{Gate, Body}
-use Rattle.journal.specs.Fields.{IsAt, Reached, BreaksAt, NoBody}
+use Rattle.journal.specs.inner.Fields.{IsAt, Reached, BreaksAt, NoBody}
 use Rattle.journal.proofs.Fields.{length-body_field}
 use Rattle.journal.proofs.Places.{at_start, advance, damaged}
 
@@ -30,6 +30,16 @@ pub body_at : (bodies : List (List ℕ)) (k : ℕ) (body d : List ℕ) → AreBo
 body_at [] k body d fit h e = absurd (omega (arith, h))
 body_at (b ∷ bodies) zero body d fit h e = subst IsBody (sym e) fit.0
 body_at (b ∷ bodies) (suc k) body d fit h e = body_at bodies k body d fit.1 (omega (arith, h)) e
+
+pub AreBodies-append : (bodies more : List (List ℕ)) → AreBodies bodies → AreBodies more → AreBodies (bodies ++ more)
+AreBodies-append [] more fit are = are
+AreBodies-append (b ∷ bodies) more fit are = (fit.0, AreBodies-append bodies more fit.1 are)
+
+pub up_to_gate-append : (format : ℕ) (head : Head) (bodies more : List (List ℕ))
+    → up_to_gate format head (bodies ++ more) ≡ up_to_gate format head bodies ++ entries more
+up_to_gate-append format head bodies more =
+    ap (λ (l : List ℕ). header_bytes format head ++ l) (entries-append bodies more)
+    ∙ sym (append_assoc (header_bytes format head) (entries bodies) (entries more))
 
 pub up_to_gate-push : (format : ℕ) (head : Head) (bodies : List (List ℕ)) (body : List ℕ)
     → up_to_gate format head (bodies ++ body ∷ []) ≡ up_to_gate format head bodies ++ entry body

@@ -1,6 +1,7 @@
 pub mod Fields
 pub mod Places
 pub mod Appends
+pub mod Staged
 pub mod Entries
 pub mod Restarts
 pub mod Spells

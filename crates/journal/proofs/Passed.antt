@@ -5,7 +5,7 @@ use Rattle.std.proofs.lemmas.List.{append-nil, append_assoc, drop_at, take_at}
 use Rattle.journal.specs.Image.{Head, IsHeader, IsBody, AreBodies, ReadsAs, body_field, entry, entries, header_bytes}
 use Rattle.journal.specs.Image.{up_to_gate}
 use Rattle.journal.specs.Damage.{Begins, DamagedAt}
-use Rattle.journal.specs.Fields.{BreaksAt, EndsEntries, IsAt, NoBody}
+use Rattle.journal.specs.inner.Fields.{BreaksAt, EndsEntries, IsAt, NoBody}
 use Rattle.journal.specs.Journal.{IsExtent}
 use Rattle.journal.specs.Stored.{StoredImage, IsWholeImage, bodies_in, found_bodies, stored_image}
 use Rattle.journal.specs.Passing.{HasPassed}

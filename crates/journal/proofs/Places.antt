@@ -8,7 +8,7 @@ use Rattle.u1_base.specs.declared.ids.Form.TheVariants as form
 use Rattle.journal.specs.Image.{Head, IsFormat, IsHeader, first_field, header_bytes}
 use Rattle.journal.specs.Damage.{Part, Begins, IsField, IsBefore, DamagedAt}
 use Rattle.journal.specs.Damage.Part.{First, Name, Uid, Limit}
-use Rattle.journal.specs.Fields.{IsAt, NoFirst, NoId, NoLimit}
+use Rattle.journal.specs.inner.Fields.{IsAt, NoFirst, NoId, NoLimit}
 use Rattle.journal.proofs.Fields.{length-first_field, length-text_field, length-u64}
 
 pub at_start : (bytes : List ℕ) → IsAt [] 0 bytes

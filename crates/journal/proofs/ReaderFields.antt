@@ -12,7 +12,7 @@ use Rattle.u1_base.specs.declared.ids.Form.{Form}
 use Rattle.u1_base.proofs.Booleans.{not_both}
 use Rattle.journal.specs.Image.{IsFormat, IsLimit, IsBody, first_field, body_field}
 use Rattle.journal.specs.Damage.{Begins}
-use Rattle.journal.specs.Fields.{NoFirst, NoId, NoLimit, NoBody}
+use Rattle.journal.specs.inner.Fields.{NoFirst, NoId, NoLimit, NoBody}
 use Rattle.journal.specs.Reader.{begins, read_first, read_text, read_limit, read_body}
 use Rattle.journal.proofs.Fields.{begins_front, front_begins, first_front, limit_front, text_front, body_front}
 use Rattle.journal.proofs.Fields.{text_same, id_short, u64-same}

@@ -12,7 +12,7 @@ use Rattle.journal.specs.Image.{Head, IsFormat, IsLimit, IsHeader, ReadsAs, AreB
 use Rattle.journal.specs.Image.{entry, entries, up_to_gate, header_bytes}
 use Rattle.journal.specs.Damage.{Part, Begins, DamagedAt, IsField, IsBefore}
 use Rattle.journal.specs.Damage.Part.{First, Name, Uid, Limit, Gate, Body}
-use Rattle.journal.specs.Fields.{IsAt, NoFirst, NoId, NoLimit, NoBody, BreaksAt}
+use Rattle.journal.specs.inner.Fields.{IsAt, NoFirst, NoId, NoLimit, NoBody, BreaksAt}
 use Rattle.journal.specs.Reader.{Reading, or_damaged, with_body, read_first, read_text, read_limit, read_body}
 use Rattle.journal.specs.Reader.{read_entries, read_image, after_first, after_name, after_uid, after_limit}
 use Rattle.journal.specs.Reader.Reading.{Damaged, Stands}

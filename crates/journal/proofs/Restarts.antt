@@ -7,7 +7,7 @@ use Rattle.disk_model.specs.Disk.{Torn, Cut, overwritten}
 use Rattle.journal.specs.Image.{Head, first_field, header_bytes, image}
 use Rattle.journal.specs.Damage.{Begins, DamagedAt}
 use Rattle.journal.specs.Journal.{IsOnTheWay}
-use Rattle.journal.specs.Restarting.{IsAnew, IsKeptOrSpoilt, IsSpoilt}
+use Rattle.journal.specs.inner.Restarting.{IsAnew, IsKeptOrSpoilt, IsSpoilt}
 use Rattle.journal.proofs.Fields.{begins_long, length-first_field}
 use Rattle.journal.proofs.Places.{no_first}
 use Rattle.journal.proofs.Appends.{torn_one}

@@ -71,7 +71,11 @@ pub record ReadsAs (format : ℕ) (head : Head) (bodies : List (List ℕ)) (file
   pub shut : gate ≢ OPEN_GATE
   pub split : file ≡ up_to_gate format head bodies ++ gate ∷ rest
 
--- a file reads as the image, or as the image with one body more
+-- a file reads as the image, or as the image with all these bodies more
+abbrev pub ReadsWithOrWithoutAll : List (List ℕ) → ℕ → Head → List (List ℕ) → List ℕ → Type 0
+ReadsWithOrWithoutAll more format head bodies file =
+    ReadsAs format head bodies file ⊎ ReadsAs format head (bodies ++ more) file
+
+-- or with one body more
 abbrev pub ReadsWithOrWithout : List ℕ → ℕ → Head → List (List ℕ) → List ℕ → Type 0
-ReadsWithOrWithout body format head bodies file =
-    ReadsAs format head bodies file ⊎ ReadsAs format head (bodies ++ body ∷ []) file
+ReadsWithOrWithout body = ReadsWithOrWithoutAll (body ∷ [])

@@ -1,12 +1,11 @@
 pub mod Image
 pub mod Damage
 pub mod Journal
+pub mod Entries
 pub mod Reader
 pub mod Opening
 pub mod Faults
-pub mod Fields
-pub mod Adding
-pub mod Restarting
 pub mod Spelled
 pub mod Stored
 pub mod Passing
+pub mod inner

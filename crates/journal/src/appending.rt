@@ -1,12 +1,13 @@
-//! The journal of an image that lies on a disk, and how one more body is added.
-ghost use Rattle.std.specs.Prelude.{◌≡◌, ◌+◌, ◌^◌, ◌<◌, IsTrue, OnOk, [], ◌∷◌, length};
+//! The journal of an image that lies on a disk, and how one more body is added, or many together.
+ghost use Rattle.std.specs.Prelude.{◌≡◌, ◌+◌, ◌-◌, ◌^◌, ◌<◌, IsTrue, OnOk, [], ◌∷◌, length, min};
 ghost use Rattle.u1_base.specs.Causes.{HasCause};
 ghost use Rattle.disk_model.specs.Disk.{overwritten};
 ghost use Rattle.disk_model.specs.Device.{IsSettled, file_of};
 ghost use Rattle.disk_model.specs.Moments.{LeavesOnly};
 ghost use Rattle.disk_model.specs.Counts.{MakesCalls};
-ghost use Rattle.journal.specs.Adding.{IsAdding};
+ghost use Rattle.journal.specs.inner.Adding.{IsAdding};
 
+use crate::NewEntries;
 use crate::layout::{BEFORE_BODY_BYTES, OPEN_GATE};
 use crate::spelling::behind_the_gate;
 use disk_model::{Disk, DiskFailed, write_synced};
@@ -14,6 +15,7 @@ use std::alloc::Global;
 use std::error::Error;
 use std::fmt;
 use std::marker::Model;
+use u1_base::Memory;
 
 /// Why a body was not added.
 #[derive(Clone, Copy, Debug, PartialEq, Eq)]
@@ -48,7 +50,7 @@ impl Error for AppendFault {}
 
 /// The journal of an image: its length, up to and with the closed gate, and its limit, both in
 /// bytes.
-#[derive(Debug, Drop)]
+#[derive(Drop)]
 pub struct Journal {
     length: u64,
     limit: u64,
@@ -68,13 +70,14 @@ impl Model for Journal {
 
 impl Journal {
     ghost use Rattle.std.specs.Prelude.{◌≡◌, ◌≢◌, ℕ, ◌+◌, ◌^◌, ◌<◌, ◌≤◌, IsTrue, Err, OnOk, OnErr};
-    ghost use Rattle.std.specs.Prelude.{length};
+    ghost use Rattle.std.specs.Prelude.{List, [], ◌∷◌, ◌++◌, length};
     ghost use Rattle.u1_base.specs.Causes.{HasCauseOf};
     ghost use Rattle.disk_model.specs.Device.{file_of};
     ghost use Rattle.disk_model.specs.Counts.{MakesCalls};
     ghost use Rattle.journal.specs.Image.{IsLimit};
     ghost use Rattle.journal.specs.Journal.{HoldsOneMore, IsFull, IsHeld, LeavesWithOrWithout};
     ghost use Rattle.journal.specs.Journal.{need};
+    ghost use Rattle.journal.specs.Entries.{AreSpelled, HoldsAllMore, LeavesAllOrNone, extended};
 
     pub(crate) fn of(length: u64, limit: u64) -> Journal
         requires some { 1 ≤ length }
@@ -132,10 +135,7 @@ impl Journal {
         ensures cause { HasCauseOf AppendFault.Disk (D.known disk.old).faults
             (D.known disk.new).faults result }
     {
-        let need = self
-            .length
-            .saturating_add(BEFORE_BODY_BYTES as u64)
-            .saturating_add(body.len() as u64);
+        let need = needed(self.length, 0, body);
         let limit = self.limit;
         if need > limit {
             return Err(AppendFault::Full { need, limit });
@@ -151,6 +151,86 @@ impl Journal {
             Err(DiskFailed) => Err(AppendFault::Disk),
         }
     }
+
+    /// Adds a body of 1 to 2^32-1 bytes to entries that `append_all` is to add to this image.
+    ///
+    /// `Full` is returned exactly when the image with these entries and the body would be longer
+    /// than its limit. `Disk` is not returned.
+    pub fn stage(
+        &self,
+        alloc: Global,
+        entries: &mut NewEntries,
+        body: &[u8],
+    ) -> Result<(), AppendFault>
+        requires some { 1 ≤ length body.now }
+        requires short { length body.now < 2 ^ 32 }
+        ensures spelled { OnOk result ((bodies : List (List ℕ)) → AreSpelled bodies entries.old
+            → AreSpelled (bodies ++ body.now ∷ []) entries.new) }
+        ensures length { OnOk result
+            (length entries.new ≡ length entries.old + BEFORE_BODY_BYTES + length body.now) }
+        ensures within { OnOk result (self.now.length + length entries.new ≤ self.now.limit) }
+        ensures same { OnErr result (entries.new ≡ entries.old) }
+        ensures full { IsFull (extended self.now entries.old) (length body.now)
+            → result ≡ Err (AppendFault.Full
+            (need (extended self.now entries.old) (length body.now)) self.now.limit) }
+        ensures only_full { (n m : ℕ) → result ≡ Err (AppendFault.Full n m)
+            → IsFull (extended self.now entries.old) (length body.now) }
+        ensures no_disk { result ≢ Err AppendFault.Disk }
+    {
+        let need = needed(self.length, entries.len(), body);
+        let most = self.limit;
+        if need > most {
+            return Err(AppendFault::Full { need, limit: most });
+        }
+        match entries.push(alloc, body) {
+            Ok(()) => Ok(()),
+            Err(Memory) => Err(AppendFault::Memory),
+        }
+    }
+
+    /// Adds all these entries to the image, with two writes and two syncs, and takes no memory.
+    ///
+    /// A crash on the way leaves the image with all of them or with none. After a failure the image
+    /// has to be opened again; it has all of them then or none.
+    pub fn append_all<D: Disk>(
+        &mut self,
+        disk: &mut D,
+        entries: &NewEntries,
+    ) -> Result<(), DiskFailed>
+        requires some { 1 ≤ length entries.now }
+        requires within { self.old.length + length entries.now ≤ self.old.limit }
+        requires holds { IsTrue D.tells → IsHeld self.old (file_of (D.known disk.old)) }
+        ensures ok { IsTrue D.tells
+            → OnOk result (HoldsAllMore entries.now self.old self.new (file_of (D.known disk.old))
+            (file_of (D.known disk.new))) }
+        ensures extent { OnOk result (self.new ≡ extended self.old entries.now) }
+        ensures limit { self.new.limit ≡ self.old.limit }
+        ensures same { OnErr result (self.new ≡ self.old) }
+        ensures any_moment { IsTrue D.tells
+            → LeavesAllOrNone entries.now self.old (D.known disk.old) (D.known disk.new) }
+        ensures beside { IsTrue D.tells → (D.known disk.new).beside ≡ (D.known disk.old).beside }
+        ensures calls { MakesCalls 4 (D.known disk.old) (D.known disk.new) result }
+        ensures cause { HasCause (D.known disk.old).faults (D.known disk.new).faults result }
+    {
+        let longer = self.length + entries.len() as u64;
+        match add_behind(disk, self.length - 1, entries.as_slice()) {
+            Ok(()) => {
+                self.length = longer;
+                Ok(())
+            }
+            Err(failed) => Err(failed),
+        }
+    }
+}
+
+// The length of the image with so many bytes behind its gate, and an entry of this body behind them.
+fn needed(so_far: u64, staged: usize, body: &[u8]) -> u64
+    ensures { result ≡ min (so_far + staged + BEFORE_BODY_BYTES + length body.now) (2 ^ 64 - 1) }
+{
+    so_far
+        .saturating_add(staged as u64)
+        .saturating_add(BEFORE_BODY_BYTES as u64)
+        .saturating_add(body.len() as u64)
 }
 
 // Writes these bytes after the gate at the place, and opens the gate when they lie on the disk.

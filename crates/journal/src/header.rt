@@ -7,7 +7,7 @@ use std::marker::Model;
 use u1_base::{Bytes, DbName, Items, ReplicaUid};
 
 /// Whose image it is, and the most bytes that it may have.
-#[derive(Debug, Drop)]
+#[derive(Drop)]
 pub struct Header {
     pub name: DbName,
     pub uid: ReplicaUid,

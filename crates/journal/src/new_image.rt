@@ -18,7 +18,7 @@ use u1_base::{Bytes, Memory};
 /// An image of format 2 that is spelled and not written yet: its bytes, and its limit.
 ///
 /// Spelling takes all the memory that an image needs, so that none is wanted once a disk is called.
-#[derive(Debug, Drop)]
+#[derive(Drop)]
 pub struct NewImage {
     bytes: Bytes,
     limit: u64,

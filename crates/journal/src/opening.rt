@@ -16,7 +16,7 @@ use std::fmt;
 use u1_base::Memory;
 
 /// What was opened.
-#[derive(Debug, Drop)]
+#[derive(Drop)]
 pub struct Opened {
     pub header: Header,
     pub journal: Journal,

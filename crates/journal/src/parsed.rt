@@ -2,7 +2,7 @@
 use crate::Header;
 
 /// A field, or a row of fields, that was read; or the place where none could be; or out of memory.
-#[derive(Debug, Drop)]
+#[derive(Drop)]
 pub enum Parsed<T> {
     Whole(T),
     Broken(usize),
@@ -10,7 +10,7 @@ pub enum Parsed<T> {
 }
 
 /// A header, and its length in bytes.
-#[derive(Debug, Drop)]
+#[derive(Drop)]
 pub struct Start {
     pub format: u8,
     pub header: Header,

@@ -19,7 +19,7 @@ use u1_base::{Bytes, Memory};
 
 /// An image that was read whole and that stands: its header, its journal, and the bytes that have
 /// its entries.
-#[derive(Debug, Drop)]
+#[derive(Drop)]
 pub struct Stored {
     bytes: Bytes,
     header: Header,
@@ -40,7 +40,7 @@ impl Model for Stored {
 }
 
 /// An entry of an image. Places count bytes of the file from 0.
-#[derive(Debug, Drop)]
+#[derive(Drop)]
 pub struct Entry<'a> {
     pub body: &'a [u8],
     /// Where the body begins.

@@ -3,8 +3,9 @@ ghost use Rattle.std.specs.Prelude.{◌≡◌, ◌<◌, ◌≤◌, [], ◌∷◌
 ghost use Rattle.u1_base.specs.Fields.{text_field, u64_bytes};
 ghost use Rattle.journal.specs.Image.{IsBody, IsFormat, IsLimit, body_field, first_field};
 ghost use Rattle.journal.specs.Damage.{Begins};
-ghost use Rattle.journal.specs.Fields.{EndsEntries, NoBody, NoFirst, NoLimit, NoText, ReadsHeader};
-ghost use Rattle.journal.specs.Fields.{ReadsIdField};
+ghost use Rattle.journal.specs.inner.Fields.{EndsEntries, NoBody, NoFirst, NoLimit, NoText};
+ghost use Rattle.journal.specs.inner.Fields.{ReadsHeader};
+ghost use Rattle.journal.specs.inner.Fields.{ReadsIdField};
 
 use crate::layout::{
     BEFORE_BODY_BYTES, BODY_LENGTH_BYTES, FIRST_FIELD_BYTES, FIRST_FORMAT, LETTERS, LETTERS_BYTES,

@@ -8,7 +8,7 @@ ghost use Rattle.disk_model.specs.Moments.{LeavesOnly};
 ghost use Rattle.disk_model.specs.Counts.{called};
 ghost use Rattle.journal.specs.Image.{image};
 ghost use Rattle.journal.specs.Journal.{Holds, IsOnTheWay, IsExtent};
-ghost use Rattle.journal.specs.Restarting.{IsAnew, IsKeptOrSpoilt};
+ghost use Rattle.journal.specs.inner.Restarting.{IsAnew, IsKeptOrSpoilt};
 ghost use Rattle.journal.specs.declared.layout.TheConstants.{SECOND_FORMAT};
 
 use crate::layout::FIRST_BYTE;

@@ -13,7 +13,7 @@ use Rattle.std.proofs.lemmas.Simd.{zip2_of_maps, splat_is_map, map-map, get_or-p
 use Rattle.std.proofs.lemmas.Simd.{get_or-put_chunk_above}
 use Rattle.std.proofs.lemmas.List.{length-map, get_or-map, get_or-drop, ext_get_or}
 use lib.Lanes.{chunk, put_chunk, zip2, sel_l, mask_l, top}
-use Rattle.key_lanes.specs.Blocks.{AsciiBetween, IsLowered, IsStored}
+use Rattle.key_lanes.specs.inner.Blocks.{AsciiBetween, IsLowered, IsStored}
 use Rattle.key_lanes.proofs.Masks.{Fails, IsFirstLane, first_lane, compared, flag, length-compared, top-compared}
 
 -- ---- whether all are ASCII

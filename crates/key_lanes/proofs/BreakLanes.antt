@@ -6,7 +6,7 @@ use Rattle.std.proofs.lemmas.Bool.{and_parts, eqb-true, eqb-false, eq-eqb}
 use Rattle.std.proofs.lemmas.Simd.{bitmask_splat, none_from_empty_mask, length-chunk, get_or-chunk, length-replicate}
 use Rattle.std.proofs.lemmas.Simd.{get_or-replicate}
 use lib.Lanes.{chunk, zip2, mask_l, top}
-use Rattle.key_lanes.specs.Blocks.{first_set}
+use Rattle.key_lanes.specs.inner.Blocks.{first_set}
 use Rattle.key_lanes.specs.Breaks.{IsBreak, NoBreak, IsFirstBreak}
 use Rattle.key_lanes.proofs.Masks.{Fails, IsFirstLane, match_map, first_lane, compared, length-both, top-both_compared}
 

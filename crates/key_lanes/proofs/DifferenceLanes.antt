@@ -5,7 +5,7 @@ use Rattle.std.specs.Prelude.{Option, MatchOption}
 use Rattle.std.proofs.lemmas.Bool.{eqb-true, eqb-false, not-true, not-false}
 use Rattle.std.proofs.lemmas.Simd.{length-chunk, get_or-chunk}
 use lib.Lanes.{chunk, mask_l, top}
-use Rattle.key_lanes.specs.Blocks.{first_set, EqualBetween, IsFirstDifference}
+use Rattle.key_lanes.specs.inner.Blocks.{first_set, EqualBetween, IsFirstDifference}
 use Rattle.key_lanes.proofs.Masks.{Fails, IsFirstLane, match_map, first_lane, compared, length-compared, top-compared}
 
 abbrev differ : ℕ → ℕ → Bool

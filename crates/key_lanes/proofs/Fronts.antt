@@ -8,7 +8,7 @@ use Rattle.std.specs.Ordering.{nat_cmp, ordering_then}
 use Rattle.std.specs.declared.cmp.Ordering.{Ordering}
 use Rattle.std.specs.declared.cmp.Ordering.TheVariants.{Less, Equal, Greater}
 use Rattle.std.proofs.lemmas.Bool.{cases_eq, cases_lt, eq-eqb, ne_eqb, cond-true, cond-false}
-use Rattle.key_lanes.specs.Blocks.{EqualBetween, IsFirstDifference}
+use Rattle.key_lanes.specs.inner.Blocks.{EqualBetween, IsFirstDifference}
 
 prefix_more : (x y : ℕ) (a b : List ℕ) → x ≡ y → common_prefix_len eqb (x ∷ a) (y ∷ b) ≡ 1 + common_prefix_len eqb a b
 prefix_more x y a b same = cond-true _ _ _ (eq-eqb x y same)

@@ -10,7 +10,7 @@ use Rattle.std.proofs.lemmas.List.{length-map}
 use Rattle.std.proofs.Math.Dec.{eqb-suc-zero}
 use Rattle.std.proofs.lemmas.List.Sums.{prefix_len_passes, prefix_len_stops}
 use lib.Lanes.{zip2, mask_l, top}
-use Rattle.key_lanes.specs.Blocks.{first_set}
+use Rattle.key_lanes.specs.inner.Blocks.{first_set}
 
 -- the test fails at the places from `low` up to `high`
 abbrev pub Fails : (ℕ → Bool) → ℕ → ℕ → Type 0

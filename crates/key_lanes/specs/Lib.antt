@@ -1,3 +1,3 @@
 pub mod AbbreviatedKeys
-pub mod Blocks
 pub mod Breaks
+pub mod inner

@@ -2,7 +2,7 @@
 ghost use Rattle.std.specs.Prelude.{◌≡◌, ◌+◌, ◌≤◌, IsAscii, length};
 ghost use Rattle.std.specs.Bool.{MatchBool};
 ghost use Rattle.std.specs.Str.{IsNotAscii, str_to_ascii_lowercase};
-ghost use Rattle.key_lanes.specs.Blocks.{AsciiBetween, IsLowered, IsStored};
+ghost use Rattle.key_lanes.specs.inner.Blocks.{AsciiBetween, IsLowered, IsStored};
 
 use crate::block::LANES;
 use std::simd::prelude::*;

@@ -1,6 +1,6 @@
 //! A block of bytes that is worked on at once, and its mask, in which bit k speaks of byte k.
 ghost use Rattle.std.specs.Prelude.{◌≡◌};
-ghost use Rattle.key_lanes.specs.Blocks.{first_set};
+ghost use Rattle.key_lanes.specs.inner.Blocks.{first_set};
 
 /// How many bytes a block has.
 pub(crate) const LANES: usize = 16;

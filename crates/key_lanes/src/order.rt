@@ -3,7 +3,7 @@ ghost use Rattle.std.specs.Prelude.{◌≡◌, ◌+◌, ◌<◌, ◌≤◌, leng
 ghost use Rattle.std.specs.List.{common_prefix_len};
 ghost use Rattle.std.specs.Cmp.Lexicographic.{slice_cmp};
 ghost use Rattle.std.specs.Ordering.{nat_cmp};
-ghost use Rattle.key_lanes.specs.Blocks.{EqualBetween, IsFirstDifference};
+ghost use Rattle.key_lanes.specs.inner.Blocks.{EqualBetween, IsFirstDifference};
 
 use crate::block::{FEW_LANES, LANES, first_set};
 use std::cmp::Ordering;

@@ -7,7 +7,7 @@ ghost use Rattle.link.specs.Memory.{one_more};
 use u1_base::Numbers;
 
 /// How many calls were made, which are to fail, and how many did.
-#[derive(Debug, Drop)]
+#[derive(Drop)]
 pub struct Calls {
     pub made: u64,
     pub failing: Numbers,

@@ -13,7 +13,7 @@ use std::marker::Model;
 use u1_base::{Bytes, Numbers};
 
 /// A source over bytes in memory. It tells what it has left.
-#[derive(Debug, Drop)]
+#[derive(Drop)]
 pub struct MemSource {
     bytes: Bytes,
     at: usize,
@@ -77,7 +77,7 @@ impl Source for MemSource {
 }
 
 /// A sink into memory. It tells what it has taken, and holds nothing back.
-#[derive(Debug, Drop)]
+#[derive(Drop)]
 pub struct MemSink {
     bytes: Bytes,
     calls: Calls,
@@ -159,7 +159,7 @@ impl Sink for MemSink {
 }
 
 /// A connection in memory: a source and a sink side by side.
-#[derive(Debug, Drop)]
+#[derive(Drop)]
 pub struct MemConn {
     source: MemSource,
     sink: MemSink,

@@ -12,7 +12,7 @@ use Rattle.index_tables.proofs.TotalOrders.{key_same, key_total}
 use Rattle.u1_base.specs.Ids.{id_cmp}
 use Rattle.u1_base.proofs.SameIds.{equal_is}
 use Rattle.query_range.specs.Answers.{firsts, keys_of}
-use Rattle.query_range.specs.Wanted.{is_key}
+use Rattle.query_range.specs.inner.Wanted.{is_key}
 use Rattle.query_range.proofs.Firsts.{firsts-push}
 
 -- the key of the entry before a place

@@ -9,7 +9,7 @@ use Rattle.index_tables.specs.Order.{Key, key_cmp}
 use Rattle.u1_base.specs.Ids.{id_cmp}
 use Rattle.u1_base.proofs.Booleans.{both, first, second}
 use Rattle.u1_base.proofs.SameIds.{id_tied, id_ties_itself}
-use Rattle.query_range.specs.Floor.{floor_of}
+use Rattle.query_range.specs.inner.Floor.{floor_of}
 use Rattle.query_range.specs.Patterns.{IsPattern, is_any, is_open, meets, part_meets}
 use Rattle.query_range.specs.declared.pattern.Part.{Part}
 use Rattle.query_range.specs.declared.pattern.Part.TheVariants.{Exact, Prefix, Any}

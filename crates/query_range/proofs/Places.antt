@@ -12,7 +12,8 @@ use Rattle.u1_base.specs.Ids.{id_cmp, same_id}
 use Rattle.u1_base.proofs.Booleans.{none_true, not_both}
 use Rattle.u1_base.proofs.SameIds.{is_same_id, same_id-comm, same_id_is}
 use Rattle.query_range.specs.Answers.{firsts}
-use Rattle.query_range.specs.SeenIds.{AreBehind, Places, holds, is_held, mark, owner, text_cmp}
+use Rattle.query_range.specs.SeenIds.{AreBehind, Places, mark, owner, text_cmp}
+use Rattle.query_range.specs.inner.SeenIds.{holds, is_held}
 use Rattle.query_range.proofs.Firsts.{firsts-push}
 
 abbrev Text : Type 0

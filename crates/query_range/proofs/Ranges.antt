@@ -9,9 +9,9 @@ use Rattle.index_tables.proofs.TotalOrders.{key_total}
 use Rattle.u1_base.specs.Ids.{id_cmp}
 use Rattle.u1_base.proofs.Booleans.{none_true}
 use Rattle.query_range.specs.Answers.{is_between, is_from, is_to}
-use Rattle.query_range.specs.Floor.{floor_of}
+use Rattle.query_range.specs.inner.Floor.{floor_of}
 use Rattle.query_range.specs.Patterns.{IsPattern, meets}
-use Rattle.query_range.specs.Wanted.{StartsAt}
+use Rattle.query_range.specs.inner.Wanted.{StartsAt}
 use Rattle.query_range.specs.declared.pattern.Part.{Part}
 use Rattle.query_range.proofs.Meeting.{floor_below, meets_between}
 use Rattle.query_range.proofs.Runs.{run}

@@ -3,7 +3,7 @@ use Rattle.std.proofs.Common.{◌≡◌, true, false, List, [], ◌∷◌, Some,
 use Rattle.std.specs.Prelude.{codes}
 use Rattle.index_tables.specs.Order.{Entry}
 use Rattle.query_range.specs.Answers.{answer, is_between, keys_of}
-use Rattle.query_range.specs.Floor.{floor_of}
+use Rattle.query_range.specs.inner.Floor.{floor_of}
 use Rattle.query_range.specs.Patterns.{meets, part_of}
 use Rattle.query_range.specs.declared.pattern.Part.TheVariants.{Exact, Prefix, Any}
 

@@ -1,6 +1,5 @@
 pub mod Answers
 pub mod Faults
-pub mod Floor
 pub mod Patterns
-pub mod Wanted
 pub mod SeenIds
+pub mod inner

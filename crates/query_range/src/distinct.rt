@@ -1,7 +1,7 @@
 //! The keys of a table.
 ghost use Rattle.std.specs.Prelude.{◌≡◌, ◌+◌, ◌-◌, ◌≤◌, IfOk, length, slice_get};
 ghost use Rattle.query_range.specs.Answers.{AreKeys, keys_of};
-ghost use Rattle.query_range.specs.Wanted.{is_key};
+ghost use Rattle.query_range.specs.inner.Wanted.{is_key};
 
 use index_tables::{IndexTable, compare_keys};
 use std::alloc::Global;

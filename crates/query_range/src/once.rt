@@ -2,7 +2,8 @@
 ghost use Rattle.std.specs.Prelude.{◌≡◌, ◌<◌, ◌≤◌, ◌%◌, false, not, IfOk, OnOk, length, map};
 ghost use Rattle.u1_base.specs.Ids.{id_cmp};
 ghost use Rattle.query_range.specs.Answers.{firsts};
-ghost use Rattle.query_range.specs.SeenIds.{AreBehind, SeesOneMore, holds, mark};
+ghost use Rattle.query_range.specs.SeenIds.{AreBehind, mark};
+ghost use Rattle.query_range.specs.inner.SeenIds.{SeesOneMore, holds};
 
 use std::alloc::Global;
 use std::collections::BTreeSet;
@@ -37,7 +38,8 @@ fn place_of(id: &str, count: usize) -> usize
 }
 
 impl<'a> SeenIds<'a> {
-    ghost use Rattle.query_range.specs.SeenIds.{AreBehind, holds};
+    ghost use Rattle.query_range.specs.SeenIds.{AreBehind};
+    ghost use Rattle.query_range.specs.inner.SeenIds.{holds};
 
     // None, with places for so many ids.
     fn new(alloc: Global, ids: usize) -> Result<SeenIds<'a>, Memory>

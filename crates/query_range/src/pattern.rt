@@ -1,6 +1,6 @@
 //! Patterns.
 ghost use Rattle.std.specs.Prelude.{◌≡◌, IfOk};
-ghost use Rattle.query_range.specs.Floor.{floor_of};
+ghost use Rattle.query_range.specs.inner.Floor.{floor_of};
 ghost use Rattle.query_range.specs.Patterns.{before_star, is_any, is_open, meets, part_meets};
 ghost use Rattle.query_range.specs.Patterns.{part_of};
 
@@ -10,7 +10,7 @@ use std::marker::Model;
 use u1_base::{Items, Key, Memory, Text, Texts};
 
 /// What one value of a query asks of a text.
-#[derive(Debug, Drop)]
+#[derive(Drop)]
 pub enum Part {
     /// This text.
     Exact(Text),
@@ -75,7 +75,7 @@ fn starred_part(alloc: Global, begin: &str) -> Result<Part, Memory>
 
 /// The parts of a query, one for each expression of the index. After a prefix or any, all parts are
 /// any.
-#[derive(Debug, Drop)]
+#[derive(Drop)]
 pub struct Pattern {
     parts: Items<Part>,
 }

@@ -4,7 +4,7 @@ ghost use Rattle.chunk_list.specs.Looks.{FewLooks};
 ghost use Rattle.index_tables.specs.Entries.{HaveWidth};
 ghost use Rattle.query_range.specs.Answers.{IsAnswer, answer, is_to, is_within, wanted_of};
 ghost use Rattle.query_range.specs.Patterns.{meets};
-ghost use Rattle.query_range.specs.Wanted.{StartsAt, takes};
+ghost use Rattle.query_range.specs.inner.Wanted.{StartsAt, takes};
 
 use crate::Pattern;
 use crate::wanted::{Wanted, ids_from};

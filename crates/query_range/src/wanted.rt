@@ -2,7 +2,7 @@
 ghost use Rattle.std.specs.Prelude.{◌≡◌, ◌+◌, ◌≤◌, IfOk, length, map};
 ghost use Rattle.u1_base.specs.Ids.{id_cmp};
 ghost use Rattle.query_range.specs.Answers.{firsts};
-ghost use Rattle.query_range.specs.Wanted.{taken_from, takes};
+ghost use Rattle.query_range.specs.inner.Wanted.{taken_from, takes};
 
 use crate::Pattern;
 use crate::once::each_once;

@@ -9,7 +9,8 @@ use Rattle.record_fields.specs.Table.{Text, AreNumbered}
 use Rattle.record_fields.specs.Fields.{Rest, whole, ◌>>=◌}
 use Rattle.record_codec.specs.Bodies.{step, at_end, body_of, added_of, step_in, first_body_of, step_alone, recorded_in}
 use Rattle.record_codec.specs.Bodies.{first_step_in}
-use Rattle.record_codec.specs.Decoding.{recorded, Decodes, DecodesAlone, read_whole}
+use Rattle.record_codec.specs.Decoding.{recorded, Decodes, DecodesAlone}
+use Rattle.record_codec.specs.inner.Decoding.{read_whole}
 use Rattle.record_codec.specs.Laws.{AreBytes, Says}
 use Rattle.record_codec.specs.Steps.{IsStep}
 use Rattle.record_codec.specs.declared.decoding.Decoded.{Decoded}

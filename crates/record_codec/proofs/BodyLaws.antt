@@ -9,7 +9,8 @@ use Rattle.std.proofs.lemmas.List.Concat.{flat_map-cons}
 use Rattle.content.specs.Tree.{Tree}
 use Rattle.vector_rev.specs.Clock.{Clock}
 use Rattle.conflicts.specs.State.{Step, Accepted, Gone, Moved, IndexCreated, IndexDeleted}
-use Rattle.record_fields.specs.Table.{Text, Table, table_with, uids, number_of, with_uid, after, HasRoom, AreNumbered}
+use Rattle.record_fields.specs.Table.{Text, Table, table_with, uids, number_of, with_uid, after, AreNumbered}
+use Rattle.record_fields.specs.inner.Table.{HasRoom}
 use Rattle.record_fields.specs.Fields.{Rest, ◌>>=◌}
 use Rattle.record_fields.specs.Plain.{content, expression}
 use Rattle.record_fields.specs.Named.{clock}

@@ -11,7 +11,8 @@ use Rattle.record_fields.specs.Reading.{Stops}
 use Rattle.record_fields.specs.declared.stop.Stop.{Stop}
 use Rattle.record_fields.specs.declared.stop.Stop.TheVariants as stop
 use Rattle.record_fields.proofs.ReadBehind.{told, then_by, told_behind}
-use Rattle.record_codec.specs.Bodies.{kind, parts, step_from, step, step_at, move_of, moved_at, maybe_table, maybe_peer}
+use Rattle.record_codec.specs.Bodies.{kind, parts, step_from, step, move_of, maybe_table, maybe_peer}
+use Rattle.record_codec.specs.inner.Bodies.{step_at, moved_at}
 use Rattle.record_codec.specs.Bodies.{maybe_move_of, maybe_moved}
 use Rattle.record_codec.specs.declared.kind.Kind.{Kind}
 

@@ -1,4 +1,3 @@
--- The body of an entry: one step of a history. `step_at` and `moved_at` are private.
 use Rattle.std.specs.Prelude.{ℕ, zero, suc, ◌-◌, ◌==◌, Bool, List, [], length, if◌then◌else◌, Option, Some, None}
 use Rattle.std.specs.Prelude.{Result, Ok, Err}
 use Rattle.u1_base.specs.Places.{Place}
@@ -14,7 +13,7 @@ use Rattle.conflicts.specs.declared.moves.PosTable.{PosTable}
 use Rattle.conflicts.specs.declared.moves.PosTable.TheVariants as table_of
 use Rattle.conflicts.specs.State.{Step, Accepted, Gone, Moved, IndexCreated, IndexDeleted}
 use Rattle.record_fields.specs.Table.{Text, Table, table_with, after}
-use Rattle.record_fields.specs.Fields.{Rest, Read, Field, whole, ◌>>=◌, ◌then◌, mapped, checked}
+use Rattle.record_fields.specs.Fields.{Rest, Field, whole, ◌>>=◌, ◌then◌, mapped, checked}
 use Rattle.record_fields.specs.Plain.{nothing, byte, id, flag, content, expressions}
 use Rattle.record_fields.specs.Named.{clock, clocks, peer}
 use Rattle.record_fields.specs.declared.format.Format.{Format}
@@ -79,10 +78,6 @@ maybe_table = checked byte table_in table_byte
 -- one byte, 1 or 2
 abbrev pub table : Field PosTable
 table = checked maybe_table (λ o. o) (λ t. Some t)
-
--- the move in the table that was read
-abbrev pub moved_at : Format → PosTable → Rest → Read Move
-moved_at format t r = (peer format).read r >>= λ p. Ok (move_of t p.0, p.1)
 
 -- a move
 unfoldable pub moved : Format → Field Move
@@ -162,10 +157,6 @@ step_parts (IndexDeleted n) = (kind_of.IndexDelete, n)
 -- a step: its kind, and the fields of that kind
 abbrev pub step : Format → Field Step
 step format = mapped (kind then parts format) (λ p. step_from p.0 p.1) step_parts
-
--- the step whose kind was read
-abbrev pub step_at : Format → Kind → Rest → Read Step
-step_at format k r = (parts format k).read r >>= λ p. Ok (step_from k p.0, p.1)
 
 -- ---- bodies
 

@@ -1,18 +1,12 @@
--- What reading a body answers. `read_whole` and `Records` are private.
 use Rattle.std.specs.Prelude.{◌≡◌, ◌≤◌, ℕ, List, ◌++◌, codes, Result, Ok, Err}
 use Rattle.std.specs.Fmt.{decimal}
 use Rattle.conflicts.specs.State.{Step}
 use Rattle.replica_state.specs.declared.step.Step.{Step as Held}
 use Rattle.replica_state.specs.Steps.{step_of}
-use Rattle.record_fields.specs.Table.{Text}
-use Rattle.record_fields.specs.Fields.{whole, ◌>>=◌}
-use Rattle.record_codec.specs.Bodies.{Recorded, at_end, step}
-use Rattle.record_fields.specs.Reading.{Stops}
+use Rattle.record_codec.specs.Bodies.{Recorded, step}
 use Rattle.record_codec.specs.declared.decoding.Decoded.{Decoded}
 use Rattle.record_codec.specs.declared.decoding.RecordFault.{RecordFault}
 use Rattle.record_codec.specs.declared.decoding.RecordFault.TheVariants.{Bad, Memory}
-use Rattle.record_fields.specs.declared.format.Format.{Format}
-use Rattle.record_fields.specs.declared.stop.Stop.{Stop}
 
 -- a step that was read, as one of a history
 abbrev pub recorded : Decoded → Recorded
@@ -35,14 +29,6 @@ abbrev pub IsBadWithin : {T : Type 0} → ℕ → Result T RecordFault → Type 
 IsBadWithin size (Ok read) = Unit {0}
 IsBadWithin size (Err (Bad place)) = place ≤ size
 IsBadWithin size (Err Memory) = Unit {0}
-
--- private: by the number of bytes that are left
-abbrev pub read_whole : Format → List Text → List ℕ → Result Recorded ℕ
-read_whole format us body = (step format).read (whole us body) >>= at_end
-
-abbrev pub Records : Result Recorded ℕ → Result Decoded Stop → Type 0
-Records read (Ok d) = read ≡ Ok (recorded d)
-Records read (Err e) = Stops read e
 
 -- what a fault prints
 abbrev pub record_fault_text : RecordFault → List ℕ

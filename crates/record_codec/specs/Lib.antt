@@ -3,3 +3,4 @@ pub mod Steps
 pub mod Laws
 pub mod Decoding
 pub mod Encoding
+pub mod inner

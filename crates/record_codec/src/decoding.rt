@@ -2,8 +2,10 @@
 ghost use Rattle.std.specs.Prelude.{◌≡◌, IfOk, length};
 ghost use Rattle.replica_state.specs.Steps.{step_of};
 ghost use Rattle.record_codec.specs.Bodies.{first_body_of, first_step_in, recorded_in, step_in};
-ghost use Rattle.record_codec.specs.Decoding.{Decodes, DecodesAlone, IsBadWithin, Records};
-ghost use Rattle.record_codec.specs.Decoding.{read_whole, recorded};
+ghost use Rattle.record_codec.specs.Decoding.{Decodes, DecodesAlone, IsBadWithin};
+ghost use Rattle.record_codec.specs.inner.Decoding.{Records};
+ghost use Rattle.record_codec.specs.Decoding.{recorded};
+ghost use Rattle.record_codec.specs.inner.Decoding.{read_whole};
 ghost use Rattle.record_codec.specs.Laws.{Says};
 ghost use Rattle.record_codec.specs.Steps.{IsStep};
 

@@ -19,7 +19,7 @@ const MOST_UIDS: usize = 4_294_967_296;
 const TOO_MANY_BYTES: usize = 4_294_967_296;
 
 /// The body of a step.
-#[derive(Debug, Drop)]
+#[derive(Drop)]
 pub struct Encoded {
     pub bytes: Bytes,
     /// The uids to which the body gives numbers, in the order of the numbers.

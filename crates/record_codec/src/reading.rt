@@ -5,7 +5,8 @@ ghost use Rattle.record_fields.specs.Plain.{expressions};
 ghost use Rattle.record_fields.specs.Reading.{Reads};
 ghost use Rattle.record_fields.specs.declared.format.Format.TheVariants as format_of;
 ghost use Rattle.record_codec.specs.Bodies.{accept, kind, making, maybe_moved, maybe_table, moved};
-ghost use Rattle.record_codec.specs.Bodies.{moved_at, step, step_at, table};
+ghost use Rattle.record_codec.specs.Bodies.{step, table};
+ghost use Rattle.record_codec.specs.inner.Bodies.{moved_at, step_at};
 ghost use Rattle.record_codec.specs.declared.kind.Kind.TheVariants as kind_of;
 
 use crate::kind::Kind;

@@ -4,7 +4,8 @@ use Rattle.std.proofs.Common.{◌≡◌, ℕ, zero, suc, ◌<◌, List, [], ◌�
 use Rattle.std.proofs.Common.{Ok, Err, refl, sym, ap, ◌∙◌, subst, append_assoc}
 use Rattle.std.specs.List.{flat_map, AllByRecursion}
 use Rattle.std.proofs.lemmas.List.Concat.{flat_map-cons}
-use Rattle.record_fields.specs.Table.{Table, after, HasRoom}
+use Rattle.record_fields.specs.Table.{Table, after}
+use Rattle.record_fields.specs.inner.Table.{HasRoom}
 use Rattle.record_fields.specs.Fields.{Rest, Read, Field, ◌>>=◌, ◌then◌, mapped, found, tested, checked, each_spelled}
 use Rattle.record_fields.specs.Fields.{each_read, each, counted}
 use Rattle.record_fields.proofs.Tables.{IsTable, after-append, room_before}

@@ -7,7 +7,8 @@ use Rattle.expr_parser.specs.declared.expr.Expr.{Expr}
 use Rattle.expr_parser.specs.FormOf.{form_of}
 use Rattle.expr_parser.specs.Reading.{IsExpr}
 use Rattle.record_fields.specs.Fields.{Rest, Read, Field, ◌>>=◌, each_read}
-use Rattle.record_fields.specs.Reading.{Stops, text_of, texts_of}
+use Rattle.record_fields.specs.Reading.{Stops, texts_of}
+use Rattle.record_fields.specs.inner.Reading.{text_of}
 use Rattle.record_fields.specs.declared.stop.Stop.{Stop}
 use Rattle.record_fields.specs.declared.stop.Stop.TheVariants.{Bad, Memory}
 

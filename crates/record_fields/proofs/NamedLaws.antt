@@ -15,7 +15,8 @@ use Rattle.vector_rev.specs.ClockText.{clock_text, clock_in}
 use Rattle.vector_rev.proofs.Truths.{T_true}
 use Rattle.vector_rev.proofs.ClockLaws.{entries_of, few_entries}
 use Rattle.vector_rev.proofs.RoundTrip.{clock_of-entries, entries-clock_of, reads_back, reads_only}
-use Rattle.record_fields.specs.Table.{Table, uids, number_of, with_uid, HasRoom}
+use Rattle.record_fields.specs.Table.{Table, uids, number_of, with_uid}
+use Rattle.record_fields.specs.inner.Table.{HasRoom}
 use Rattle.record_fields.specs.Fields.{Rest, Read, ◌then◌}
 use Rattle.record_fields.specs.Plain.{byte, number, id, generation, IsTransAt, trans_at}
 use Rattle.record_fields.specs.Named.{reference_bytes, introduced, referred, reference_at, reference, uid, entry}

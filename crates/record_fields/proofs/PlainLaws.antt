@@ -23,7 +23,8 @@ use Rattle.content.specs.Contents.{IsContent}
 use Rattle.content.specs.Reading.{content_in}
 use Rattle.content.proofs.Reading.{content_in-canonical, IsContent-content_in}
 use Rattle.expr_parser.specs.Limits.{most_exprs}
-use Rattle.expr_parser.specs.Reading.{IsSpelled, is_spelled, AreExprs}
+use Rattle.expr_parser.specs.Reading.{is_spelled, AreExprs}
+use Rattle.expr_parser.specs.inner.Reading.{IsSpelled}
 use Rattle.expr_parser.proofs.ReadBack.{spelled, expr_in-text}
 use Rattle.record_fields.specs.Table.{Text, Table}
 use Rattle.record_fields.specs.Fields.{Rest, ◌then◌}

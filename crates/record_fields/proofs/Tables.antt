@@ -12,7 +12,8 @@ use Rattle.u1_base.specs.Ids.{IsId, is_id, same_id}
 use Rattle.u1_base.specs.declared.ids.Form.TheVariants.{Replica}
 use Rattle.u1_base.proofs.Booleans.{not_true}
 use Rattle.u1_base.proofs.SameIds.{same_id_is, is_same_id, same_id-comm}
-use Rattle.record_fields.specs.Table.{Text, Table, uids, number_of, with_uid, after, are_distinct, HasRoom, AreNumbered}
+use Rattle.record_fields.specs.Table.{Text, Table, uids, number_of, with_uid, after, are_distinct, AreNumbered}
+use Rattle.record_fields.specs.inner.Table.{HasRoom}
 
 -- ---- one uid after the other
 

@@ -21,7 +21,8 @@ use Rattle.record_fields.specs.Fields.{Field, ◌then◌, each_spelled, each, co
 use Rattle.record_fields.specs.Plain.{byte, number, text, id, flag, held, content, expression, count, expressions}
 use Rattle.record_fields.specs.Plain.{generation, trans_at, trans_text}
 use Rattle.record_fields.specs.Named.{reference_bytes, reference, entry, entries, clock, clocks, place}
-use Rattle.record_fields.specs.Reading.{text_of, texts_of}
+use Rattle.record_fields.specs.Reading.{texts_of}
+use Rattle.record_fields.specs.inner.Reading.{text_of}
 use Rattle.record_fields.specs.Writing.{Written, with_field}
 use Rattle.record_fields.specs.declared.format.Format.TheVariants.{Second}
 use Rattle.record_fields.proofs.Tables.{after-append, with_known, with_new}

@@ -4,3 +4,4 @@ pub mod Plain
 pub mod Named
 pub mod Reading
 pub mod Writing
+pub mod inner

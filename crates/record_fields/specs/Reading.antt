@@ -1,13 +1,10 @@
--- What a reader answers. `IsExpression` and its `text_of` are private.
-use Rattle.std.specs.Prelude.{◌≡◌, ℕ, List, ◌++◌, codes, map, Option, Some, None, Result, Ok, Err}
+use Rattle.std.specs.Prelude.{◌≡◌, ℕ, List, ◌++◌, codes, map, Result, Ok, Err}
 use Rattle.std.specs.Fmt.{decimal}
 use Rattle.expr_parser.specs.declared.expr.Expr.{Expr}
 use Rattle.expr_parser.specs.FormOf.{form_of}
 use Rattle.expr_parser.specs.Canonical.{canonical}
-use Rattle.expr_parser.specs.Reading.{IsExpr}
 use Rattle.record_fields.specs.Table.{Text}
 use Rattle.record_fields.specs.Fields.{Rest, Read}
-use Rattle.record_fields.specs.Plain.{expression_in}
 use Rattle.record_fields.specs.declared.stop.Stop.{Stop}
 use Rattle.record_fields.specs.declared.stop.Stop.TheVariants.{Bad, Memory}
 
@@ -21,17 +18,8 @@ abbrev pub Reads : {A B : Type 0} → (A → B) → Read B → Result A Stop →
 Reads view read (Ok x) behind = read ≡ Ok (view x, behind)
 Reads view read (Err e) behind = Stops read e
 
--- the canonical text of an expression
-abbrev pub text_of : Expr → Text
-text_of e = canonical (form_of e)
-
 abbrev pub texts_of : List Expr → List Text
 texts_of es = map canonical (map form_of es)
-
--- the expression whose canonical text this is
-abbrev pub IsExpression : Text → Option Expr → Type 0
-IsExpression s None = expression_in s ≡ None
-IsExpression s (Some e) = (expression_in s ≡ Some (text_of e)) × IsExpr (form_of e)
 
 -- what a stop prints
 abbrev pub stop_text : Stop → List ℕ

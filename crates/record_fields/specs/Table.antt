@@ -54,7 +54,3 @@ abbrev pub numbers_code : Coded Numbers
 numbers_code =
     code_by (List Text × ℕ) (coded× (coded_list (coded_list coded_ℕ)) coded_ℕ) (λ n. (n.uids, n.room))
     (λ p. record { uids = p.0; room = p.1 }) (λ _. refl)
-
--- each number fits a reference
-abbrev pub HasRoom : Table → Type 0
-HasRoom t = length (uids t) ≤ 2 ^ 32

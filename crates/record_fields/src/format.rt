@@ -1,7 +1,7 @@
 //! The two formats of bodies.
 
 /// How uids stand in a body.
-#[derive(Clone, Copy, Debug, PartialEq, Eq)]
+#[derive(Clone, Copy, PartialEq, Eq)]
 pub enum Format {
     /// As their texts. It is read, and never written.
     First,

@@ -3,7 +3,7 @@ ghost use Rattle.std.specs.Prelude.{◌≡◌, IfOk, Some};
 ghost use Rattle.u1_base.specs.Ids.{id_in};
 ghost use Rattle.expr_parser.specs.FormOf.{form_of};
 ghost use Rattle.expr_parser.specs.Reading.{IsExpr, expr_in};
-ghost use Rattle.record_fields.specs.Reading.{IsExpression};
+ghost use Rattle.record_fields.specs.inner.Reading.{IsExpression};
 ghost use Rattle.vector_rev.specs.Clock.{clock_of};
 ghost use Rattle.vector_rev.specs.ClockText.{clock_in};
 ghost use Rattle.record_fields.specs.Plain.{canonical_in, if_canonical};

@@ -13,7 +13,7 @@ pub type ReplicaUids = Items<ReplicaUid>;
 
 /// The uids that have numbers, the header's first: the number of a uid is its place, counted from
 /// 0. Contracts see them as their list, and how many more may be added without memory.
-#[derive(Debug, Drop)]
+#[derive(Drop)]
 pub struct Uids {
     list: Vec<ReplicaUid>,
     room: usize,

@@ -6,7 +6,8 @@ ghost use Rattle.expr_parser.specs.Limits.{most_exprs};
 ghost use Rattle.expr_parser.specs.Reading.{IsExpr};
 ghost use Rattle.record_fields.specs.Fields.{each};
 ghost use Rattle.record_fields.specs.Plain.{content, count, expression, expressions, held};
-ghost use Rattle.record_fields.specs.Reading.{Reads, text_of, texts_of};
+ghost use Rattle.record_fields.specs.Reading.{Reads, texts_of};
+ghost use Rattle.record_fields.specs.inner.Reading.{text_of};
 
 use crate::read::{read_content, read_expression};
 use crate::reader::Reader;

@@ -1,7 +1,7 @@
 -- What is found of three files: in the words of a volume, and as commands find it.
-use Rattle.std.specs.Prelude.{IsTrue}
+use Rattle.std.specs.Prelude.{IsTrue, ◌-◌, ◌^◌, min}
 use Rattle.std.proofs.Common.{◌≡◌, ◌≢◌, ℕ, Bool, true, false, ◌+◌, if◌then◌else◌, List, [], ◌∷◌, length, Some}
-use Rattle.std.proofs.Common.{None, IfSome, Result, Ok, Err, refl, sym, ◌∙◌, ap, ⊎_elim}
+use Rattle.std.proofs.Common.{None, Result, Ok, Err, refl, sym, ◌∙◌, ap, subst, ⊎_elim, arith}
 use Rattle.conflicts.specs.State.{State, Text}
 use Rattle.disk_model.specs.Device.{Device}
 use Rattle.disks.specs.declared.name.DiskName.{DiskName}
@@ -9,24 +9,23 @@ use Rattle.disks.specs.declared.trio.Trio.{Trio}
 use Rattle.disks.specs.Trio.{pick}
 use Rattle.disks.specs.Joint.{seen_of}
 use Rattle.journal.specs.Image.{Head, up_to_gate}
-use Rattle.journal.specs.Journal.{need}
 use Rattle.journal.specs.Reader.{Reading, read_image}
 use Rattle.journal.specs.Reader.Reading.{Damaged as Broken, Stands as Reads}
-use Rattle.record_codec.specs.Bodies.{body_of}
-use Rattle.replica_core.specs.Replica.{Found as Left}
+use Rattle.replica_core.specs.Replica.{Found as Left, Stored}
 use Rattle.replica_state.specs.Held.{meaning}
 use Rattle.replica_volume.specs.Steps.{Chronicle, state_at, steps_of}
 use Rattle.replica_volume.specs.Store.{IsMoved, IsRespelling, IsSameOrMoved, StoreFound, holds_steps, with_steps}
 use Rattle.replica_volume.specs.Store.StoreFound.{Blank as NoStore, Damaged as BrokenStore, Holds}
-use Rattle.replica_volume.specs.Volume.{KeepsHistory, devices, limit_in, limit_of, volume_known}
+use Rattle.replica_volume.specs.Volume.{IsOpenVolume, KeepsHistory, devices, length_with, volume_known}
 use Rattle.replica_volume.specs.declared.replica.Volume.{Volume}
-use Rattle.store_commands.specs.Changes.{HasLimit, IsNow, limit_of as limit_left}
+use Rattle.store_commands.specs.Changes.{IsNeeded, IsNow, NeedsNow}
 use Rattle.store_commands.specs.Found.{Blank, Damaged, Found, IsTold, Stands, in_short, standing_in}
 use Rattle.store_commands.specs.Store.{is_blank}
 use Rattle.volume.specs.Store.{FoundImages, chosen, found_by, found_in as image_found, found_of}
 use Rattle.volume.specs.Store.FoundImages.{Blank as NoImages, Damaged as BrokenImage, Stands as StandingImage}
 use Rattle.volume.proofs.Finding.{found_blank}
 use Rattle.volume.proofs.Standing.{store_stands}
+use Rattle.store_commands.proofs.Moving.{needs_itself}
 use Rattle.replica_cli.specs.Store.{found_in, image_as, image_of, image_with, images_as}
 
 -- ---- what a volume finds is what commands find
@@ -85,11 +84,7 @@ same_or_moved old new is =
 
 abbrev standing_with : List Text → State → ℕ → ℕ → Found
 standing_with uids s e l =
-    Stands (record {
-      state = s;
-      need = λ x. need (record { length = e; limit = l }) (length (body_of uids x));
-      limit = l;
-    })
+    Stands (record { state = s; need = λ xs y. min (length_with e uids xs y) (2 ^ 64 - 1); limit = l })
 
 same_standing : (uids : List Text) (s t : State) (e f l m : ℕ) → s ≡ t → e ≡ f → l ≡ m
     → standing_with uids s e l ≡ standing_with uids t f m
@@ -98,54 +93,20 @@ same_standing uids s t e f l m state length limit =
     ∙ ap (λ (n : ℕ). standing_with uids t n l) length
     ∙ ap (λ (n : ℕ). standing_with uids t f n) limit
 
-pub stands_as : {D : Type 0} (tells : Bool) (known : D → Device) (v : Volume D) → IsTrue tells
+pub stands_as : {D : Type 0} (tells : Bool) (known : D → Device) (v : Volume D) → v.staged ≡ []
     → (k : KeepsHistory v (devices known v).files)
     → found_in (seen_of (devices known v).files) ≡ Stands (standing_in (volume_known tells known v))
-stands_as tells known v t k =
+stands_as tells known v nothing k =
     let files = (devices known v).files in
     let read = (store_stands v.journal v.side 2 k.head k.bodies files k.stands).read in
-    let limit : limit_of tells known v ≡ k.head.limit =
-    ap (λ (b : Bool). if b then limit_in (found_of (seen_of files)) else v.journal.limit) t ∙ ap limit_in read
-    in
+    let extent = k.stands.image.extent in
+    let unstaged : length (up_to_gate 2 k.head k.bodies) + 1 ≡ v.journal.length + length v.staged =
+    omega (arith, extent.all, ap length nothing) in
     ap images_as read
     ∙ ap (λ (r : Result Chronicle ℕ). image_as v.side 2 k.head k.bodies r) k.says
     ∙ same_standing v.uids.uids (state_at k.head k.history) (meaning v.state)
-    (length (up_to_gate 2 k.head k.bodies) + 1) v.journal.length
-    k.head.limit (limit_of tells known v) (sym k.leaves) (sym k.stands.image.extent.all) (sym limit)
-
--- its limit is that of its journal
-pub journal_limit : {D : Type 0} (tells : Bool) (known : D → Device) (v : Volume D) → IsTrue tells
-    → (k : KeepsHistory v (devices known v).files)
-    → limit_of tells known v ≡ v.journal.limit
-journal_limit tells known v t k =
-    let files = (devices known v).files in
-    ap (λ (b : Bool). if b then limit_in (found_of (seen_of files)) else v.journal.limit) t
-    ∙ ap limit_in (store_stands v.journal v.side 2 k.head k.bodies files k.stands).read
-    ∙ sym k.stands.image.extent.limit
-
--- ---- the limit of what is found
-
-limit_image : (side : DiskName) (format : ℕ) (head : Head) (bodies : List (List ℕ)) (r : Result Chronicle ℕ)
-    → HasLimit head.limit (image_as side format head bodies r)
-limit_image side format head bodies (Ok read) = refl
-limit_image side format head bodies (Err place) = tt
-
-pub has_limit : (f : FoundImages) → HasLimit (limit_in f) (images_as f)
-has_limit NoImages = tt
-has_limit (BrokenImage disk place) = tt
-has_limit (StandingImage side format head bodies) = limit_image side format head bodies (steps_of format head bodies)
-
-pub own_limit : (f : Found) → HasLimit (limit_left f []) f
-own_limit Blank = tt
-own_limit (Damaged disk place) = tt
-own_limit (Stands x) = refl
-
--- what a closed volume tells has its limit
-pub limit_told : {D : Type 0} (tells : Bool) (known : D → Device) (v : Volume D)
-    → IfSome (if tells then Some (found_in (seen_of (devices known v).files)) else None)
-    (HasLimit (limit_of tells known v))
-limit_told true known v = has_limit (found_of (seen_of (devices known v).files))
-limit_told false known v = tt
+    (length (up_to_gate 2 k.head k.bodies) + 1) (v.journal.length + length v.staged)
+    k.head.limit v.journal.limit (sym k.leaves) unstaged (sym extent.limit)
 
 -- ---- where there is no store, and where there is one
 
@@ -175,8 +136,21 @@ pub told_if : (tells : Bool) (f g : Found) → (IsTrue tells → f ≡ g) → Is
 told_if true f g h = h refl
 told_if false f g h = tt
 
-pub now_if : (tells : Bool) (f : Found) (now : Left State) (limit : ℕ)
-    → (IsTrue tells → (in_short f ≡ now) × HasLimit limit f)
-    → IsNow now limit (if tells then Some f else None)
-now_if true f now limit h = h refl
-now_if false f now limit h = tt
+pub now_if : (tells : Bool) (f : Found) (now : Left Stored) → (IsTrue tells → in_short f ≡ now)
+    → IsNow now (if tells then Some f else None)
+now_if true f now h = h refl
+now_if false f now h = tt
+
+-- what is found needs what it needed
+pub need_if : (tells : Bool) (f found : Found) → (IsTrue tells → f ≡ found)
+    → IsNeeded found [] (if tells then Some f else None)
+need_if true f found h = subst (λ (g : Found). NeedsNow found [] g) (sym (h refl)) (needs_itself found)
+need_if false f found h = tt
+
+-- and so does a volume that was open, once it is closed
+pub closes_so : {D : Type 0} (tells : Bool) (known : D → Device) (v : Volume D) → IsOpenVolume tells known v
+    → IsNeeded (Stands (standing_in (volume_known tells known v))) []
+    (if tells then Some (found_in (seen_of (devices known v).files)) else None)
+closes_so tells known v is =
+    need_if tells (found_in (seen_of (devices known v).files)) (Stands (standing_in (volume_known tells known v)))
+    (λ t. stands_as tells known v is.nothing (is.keeps t))

@@ -3,22 +3,21 @@
 use Rattle.std.specs.Prelude.{IsTrue}
 use Rattle.std.proofs.Common.{◌≡◌, inl, ℕ, ◌<◌, ◌≤◌, Bool, true, false, if◌then◌else◌, List, [], length, Option, Some}
 use Rattle.std.proofs.Common.{refl, sym, ◌∙◌, ap, subst, arith, length-append}
-use Rattle.conflicts.specs.State.{State}
 use Rattle.disks.specs.declared.trio.Trio.{Trio}
 use Rattle.disks.specs.Joint.{AreCrashImages, Devices, JointMoment, now_of, seen_of}
 use Rattle.disks.specs.Moments.{LeavesTogether}
 use Rattle.disks.proofs.Runs.{at_moment, begins, earlier, weaker}
-use Rattle.replica_core.specs.Replica.{Found as Left}
+use Rattle.replica_core.specs.Replica.{Found as Left, Stored}
 use Rattle.replica_volume.specs.Opening.{LeavesAsBefore}
 use Rattle.replica_volume.specs.Settled.{now_at}
 use Rattle.replica_volume.specs.Store.{MayOpenAs, opens_as}
 use Rattle.replica_volume.specs.Volume.{moments}
-use Rattle.store_commands.specs.Changes.{HasLimit, IsNow, Passes, limit_of}
+use Rattle.store_commands.specs.Changes.{IsNow, Passes}
 use Rattle.store_commands.specs.Found.{Found, IsUntouched, in_short}
-use Rattle.store_commands.specs.Store.{Finds, FindsSome}
+use Rattle.store_commands.specs.Store.{Finds, FindsSome, Keeps}
 use Rattle.volume.specs.Crashes.{OnlyLooks}
 use Rattle.replica_cli.specs.Store.{bytes_of, found_in, store_seen}
-use Rattle.replica_cli.proofs.Files.{now_if, own_limit, told_if}
+use Rattle.replica_cli.proofs.Files.{need_if, now_if, told_if}
 
 pub told_at : (tells : Bool) (d : Devices) → IsTrue tells → moments tells d ≡ length d.past
 told_at tells d t = ap (λ (b : Bool). if b then length d.past else 0) t
@@ -36,7 +35,7 @@ grows old new Q run = omega (arith, ap length run.added ∙ length-append old.pa
 -- an earlier moment leaves what it left
 pub earlier_crash : (tells : Bool) (old new : Devices) → (Q : Trio (List ℕ) → Type 0)
     → (IsTrue tells → LeavesTogether old new Q)
-    → (k : ℕ) (o : Left State) → k < moments tells old → (store_seen tells new).crash k o
+    → (k : ℕ) (o : Left Stored) → k < moments tells old → (store_seen tells new).crash k o
     → (store_seen tells old).crash k o
 earlier_crash tells old new Q run k o low crash =
     let t = crash.0 in let files = crash.1.0 in let r = run t in (
@@ -52,7 +51,7 @@ earlier_crash tells old new Q run k o low crash =
 -- what a crash at a moment of the run leaves has what the run says
 pub crash_since : (tells : Bool) (old new : Devices) (Q : Trio (List ℕ) → Type 0)
     → (IsTrue tells → LeavesTogether old new Q)
-    → (k : ℕ) (o : Left State) → moments tells old ≤ k → (store_seen tells new).crash k o
+    → (k : ℕ) (o : Left Stored) → moments tells old ≤ k → (store_seen tells new).crash k o
     → IsTrue tells × ((files : Trio (List ℕ)) × Q files × (o ≡ opens_as files))
 crash_since tells old new Q run k o low crash =
     let t = crash.0 in let files = crash.1.0 in (
@@ -65,7 +64,7 @@ crash_since tells old new Q run k o low crash =
     )
 
 -- what a crash now may leave
-pub crash_now : (tells : Bool) (d : Devices) (o : Left State) → IsTrue tells → MayOpenAs (now_of d.files) o
+pub crash_now : (tells : Bool) (d : Devices) (o : Left Stored) → IsTrue tells → MayOpenAs (now_of d.files) o
     → (store_seen tells d).crash (moments tells d) o
 crash_now tells d o t may = (t, subst (λ (m : JointMoment). MayOpenAs m o) (sym (now_at tells d t)) may)
 
@@ -91,7 +90,7 @@ only_looked old new looks = record {
 -- whatever is told of the bytes then
 pub looked : (tells : Bool) (old new : Devices) (found : Found) (told : Option Found)
     (bytes : Option (List (List ℕ)))
-    → IsNow (in_short found) (limit_of found []) told
+    → IsNow (in_short found) told
     → (IsTrue tells → Stays old new) → old.faults ≤ new.faults
     → Passes found [] 0 0 (store_seen tells old) (record (store_seen tells new) { found = told; bytes = bytes })
 looked tells old new found told bytes now stays faults = record {
@@ -113,10 +112,18 @@ pub looked_as : (tells : Bool) (old new : Devices) (found : Found)
     → Passes found [] 0 0 (store_seen tells old) (store_seen tells new)
 looked_as tells old new found is stays faults =
     looked tells old new found (store_seen tells new).found (store_seen tells new).bytes
-    (now_if tells (found_in (seen_of new.files)) (in_short found) (limit_of found [])
-    (λ t. subst (λ (f : Found). (in_short f ≡ in_short found) × HasLimit (limit_of found []) f)
-    (sym ((stays t).found ∙ is t)) (refl, own_limit found)))
+    (now_if tells (found_in (seen_of new.files)) (in_short found) (λ t. ap in_short ((stays t).found ∙ is t)))
     stays faults
+
+-- and each step needs what it needed
+pub keeps_as : (tells : Bool) (old new : Devices) (found : Found)
+    → (IsTrue tells → found_in (seen_of old.files) ≡ found)
+    → (IsTrue tells → Stays old new) → old.faults ≤ new.faults
+    → Keeps found (store_seen tells old) (store_seen tells new)
+keeps_as tells old new found is stays faults = record {
+  passes = looked_as tells old new found is stays faults;
+  need = need_if tells (found_in (seen_of new.files)) found (λ t. (stays t).found ∙ is t);
+}
 
 -- the bytes are those that were there
 pub untouched : (tells : Bool) (old new : Devices) → (IsTrue tells → OnlyLooks old new)
@@ -129,7 +136,7 @@ pub finds : (tells : Bool) (old new : Devices) (found : Found) → (IsTrue tells
     → Finds found (store_seen tells old) (store_seen tells new)
 finds tells old new found is looks faults = record {
   told = told_if tells (found_in (seen_of old.files)) found is;
-  keeps = looked_as tells old new found is (λ t. only_looked old new (looks t)) faults;
+  keeps = keeps_as tells old new found is (λ t. only_looked old new (looks t)) faults;
   untouched = untouched tells old new looks;
 }
 
@@ -140,7 +147,7 @@ finds_some tells old new stays faults =
     record {
       found = found;
       told = told_if tells found found (λ t. refl);
-      keeps = looked_as tells old new found (λ t. refl) stays faults;
+      keeps = keeps_as tells old new found (λ t. refl) stays faults;
     }
 
 -- nothing was called

@@ -2,22 +2,23 @@
 use Rattle.std.specs.Prelude.{IsTrue}
 use Rattle.std.proofs.Common.{◌≡◌, ◌≢◌, ◌⊎◌, ⊎_elim, inl, inr, ℕ, ◌≤◌, Bool, true, false, if◌then◌else◌, List, [], ◌∷◌}
 use Rattle.std.proofs.Common.{take, Option, Some, None, Err, refl, sym, ◌∙◌, ap, subst, arith}
-use Rattle.conflicts.specs.State.{State, Text}
+use Rattle.conflicts.specs.State.{Text}
 use Rattle.disk_model.specs.Device.{Device}
+use Rattle.disks.specs.declared.fault.MakeFault.{MakeFault}
+use Rattle.disks.specs.declared.fault.MakeFault.TheVariants as init
 use Rattle.disks.specs.declared.name.DiskName.TheVariants.{Root}
 use Rattle.disks.specs.declared.three.Disks.{Disks}
 use Rattle.disks.specs.declared.trio.Trio.{Trio}
 use Rattle.disks.specs.Disks.{disks_known}
 use Rattle.disks.specs.Joint.{Devices, now_of, seen_of}
 use Rattle.journal.specs.Image.{Head}
-use Rattle.replica_core.specs.Replica.{Blank as LeftBlank, Found as Left, Stands as LeftStands}
+use Rattle.replica_core.specs.Replica.{Blank as LeftBlank, Found as Left, Stands as LeftStands, Stored, stored_in}
 use Rattle.replica_volume.specs.Making.{IsEmptyAt, LeavesAsBeforeOrNew, MakesVolume}
 use Rattle.replica_volume.specs.Settled.{leaves_its_state}
-use Rattle.replica_volume.specs.Steps.{state_at}
-use Rattle.replica_volume.specs.Store.{MayOpenAs, opens_as}
-use Rattle.replica_volume.specs.Volume.{IsOpenVolume, devices}
+use Rattle.replica_volume.specs.Store.{MayOpenAs, opens_as, stored_at}
+use Rattle.replica_volume.specs.Volume.{IsOpenVolume, devices, volume_known}
 use Rattle.replica_volume.specs.declared.replica.Volume.{Volume}
-use Rattle.store_commands.specs.Changes.{Change, HasLimit, IsAfterSome, IsNow, Made, Passes, after_all}
+use Rattle.store_commands.specs.Changes.{Change, IsAfterSome, IsNow, Made, Passes, after_all}
 use Rattle.store_commands.specs.Found.{Blank, Damaged, Found, IsUntouched, Stands, in_short}
 use Rattle.store_commands.specs.Store.{BreaksOff, Exists, FindsSome, MadeAnew, Makes, is_blank, making}
 use Rattle.std.specs.Result.{IsErrOf}
@@ -25,24 +26,21 @@ use Rattle.u1_base.specs.Causes.{HasCauseOf, Rose}
 use Rattle.vector_rev.specs.Counts.{Uid}
 use Rattle.volume.specs.Crashes.{IsBlankOrEmpty, OnlyLooks}
 use Rattle.volume.specs.Store.{FoundImages, found_of}
-use Rattle.volume.specs.declared.making.InitFault.{InitFault}
-use Rattle.volume.specs.declared.making.InitFault.TheVariants as init
-use Rattle.replica_cli.specs.Faults.{make_fault}
 use Rattle.replica_cli.specs.Store.{found_in, images_as, store_seen}
-use Rattle.replica_cli.proofs.Files.{blank_in, journal_limit, now_if, some_in, stands_as, told_if}
+use Rattle.replica_cli.proofs.Files.{blank_in, now_if, some_in, stands_as, told_if}
 use Rattle.replica_cli.proofs.Looking.{crash_now, crash_since, earlier_crash, finds, finds_some, grows, later_if}
 use Rattle.replica_cli.proofs.Looking.{looked_as, no_call, only_looked}
 
 -- of what may be found after a crash, that which was there, or the empty store
 abbrev pub AsBeforeOrNew : Head → Devices → Trio (List ℕ) → Type 0
 AsBeforeOrNew head old files = MayOpenAs (now_of old.files) (opens_as files)
-    ⊎ (opens_as files ≡ LeftStands (state_at head []))
+    ⊎ (opens_as files ≡ LeftStands (stored_at head []))
 
 -- the one change of making a store
 abbrev pub makes : Head → List Change
 makes head = Made head.name head.uid head.limit ∷ []
 
-since_making : (tells : Bool) (head : Head) (old : Devices) (o : Left State)
+since_making : (tells : Bool) (head : Head) (old : Devices) (o : Left Stored)
     → IsTrue tells × ((files : Trio (List ℕ)) × AsBeforeOrNew head old files × (o ≡ opens_as files))
     → (store_seen tells old).crash (store_seen tells old).moment o ⊎ IsAfterSome LeftBlank (makes head) 1 o
 since_making tells head old o c =
@@ -53,7 +51,7 @@ since_making tells head old o c =
 
 -- of the one change none or it stands, and a crash may leave either
 pub made_so_far : (tells : Bool) (head : Head) (old new : Devices) (stood : ℕ) (told : Option Found) → stood ≤ 1
-    → IsNow (after_all LeftBlank (take stood (makes head))) head.limit told
+    → IsNow (after_all LeftBlank (take stood (makes head))) told
     → (IsTrue tells → LeavesAsBeforeOrNew head old new) → old.faults ≤ new.faults
     → Passes Blank (makes head) stood 1 (store_seen tells old) (record (store_seen tells new) { found = told })
 made_so_far tells head old new stood told few now run faults = record {
@@ -71,26 +69,26 @@ made_so_far tells head old new stood told few now run faults = record {
 
 -- no store, or the empty one
 abbrev pub EmptyNow : Head → ℕ → Found → Type 0
-EmptyNow head stood found = (in_short found ≡ after_all LeftBlank (take stood (makes head))) × HasLimit head.limit found
+EmptyNow head stood found = in_short found ≡ after_all LeftBlank (take stood (makes head))
 
 pub blank_or_empty : (head : Head) (f : FoundImages) → IsBlankOrEmpty head f
     → (stood : ℕ) × (stood ≤ 1) × EmptyNow head stood (images_as f)
 blank_or_empty head f b =
     ⊎_elim
-    (λ none. (0, omega arith, subst (λ (g : FoundImages). EmptyNow head 0 (images_as g)) (sym none) (refl, tt)))
+    (λ none. (0, omega arith, subst (λ (g : FoundImages). EmptyNow head 0 (images_as g)) (sym none) refl))
     (λ empty. (
       1,
       omega arith,
       ⊎_elim
-          (λ left. subst (λ (g : FoundImages). EmptyNow head 1 (images_as g)) (sym left) (refl, refl))
-          (λ right. subst (λ (g : FoundImages). EmptyNow head 1 (images_as g)) (sym right) (refl, refl))
+          (λ left. subst (λ (g : FoundImages). EmptyNow head 1 (images_as g)) (sym left) refl)
+          (λ right. subst (λ (g : FoundImages). EmptyNow head 1 (images_as g)) (sym right) refl)
           empty,
     ))
     b
 
 -- what is told of it
 now_told : (tells : Bool) (head : Head) (f : FoundImages) → (IsTrue tells → IsBlankOrEmpty head f)
-    → (stood : ℕ) × (stood ≤ 1) × IsNow (after_all LeftBlank (take stood (makes head))) head.limit
+    → (stood : ℕ) × (stood ≤ 1) × IsNow (after_all LeftBlank (take stood (makes head)))
     (if tells then Some (images_as f) else None)
 now_told true head f h = blank_or_empty head f (h refl)
 now_told false head f h = (0, omega arith, tt)
@@ -188,23 +186,20 @@ pub made_anew : {D : Type 0} (tells : Bool) (known : D → Device) (head : Head)
     → MadeAnew head.name head.uid head.limit (store_seen tells old) (store_seen tells (devices known v))
 made_anew tells known head old v is empty none run later =
     let new = devices known v in
-    let now : IsTrue tells → (in_short (found_in (seen_of new.files)) ≡ LeftStands (state_at head []))
-    × HasLimit head.limit (found_in (seen_of new.files)) =
-    λ t. subst (λ (f : Found). (in_short f ≡ LeftStands (state_at head [])) × HasLimit head.limit f)
-    (sym (stands_as tells known v t (is.keeps t)))
-    (ap LeftStands empty.leaves, journal_limit tells known v t (is.keeps t) ∙ empty.limit)
-    in
+    let stored : LeftStands (stored_in (volume_known tells known v)) ≡ LeftStands (stored_at head []) =
+    rw (empty.leaves, empty.limit) refl in
     record {
       told = told_if tells (found_in (seen_of old.files)) Blank (λ t. blank_in (seen_of old.files) (none t));
       passes = made_so_far tells head old new 1 (store_seen tells new).found (omega arith)
-          (now_if tells (found_in (seen_of new.files)) (LeftStands (state_at head [])) head.limit now) run later;
-      settled = λ o crash. leaves_its_state tells known v o is crash ∙ ap LeftStands empty.leaves;
+          (now_if tells (found_in (seen_of new.files)) (LeftStands (stored_at head []))
+          (λ t. ap in_short (stands_as tells known v is.nothing (is.keeps t)) ∙ stored)) run later;
+      settled = λ o crash. leaves_its_state tells known v o is crash ∙ stored;
     }
 
 -- ---- a store that was not made, by its fault
 
 pub fails_to_make : {D : Type 0} (tells : Bool)
-    (known : D → Device) (head : Head) (before after : Disks D) (root : List ℕ) (why : InitFault)
+    (known : D → Device) (head : Head) (before after : Disks D) (root : List ℕ) (why : MakeFault)
     → (IsTrue tells → root ≡ (disks_known known before).files.root.seen)
     → MakesVolume {D = D} head root (Err (after, why))
     → (IsTrue tells → LeavesAsBeforeOrNew head (disks_known known before) (disks_known known after))
@@ -215,7 +210,7 @@ pub fails_to_make : {D : Type 0} (tells : Bool)
     → (IsErrOf {T = Unit {0}} (Err why) init.Memory → after ≡ before)
     → HasCauseOf {T = Unit {0}} init.Disk (disks_known known before).faults (disks_known known after).faults (Err why)
     → Makes head.name head.uid head.limit (store_seen tells (disks_known known before))
-    (store_seen tells (disks_known known after)) (Err (make_fault why))
+    (store_seen tells (disks_known known after)) (Err why)
 fails_to_make tells known head before after root init.Exists told some run looks left_now untouched cause =
     let is : IsTrue tells → (disks_known known before).files.root.seen ≢ [] = λ t e. some (told t ∙ e) in
     exists tells (disks_known known before) (disks_known known after) is (λ t. looks t (is t)) cause.later

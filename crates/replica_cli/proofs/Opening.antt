@@ -4,6 +4,8 @@ use Rattle.std.specs.Result.{IsErrOf}
 use Rattle.std.proofs.Common.{◌≡◌, ℕ, ◌≤◌, Bool, true, false, List, Some, None, Err, refl, sym, ◌∙◌}
 use Rattle.std.proofs.Common.{subst}
 use Rattle.disk_model.specs.Device.{Device}
+use Rattle.disks.specs.declared.fault.OpenFault.{OpenFault}
+use Rattle.disks.specs.declared.fault.OpenFault.TheVariants as fault
 use Rattle.disks.specs.Disks.{disks_known}
 use Rattle.disks.specs.declared.three.Disks.{Disks}
 use Rattle.disks.specs.declared.trio.Trio.{Trio}
@@ -12,8 +14,6 @@ use Rattle.replica_volume.specs.Opening.{IsFormer, IsLeft, LeavesAsBefore, Opens
 use Rattle.replica_volume.specs.Store.{store_of}
 use Rattle.replica_volume.specs.Store.StoreFound.{Blank as NoStore, Damaged as BrokenStore}
 use Rattle.replica_volume.specs.Volume.{IsOpenVolume, devices, volume_crash, volume_known}
-use Rattle.replica_volume.specs.declared.fault.VolumeFault.{VolumeFault}
-use Rattle.replica_volume.specs.declared.fault.VolumeFault.TheVariants as fault
 use Rattle.replica_volume.specs.declared.replica.Volume.{Volume}
 use Rattle.store_commands.specs.Found.{Blank, Damaged, Stands, standing_in}
 use Rattle.store_commands.specs.Store.{FailsToOpen, Finds, Opens}
@@ -21,7 +21,6 @@ use Rattle.u1_base.specs.Causes.{HasCauseOf}
 use Rattle.volume.specs.Crashes.{OnlyLooks}
 use Rattle.volume.specs.Store.{found_of}
 use Rattle.disks.specs.declared.name.DiskName.{DiskName}
-use Rattle.replica_cli.specs.Faults.{open_fault}
 use Rattle.replica_cli.specs.Store.{found_in, image_seen, store_seen}
 use Rattle.replica_cli.proofs.Files.{blank_as, damaged_as, same_or_moved, stands_as, told_if}
 use Rattle.replica_cli.proofs.Looking.{Stays, finds, finds_some, looked, untouched}
@@ -68,14 +67,14 @@ module _ (tells : Bool) (old new : Devices) (files : Trio (List ℕ)) (told : Is
 
 -- a store that was not opened, by its fault
 pub fails_to_open : {D : Type 0} (tells : Bool)
-    (known : D → Device) (old : Devices) (files : Trio (List ℕ)) (disks : Disks D) (why : VolumeFault)
+    (known : D → Device) (old : Devices) (files : Trio (List ℕ)) (disks : Disks D) (why : OpenFault)
     → (IsTrue tells → files ≡ seen_of old.files) → OpensVolume {D = D} files (Err (disks, why))
     → (IsTrue tells → IsLeft old (disks_known known disks))
     → (IsTrue tells → LeavesAsBefore old (disks_known known disks))
     → (IsTrue tells → (IsFormer (seen_of old.files) → ⊥) → OnlyLooks old (disks_known known disks))
     → (IsTrue tells → IsErrOf {T = Unit {0}} (Err why) fault.Memory → OnlyLooks old (disks_known known disks))
     → HasCauseOf {T = Unit {0}} fault.Disk old.faults (disks_known known disks).faults (Err why)
-    → FailsToOpen (store_seen tells old) (store_seen tells (disks_known known disks)) (open_fault why)
+    → FailsToOpen (store_seen tells old) (store_seen tells (disks_known known disks)) why
 fails_to_open tells known old files disks fault.Blank told e left run looks starved cause =
     finds_blank tells old (disks_known known disks) files told looks cause.later e
 fails_to_open tells known old files disks (fault.Damaged disk place) told e left run looks starved cause =
@@ -102,7 +101,10 @@ opens tells known old v is left run later =
     let as_was : IsTrue tells → Stays old (devices known v) = λ t. stays old (devices known v) (left t) (run t) in
     record {
       told = told_if tells (found_in (seen_of old.files)) found
-          (λ t. sym (as_was t).found ∙ stands_as tells known v t (is.keeps t));
-      keeps = looked tells old (devices known v) found (Some found) None (refl, refl) as_was later;
+          (λ t. sym (as_was t).found ∙ stands_as tells known v is.nothing (is.keeps t));
+      keeps = record {
+        passes = looked tells old (devices known v) found (Some found) None refl as_was later;
+        need = λ xs y. refl;
+      };
       opened = is;
     }

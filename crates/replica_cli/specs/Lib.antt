@@ -1,4 +1,4 @@
 pub mod Store
 pub mod Told
-pub mod Faults
+pub mod Seeds
 pub mod Run

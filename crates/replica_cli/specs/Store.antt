@@ -1,5 +1,5 @@
 -- What is known of a store on three disks.
-use Rattle.std.specs.Prelude.{ℕ, ◌+◌, ◌==◌, Bool, IsTrue, if◌then◌else◌, List, [], ◌∷◌, length, Option, Some, None}
+use Rattle.std.specs.Prelude.{ℕ, ◌+◌, ◌-◌, ◌^◌, ◌==◌, min, Bool, IsTrue, if◌then◌else◌, List, [], ◌∷◌, length, Option, Some, None}
 use Rattle.std.specs.Prelude.{Result, Ok, Err}
 use Rattle.compaction.specs.Images.{bodies_of, uids_after}
 use Rattle.conflicts.specs.State.{Step, Text}
@@ -9,12 +9,10 @@ use Rattle.disks.specs.Joint.{Devices, moment_at, seen_of}
 use Rattle.disks.specs.declared.name.DiskName.{DiskName}
 use Rattle.disks.specs.declared.trio.Trio.{Trio}
 use Rattle.journal.specs.Image.{Head, header_bytes, up_to_gate}
-use Rattle.journal.specs.Journal.{Extent, need}
 use Rattle.journal.specs.declared.layout.TheConstants.{FIRST_FORMAT, SECOND_FORMAT}
-use Rattle.record_codec.specs.Bodies.{body_of}
 use Rattle.replica_volume.specs.Steps.{Chronicle, state_at, steps_of}
 use Rattle.replica_volume.specs.Store.{MayOpenAs}
-use Rattle.replica_volume.specs.Volume.{devices, moments}
+use Rattle.replica_volume.specs.Volume.{devices, length_with, moments}
 use Rattle.replica_volume.specs.declared.replica.Volume.{Volume}
 use Rattle.store_commands.specs.Compacting.{Image}
 use Rattle.store_commands.specs.Found.{Blank, Damaged, Found, Standing, Stands, Store}
@@ -35,15 +33,15 @@ opened_image format head bodies read =
       uids = uids_after (head.uid ∷ []) read.steps;
     } else record { bodies = bodies; uids = read.uids }
 
--- its length up to its last gate, and its limit
-abbrev pub extent_of : Head → List (List ℕ) → Extent
-extent_of head bodies = record { length = length (up_to_gate SECOND_FORMAT head bodies) + 1; limit = head.limit }
+-- its length up to and with its last gate
+abbrev pub length_of : Head → List (List ℕ) → ℕ
+length_of head bodies = length (up_to_gate SECOND_FORMAT head bodies) + 1
 
--- the state of the steps that an image says, with what one step more needs, and the limit of its header
+-- the state of the steps that an image says, with what a step needs behind further ones, and the limit of its header
 abbrev pub standing_in : Head → Opened → List Step → Standing
 standing_in head image steps = record {
   state = state_at head steps;
-  need = λ x. need (extent_of head image.bodies) (length (body_of image.uids x));
+  need = λ xs y. min (length_with (length_of head image.bodies) image.uids xs y) (2 ^ 64 - 1);
   limit = head.limit;
 }
 
@@ -70,7 +68,7 @@ found_in files = images_as (found_of files)
 abbrev pub image_with : ℕ → Head → List (List ℕ) → Result Chronicle ℕ → Option Image
 image_with format head bodies (Ok read) =
     Some (record {
-      length = (extent_of head (opened_image format head bodies read).bodies).length;
+      length = length_of head (opened_image format head bodies read).bodies;
       steps = read.steps;
     })
 image_with format head bodies (Err place) = None

@@ -6,8 +6,10 @@
 //! over what is known of the three disks.
 #![tactic(auto)]
 
+mod seeds;
 mod store;
 mod top;
 
+pub use seeds::needs_seed;
 pub use store::StoreOnDisks;
 pub use top::run;

@@ -2,16 +2,14 @@
 ghost use Rattle.std.specs.Prelude.{◌≡◌, ◌≤◌, IfOk};
 ghost use Rattle.u1_base.specs.declared.limits.TheConstants.{GREATEST_IMAGE_LIMIT};
 ghost use Rattle.u1_base.specs.declared.limits.TheConstants.{LEAST_IMAGE_LIMIT};
-ghost use Rattle.replica_cli.specs.Faults.{compact_fault, make_fault, open_fault};
 
 use disk_model::Disk;
-use disks::Disks;
+use disks::{CompactFault, Disks, MakeFault, OpenFault, Sizes};
 use journal::Header;
-use replica_volume::{CompactFault as VolumeCompactFault, Volume, VolumeFault};
+use replica_volume::Volume;
 use std::alloc::Global;
-use store_commands::{CompactFault, MakeFault, OpenFault, Sizes, Store};
+use store_commands::Store;
 use u1_base::{DbName, Memory, ReplicaUid};
-use volume::InitFault;
 
 /// A store that is not open: its three disks.
 #[derive(Drop)]
@@ -50,7 +48,7 @@ impl<D: Disk> Store for StoreOnDisks<D> {
     fn open(self, alloc: Global) -> Result<Volume<D>, (OpenFault, StoreOnDisks<D>)> {
         match Volume::open_volume(alloc, self.disks) {
             Ok(volume) => Ok(volume),
-            Err((disks, fault)) => Err((open_fault(fault), StoreOnDisks::new(disks))),
+            Err((disks, fault)) => Err((fault, StoreOnDisks::new(disks))),
         }
     }
 
@@ -66,18 +64,12 @@ impl<D: Disk> Store for StoreOnDisks<D> {
         };
         match Volume::init(alloc, self.disks, header) {
             Ok(volume) => (Ok(()), StoreOnDisks::new(volume.into_disks())),
-            Err((disks, fault)) => (Err(make_fault(fault)), StoreOnDisks::new(disks)),
+            Err((disks, fault)) => (Err(fault), StoreOnDisks::new(disks)),
         }
     }
 
     fn compact(opened: &mut Volume<D>) -> Result<Sizes, CompactFault> {
-        match opened.compact() {
-            Ok(sizes) => Ok(Sizes {
-                before: sizes.before,
-                after: sizes.after,
-            }),
-            Err(fault) => Err(compact_fault(fault)),
-        }
+        opened.compact()
     }
 
     fn close(opened: Volume<D>) -> StoreOnDisks<D> {
@@ -97,35 +89,4 @@ fn header_of(name: &DbName, uid: &ReplicaUid, limit: u64) -> Result<Header, Memo
     let name = name.copy()?;
     let uid = uid.copy()?;
     Ok(Header { name, uid, limit })
-}
-
-fn open_fault(fault: VolumeFault) -> OpenFault
-    ensures { result ≡ open_fault fault }
-{
-    match fault {
-        VolumeFault::Blank => OpenFault::Blank,
-        VolumeFault::Damaged { disk, place } => OpenFault::Damaged { disk, place },
-        VolumeFault::Disk => OpenFault::Disk,
-        VolumeFault::Memory => OpenFault::Memory,
-    }
-}
-
-fn compact_fault(fault: VolumeCompactFault) -> CompactFault
-    ensures { result ≡ compact_fault fault }
-{
-    match fault {
-        VolumeCompactFault::Damaged { disk, place } => CompactFault::Damaged { disk, place },
-        VolumeCompactFault::Disk => CompactFault::Disk,
-        VolumeCompactFault::Memory => CompactFault::Memory,
-    }
-}
-
-fn make_fault(fault: InitFault) -> MakeFault
-    ensures { result ≡ make_fault fault }
-{
-    match fault {
-        InitFault::Exists => MakeFault::Exists,
-        InitFault::Disk => MakeFault::Disk,
-        InitFault::Memory => MakeFault::Memory,
-    }
 }

@@ -12,11 +12,12 @@ use Rattle.replica_state.specs.Exprs.{IndexTexts}
 use Rattle.replica_state.specs.Held.{Held, meaning}
 use Rattle.replica_state.specs.Lent.{IsLent}
 use Rattle.replica_state.specs.declared.index.Index.{Index}
-use Rattle.conflicts.specs.State.{State, Text}
-use Rattle.replica_core.specs.Replica.{Found, Known}
-use Rattle.replica_core.specs.Calls.{Decided, Answers, Refuses, IsDone, IsRefusal}
+use Rattle.conflicts.specs.State.{Text}
+use Rattle.replica_core.specs.Replica.{Found, Known, Stored}
+use Rattle.conflicts.specs.Writing.{Answers, Decided, IsRefusal, Refuses, create_over, delete_over, same_exprs}
+use Rattle.replica_core.specs.Calls.{IsDone}
 use Rattle.replica_core.proofs.CallsEnds.{Settled, answered, undone}
-use Rattle.replica_core.specs.CallsDecide.{create_over, delete_index_decides, delete_over, same_exprs}
+use Rattle.replica_core.specs.CallsDecide.{delete_index_decides}
 use Rattle.replica_core.specs.CallsFaults.{index_failed, index_failure}
 use Rattle.replica_core.specs.declared.calls.indexes.IndexFault.{IndexFault}
 use Rattle.replica_core.specs.declared.calls.indexes.IndexFault.TheVariants.{IndexTaken, IndexUnknown}
@@ -31,7 +32,7 @@ index_fails commit.Memory = refl
 -- an index of the name is there
 pub alike_is : (name : Text) (exprs : List Text) (o : Option (List Text)) (b : Bool)
     → Some b ≡ option_map (λ kept. same_exprs kept exprs) o →
-    create_over name exprs o ≡ (if b then Answers tt None else Refuses IndexTaken)
+    create_over IndexTaken name exprs o ≡ (if b then Answers tt None else Refuses IndexTaken)
 alike_is name exprs None b e = absurd (cc (e))
 alike_is name exprs (Some kept) b e = ap (λ (o : Option Bool). chosen o) (sym e)
   where
@@ -39,7 +40,7 @@ alike_is name exprs (Some kept) b e = ap (λ (o : Option Bool). chosen o) (sym e
     chosen None = Refuses IndexTaken
     chosen (Some b) = if b then Answers tt None else Refuses IndexTaken
 
-module _ {R : Type 0} (known : R → Known) (is_open : R → Type 0) (crash : R → ℕ → Found State → Type 0) where
+module _ {R : Type 0} (known : R → Known) (is_open : R → Type 0) (crash : R → ℕ → Found Stored → Type 0) where
   -- and is accepted where it has the same expressions
   pub alike_done : (r : R) (d : Decided (Unit {0}) IndexFault) (b : Bool) (result : Result (Unit {0}) IndexFault)
       → is_open r → Settled known is_open crash r →
@@ -56,7 +57,8 @@ module _ {R : Type 0} (known : R → Known) (is_open : R → Type 0) (crash : R 
 -- none is lent, so there is none, and its deletion is refused
 pub unknown_is : (s : Held) (n : Text) (r : Option (Bor Index)) → IsLent s n (option_copied r) → is_some r ≡ false
     → IsRefusal (delete_index_decides n (meaning s)) IndexUnknown
-unknown_is s n None h e = subst (λ (o : Option (List Text)). IsRefusal (delete_over n o) IndexUnknown) (sym h) refl
+unknown_is s n None h e =
+    subst (λ (o : Option (List Text)). IsRefusal (delete_over IndexUnknown n o) IndexUnknown) (sym h) refl
 unknown_is s n (Some index) h e = absurd (cc (e))
 
 -- there is none

@@ -7,15 +7,14 @@ use Rattle.conflicts.specs.declared.edits.EditFault.TheVariants as edit
 use Rattle.conflicts.specs.declared.resolutions.ResolveFault.{ResolveFault}
 use Rattle.conflicts.specs.declared.resolutions.ResolveFault.TheVariants as resolve
 use Rattle.vector_rev.specs.Clock.{Clock}
-use Rattle.replica_core.specs.Calls.{Decided, Answers, IsRefusal}
-use Rattle.replica_core.specs.CallsDecide.{accept_made, accept_next}
+use Rattle.conflicts.specs.Writing.{Answers, Decided, IsRefusal, accept_made, accept_next}
 use Rattle.replica_core.specs.CallsFaults.{put_failed, put_failure, put_refusal, resolve_failed, resolve_failure}
 use Rattle.replica_core.specs.CallsFaults.{resolve_refusal}
 use Rattle.replica_core.specs.declared.calls.documents.PutFault.{PutFault}
 use Rattle.replica_core.specs.declared.calls.resolutions.ResolveDocFault.{ResolveDocFault}
 use Rattle.replica_core.specs.declared.fault.CommitFault.{CommitFault}
 use Rattle.replica_core.specs.declared.fault.CommitFault.TheVariants as commit
-use Rattle.replica_core.proofs.CallsEnds.{IsUndone}
+use Rattle.replica_core.specs.CallsChecks.{IsUndone}
 
 -- each failure of a commit stays what it is
 pub put_fails : (f : CommitFault) → put_failure (put_failed f) ≡ Some f

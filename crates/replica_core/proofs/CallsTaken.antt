@@ -9,15 +9,14 @@ use Rattle.conflicts.specs.Document.{FitsDocument}
 use Rattle.conflicts.specs.State.{Fits, Moved, State, Step, Text}
 use Rattle.conflicts.specs.declared.accept.Accept.{Accept}
 use Rattle.conflicts.specs.declared.moves.Move.{Move}
-use Rattle.replica_core.specs.Calls.{Decided, IsRefusal, Refuses}
+use Rattle.conflicts.specs.Writing.{Decided, IsRefusal, Refuses, if_goes_on, kept_place, move_step, take_step}
 use Rattle.replica_core.specs.CallsChecks.{ChecksFrom}
-use Rattle.replica_core.specs.CallsDecide.{if_goes_on, kept_place, move_step, take_step}
 use Rattle.replica_core.specs.CallsFaults.{take_failed, take_failure}
 use Rattle.replica_core.specs.declared.calls.receipts.TakeFault.{TakeFault}
 use Rattle.replica_core.specs.declared.calls.receipts.TakeFault.TheVariants.{LogCheck}
 use Rattle.replica_core.specs.declared.fault.CommitFault.{CommitFault}
 use Rattle.replica_core.specs.declared.fault.CommitFault.TheVariants as commit
-use Rattle.replica_core.proofs.CallsEnds.{IsUndone}
+use Rattle.replica_core.specs.CallsChecks.{IsUndone}
 
 pub take_fails : (f : CommitFault) → take_failure (take_failed f) ≡ Some f
 take_fails (commit.Full need limit) = refl
@@ -26,12 +25,12 @@ take_fails commit.Memory = refl
 
 module _ {A : Type 0} (s : State) (m : Move) (d : Decided A TakeFault) where
   -- the check passed
-  pub goes_on_is : passes (kept_place s m) m.at ≡ true → if_goes_on s m d ≡ d
+  pub goes_on_is : passes (kept_place s m) m.at ≡ true → if_goes_on LogCheck s m d ≡ d
   goes_on_is e = ap (λ (b : Bool). if b then d else Refuses (LogCheck (kept_place s m) m.at)) e
 
   -- it did not pass, or memory ran out
   pub check_undone : (fault : TakeFault) → ChecksFrom {A = A} (kept_place s m) m.at (Err fault)
-      → IsUndone take_failure (if_goes_on s m d) fault
+      → IsUndone take_failure (if_goes_on LogCheck s m d) fault
   check_undone fault (inl e) = inl (ap take_failure e)
   check_undone fault (inr h) =
       inr (

@@ -3,7 +3,7 @@ use Rattle.std.proofs.Common.{◌≡◌, [], ◌∷◌, Option, None, Some, Ok, 
 use Rattle.std.specs.Prelude.{option_to_list}
 use Rattle.conflicts.specs.State.{State, Step, after_all}
 use Rattle.replica_core.specs.Replica.{after_step}
-use Rattle.replica_core.specs.Calls.{Decided, Answers, Refuses, IsAnswer, IsRefusal, step_in}
+use Rattle.conflicts.specs.Writing.{Answers, Decided, IsAnswer, IsRefusal, Refuses, step_in}
 use Rattle.replica_core.specs.Commands.Effects.{Line, Refusal, calls}
 
 -- the call answered: the decided step is made, if there is one, and the line of the answer is printed

@@ -4,4 +4,6 @@ pub mod CallsMade
 pub mod CallsTaken
 pub mod CallsIndexes
 pub mod Runs
+pub mod CallsStaged
+pub mod Groups
 mod Worked

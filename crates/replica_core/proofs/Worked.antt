@@ -22,9 +22,9 @@ use Rattle.replica_core.specs.declared.calls.documents.PutFault.TheVariants as p
 use Rattle.replica_core.specs.declared.calls.indexes.IndexFault.TheVariants.{IndexTaken, IndexUnknown}
 use Rattle.conflicts.specs.declared.moves.Move.{Move}
 use Rattle.conflicts.specs.declared.moves.PosTable.TheVariants as table
-use Rattle.replica_core.specs.Calls.{Answers, Refuses}
+use Rattle.conflicts.specs.Writing.{Answers, Refuses}
 use Rattle.replica_core.specs.CallsDecide.{move_decides}
-use Rattle.replica_core.specs.Paired.{Paired}
+use Rattle.conflicts.specs.inner.Paired.{Paired}
 use Rattle.replica_core.specs.Runs.{steps_made, steps_written}
 use Rattle.replica_core.specs.declared.calls.receipts.TakeFault.TheVariants.{LogCheck}
 use Rattle.replica_core.specs.declared.list.Call.{Call}

@@ -1,10 +1,12 @@
--- What the check of a move answers. Only private clauses speak of it.
-use Rattle.std.specs.Prelude.{◌≡◌, ◌⊎◌, true, false, Result, Ok, Err}
+-- What the check of a move answers, and why a call ends before its step is made. Only private clauses speak of these.
+use Rattle.std.specs.Prelude.{◌≡◌, ◌⊎◌, true, false, Option, Some, None, Result, Ok, Err}
 use Rattle.u1_base.specs.Places.{Place}
 use Rattle.translog.specs.Source.{passes}
 use Rattle.conflicts.specs.State.{State}
 use Rattle.conflicts.specs.declared.moves.Move.{Move}
-use Rattle.replica_core.specs.CallsDecide.{kept_place}
+use Rattle.conflicts.specs.Writing.{Decided, IsRefusal, kept_place}
+use Rattle.replica_core.specs.declared.fault.CommitFault.{CommitFault}
+use Rattle.replica_core.specs.declared.fault.CommitFault.TheVariants as commit
 use Rattle.replica_core.specs.declared.calls.receipts.TakeFault.{TakeFault}
 use Rattle.replica_core.specs.declared.calls.receipts.TakeFault.TheVariants.{LogCheck, Memory}
 
@@ -15,3 +17,8 @@ ChecksFrom kept to (Err fault) = (fault ≡ Memory) ⊎ ((passes kept to ≡ fal
 
 abbrev pub Checks : {A : Type 0} → State → Move → Result A TakeFault → Type 0
 Checks s m result = ChecksFrom (kept_place s m) m.at result
+
+-- memory ran out, or it is the decided refusal
+abbrev pub IsUndone : {A F : Type 0} → (F → Option CommitFault) → Decided A F → F → Type 0
+IsUndone failure decided fault =
+    (failure fault ≡ Some commit.Memory) ⊎ ((failure fault ≡ None) × IsRefusal decided fault)

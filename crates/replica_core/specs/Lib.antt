@@ -5,5 +5,6 @@ pub mod CallsFaults
 pub mod CallsDecide
 pub mod CallsChecks
 pub mod Runs
+pub mod Staging
 pub mod Commands
-pub mod Paired
+pub mod inner

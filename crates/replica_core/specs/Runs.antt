@@ -1,6 +1,6 @@
 -- A list of calls: what each decides, what they leave, and what a crash leaves of them. `call_fault` and `bare_end` are
 -- private.
-use Rattle.std.specs.Prelude.{◌≡◌, ℕ, ◌<◌, ◌≤◌, Bool, true, false, codes, if◌then◌else◌, is_ok, List, [], ◌∷◌, ◌++◌}
+use Rattle.std.specs.Prelude.{◌≡◌, ℕ, ◌<◌, ◌≤◌, Bool, true, false, if◌then◌else◌, is_ok, List, [], ◌∷◌, ◌++◌}
 use Rattle.std.specs.Prelude.{option_to_list, Option, Some, None, Result, Ok, Err}
 use Rattle.std.specs.List.{flat_map, list_all}
 use Rattle.u1_base.specs.Causes.{Rose}
@@ -10,11 +10,12 @@ use Rattle.conflicts.specs.Lists.{In}
 use Rattle.conflicts.specs.State.{History, State, Step, Text, accepts_in, after_all, state_of}
 use Rattle.conflicts.specs.declared.accept.Accept.{Accept}
 use Rattle.conflicts.specs.declared.member.Member.{Member}
-use Rattle.replica_core.specs.Replica.{AddsOnly, Found, HasStep, Known, Stands, after_step, state_in}
-use Rattle.replica_core.specs.Calls.{Decided, Answers, Refuses, IsAnswer, IsDone, IsRefusal, may_have_written, step_in}
+use Rattle.replica_core.specs.Replica.{AddsOnly, Found, HasStep, Known, NeedsBehind, Stands, Stored, after_step}
+use Rattle.replica_core.specs.Replica.{state_in, stored_in}
+use Rattle.conflicts.specs.Writing.{Answers, Decided, IsAnswer, IsRefusal, Refuses, step_in}
+use Rattle.replica_core.specs.Calls.{IsDone, may_have_written}
 use Rattle.replica_core.specs.CallsDecide.{create_decides, delete_decides, delete_index_decides, move_decides}
 use Rattle.replica_core.specs.CallsDecide.{put_decides, resolve_decides, take_decides}
-use Rattle.replica_core.specs.CallsFaults.{commit_fault_text}
 use Rattle.replica_core.specs.declared.fault.CommitFault.{CommitFault}
 use Rattle.replica_core.specs.declared.fault.CommitFault.TheVariants as commit
 use Rattle.replica_core.specs.declared.list.Call.{Call}
@@ -25,23 +26,11 @@ use Rattle.replica_core.specs.declared.list.CallFault.TheVariants.{Refused, Full
 
 -- ---- one call of a list
 
--- a fault of a call, without what it says of its refusal
-abbrev pub call_fault : Option CommitFault → CallFault
-call_fault None = Refused
-call_fault (Some (commit.Full need limit)) = Full need limit
-call_fault (Some commit.Disk) = Disk
-call_fault (Some commit.Memory) = Memory
-
 abbrev pub call_failure : CallFault → Option CommitFault
 call_failure Refused = None
 call_failure (Full need limit) = Some (commit.Full need limit)
 call_failure Disk = Some commit.Disk
 call_failure Memory = Some commit.Memory
-
--- an end without what the call answered
-abbrev pub bare_end : {A F : Type 0} → (F → Option CommitFault) → Result A F → Result (Unit {0}) CallFault
-bare_end failure (Ok answer) = Ok tt
-bare_end failure (Err fault) = Err (call_fault (failure fault))
 
 -- the replica is open after it
 abbrev pub stays_open : Result (Unit {0}) CallFault → Bool
@@ -50,12 +39,6 @@ stays_open (Err Refused) = true
 stays_open (Err (Full need limit)) = true
 stays_open (Err Disk) = false
 stays_open (Err Memory) = true
-
-abbrev pub call_fault_text : CallFault → List ℕ
-call_fault_text Refused = codes "the call is refused"
-call_fault_text (Full need limit) = commit_fault_text (commit.Full need limit)
-call_fault_text Disk = commit_fault_text commit.Disk
-call_fault_text Memory = commit_fault_text commit.Memory
 
 -- what is decided, without what is answered
 abbrev pub bare : {A F : Type 0} → Decided A F → Decided (Unit {0}) CallFault
@@ -122,18 +105,19 @@ HaveEnded old new s (c ∷ cs) (Ok done ∷ ends) = IsAnswer (call_decides c s) 
 HaveEnded old new s (c ∷ cs) (Err fault ∷ ends) = EndsBy old new (call_decides c s) fault
     × AndThen fault ends (HaveEnded old new s cs ends)
 
--- what a crash on the way may leave: a state of which P holds with the first of the steps
-pub record AfterFirst (steps : History) (P : History → State → Type 0) (found : Found State) : Type 0 where
-  pub first : History
-  pub others : History
-  pub are : steps ≡ first ++ others
-  pub state : State
-  pub is : found ≡ Stands state
-  pub holds : P first state
+-- what a crash on the way may leave: under this limit, a state of which P holds with the first of the steps
+pub record AfterFirst (limit : ℕ) (steps : History) (P : History → State → Type 0) (found : Found Stored) : Type 0
+  where
+    pub first : History
+    pub others : History
+    pub are : steps ≡ first ++ others
+    pub state : State
+    pub is : found ≡ Stands (record { state = state; limit = limit })
+    pub holds : P first state
 
 -- it is the state after the first of the steps
-abbrev pub StandsAfterFirst : State → History → Found State → Type 0
-StandsAfterFirst s steps found = AfterFirst steps (λ first t. t ≡ after_all s first) found
+abbrev pub StandsAfterFirst : Stored → History → Found Stored → Type 0
+StandsAfterFirst s steps found = AfterFirst s.limit steps (λ first t. t ≡ after_all s.state first) found
 
 -- ---- what a list of calls leaves
 
@@ -142,9 +126,9 @@ abbrev pub IsOpenIf : Bool → Type 0 → Known → Type 0
 IsOpenIf true is_open new = is_open
 IsOpenIf false is_open new = new.opened ≡ false
 
-module _ {R : Type 0} (known : R → Known) (is_open : R → Type 0) (crash : R → ℕ → Found State → Type 0) where
+module _ {R : Type 0} (known : R → Known) (is_open : R → Type 0) (crash : R → ℕ → Found Stored → Type 0) where
   -- the calls were made in turn, each as a call by itself is made, over the replica that the calls before it leave: so
-  -- `Full` has what the step needs there. None is made after a disk failed
+  -- `Full` has what the step needs behind the steps of these calls. None is made after a disk failed
   abbrev pub AreMade : R → R → List Call → Ends → Type 0
   AreMade old new calls [] = new ≡ old
   AreMade old new [] (end ∷ ends) = ⊥
@@ -161,9 +145,12 @@ module _ {R : Type 0} (known : R → Known) (is_open : R → Type 0) (crash : R 
     pub state : state_in (known new) ≡ after_all (state_in (known old)) (steps_made (state_in (known old)) calls ends)
     -- the replica is open, unless a disk failed
     pub left : IsOpenIf (list_all stays_open ends) (is_open new) (known new)
+    -- then each step needs now what it needed behind these steps
+    pub need : list_all stays_open ends ≡ true
+        → NeedsBehind (known old) (known new) (steps_made (state_in (known old)) calls ends)
     -- a crash on the way leaves the state after the first of the steps that were written
     pub any_moment : AddsOnly known crash old new
-        (StandsAfterFirst (state_in (known old)) (steps_written (state_in (known old)) calls ends))
+        (StandsAfterFirst (stored_in (known old)) (steps_written (state_in (known old)) calls ends))
     pub limit : (known new).limit ≡ (known old).limit
     pub later : (known old).faults ≤ (known new).faults
 
@@ -181,10 +168,10 @@ pub record Continues (name : Text) (uid : Uid) (h steps : History) (s : State) :
 
 -- THE MAIN THEOREM for one replica: each history of the old state goes on by the steps that were made to the new state,
 -- and by the first of those that were written to what a crash leaves, at whatever moment it comes
-module _ {R : Type 0} (known : R → Known) (crash : R → ℕ → Found State → Type 0) where
+module _ {R : Type 0} (known : R → Known) (crash : R → ℕ → Found Stored → Type 0) where
   pub record GoesOn (old new : R) (calls : List Call) (ends : Ends) : Type 0 where
     pub now : (name : Text) (uid : Uid) (h : History) → state_in (known old) ≡ state_of name uid h
         → Continues name uid h (steps_made (state_in (known old)) calls ends) (state_in (known new))
     pub any_moment : (name : Text) (uid : Uid) (h : History) → state_in (known old) ≡ state_of name uid h
-        → (k : ℕ) (found : Found State) → (known old).moment ≤ k → k ≤ (known new).moment → crash new k found
-        → AfterFirst (steps_written (state_in (known old)) calls ends) (Continues name uid h) found
+        → (k : ℕ) (found : Found Stored) → (known old).moment ≤ k → k ≤ (known new).moment → crash new k found
+        → AfterFirst (known old).limit (steps_written (state_in (known old)) calls ends) (Continues name uid h) found

@@ -14,11 +14,6 @@ pub enum CommitFault {
 }
 
 impl fmt::Display for CommitFault {
-    ghost use Rattle.std.specs.Prelude.{Some};
-    ghost use Rattle.replica_core.specs.CallsFaults.{commit_fault_text};
-
-    ghost output = { λ fault. Some (commit_fault_text fault) };
-
     fn fmt<W: fmt::Write>(&self, f: &mut fmt::Formatter<W>) -> fmt::Result {
         match self {
             CommitFault::Full { need: _, limit: _ } => f.write_str("the image would be too long"),

@@ -7,8 +7,10 @@ ghost use Rattle.replica_core.specs.Calls.{IsDone};
 ghost use Rattle.replica_core.specs.CallsDecide.{create_decides};
 ghost use Rattle.replica_core.specs.CallsFaults.{index_failure, put_failure, resolve_failure};
 ghost use Rattle.replica_core.specs.CallsFaults.{take_failure};
-ghost use Rattle.replica_core.specs.Runs.{GoesOn, HaveRun, bare, bare_end, call_decides};
-ghost use Rattle.replica_core.specs.Runs.{call_failure, call_fault, stays_open};
+ghost use Rattle.replica_core.specs.Runs.{GoesOn, HaveRun, bare, call_decides};
+ghost use Rattle.replica_core.specs.inner.Runs.{bare_end};
+ghost use Rattle.replica_core.specs.Runs.{call_failure, stays_open};
+ghost use Rattle.replica_core.specs.inner.Runs.{call_fault};
 
 use crate::{
     CommitFault, IndexFault, PutFault, Replica, ResolveDocFault, TakeFault, create_index,
@@ -74,11 +76,6 @@ pub enum CallFault {
 }
 
 impl fmt::Display for CallFault {
-    ghost use Rattle.std.specs.Prelude.{Some};
-    ghost use Rattle.replica_core.specs.Runs.{call_fault_text};
-
-    ghost output = { λ fault. Some (call_fault_text fault) };
-
     fn fmt<W: fmt::Write>(&self, f: &mut fmt::Formatter<W>) -> fmt::Result {
         match self {
             CallFault::Refused => f.write_str("the call is refused"),

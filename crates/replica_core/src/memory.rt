@@ -35,6 +35,8 @@ impl Replica for MemReplica {
 
     ghost is_open = { λ r. always };
 
+    ghost stages = { λ r kept. always };
+
     ghost crash = { λ r k found. never };
 
     fn state(&self) -> &State {
@@ -51,7 +53,23 @@ impl Replica for MemReplica {
         Ok(())
     }
 
+    fn stage(&mut self, step: Step) -> Result<(), CommitFault> {
+        let prepared = self.state.prepare(step)?;
+        self.state.apply(prepared);
+        Ok(())
+    }
+
+    fn flush(&mut self) -> Result<(), CommitFault> {
+        Ok(())
+    }
+
     ghost opened = { λ r ready. refl };
 
     ghost settled = { λ r found ready impossible. absurd impossible };
+
+    ghost none_staged = { λ r ready. tt };
+
+    ghost staged_leaves = { λ r kept found staged impossible. absurd impossible };
+
+    ghost opened_staged = { λ r kept staged. refl };
 }

@@ -7,7 +7,8 @@ use Rattle.conflicts.specs.declared.moves.PosTable.{PosTable}
 use Rattle.conflicts.specs.declared.moves.PosTable.TheVariants.{Known, Told}
 use Rattle.doc_table.specs.Listed.{Listed}
 use Rattle.replica_state.specs.Held.{chosen, named}
-use Rattle.replica_state.specs.Named.{heading, name_of}
+use Rattle.replica_state.specs.Named.{heading}
+use Rattle.replica_state.specs.inner.Named.{name_of}
 use Rattle.replica_state.specs.declared.index.Index.{Index}
 
 -- the pairs of a chosen table are the chosen pairs

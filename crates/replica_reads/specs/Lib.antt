@@ -1,7 +1,6 @@
 -- What a state answers.
 pub mod Documents
 pub mod Changes
-pub mod Positions
 pub mod Faults
 pub mod Patterns
 pub mod Answers

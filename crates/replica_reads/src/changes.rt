@@ -9,7 +9,7 @@ use translog::{Changes, Check};
 use u1_base::{Memory, Position};
 
 /// What changed since a generation.
-#[derive(Debug, Drop)]
+#[derive(Drop)]
 pub struct Changed {
     /// The position after all entries of the log.
     pub at: Position,

@@ -16,11 +16,6 @@ pub enum QueryFault {
 }
 
 impl fmt::Display for QueryFault {
-    ghost use Rattle.std.specs.Prelude.{Some};
-    ghost use Rattle.replica_reads.specs.Faults.{query_fault_text};
-
-    ghost output = { λ fault. Some (query_fault_text fault) };
-
     fn fmt<W: fmt::Write>(&self, f: &mut fmt::Formatter<W>) -> fmt::Result {
         match self {
             QueryFault::WrongWidth => {

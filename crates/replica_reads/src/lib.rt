@@ -11,6 +11,7 @@ mod fault;
 mod indexes;
 mod laws;
 mod positions;
+mod uncounted;
 
 pub use changes::{Changed, check_log, whats_changed};
 pub use documents::{all_docs, doc_conflicts, get_doc};
@@ -18,3 +19,4 @@ pub use fault::QueryFault;
 pub use indexes::{from_index, index_at, index_keys, index_table, range_from_index};
 pub use laws::{law_answers, law_documents, law_index_answers, law_lists};
 pub use positions::{kept_at, position_of};
+pub use uncounted::{list_index_keys, query_index, query_index_range};

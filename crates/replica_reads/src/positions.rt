@@ -1,7 +1,7 @@
 //! The positions that are kept of peers.
 ghost use Rattle.std.specs.Prelude.{◌≡◌, IfOk, option_map, slice_get};
 ghost use Rattle.replica_state.specs.Held.{chosen, lists_of, meaning};
-ghost use Rattle.replica_reads.specs.Positions.{position_kept};
+ghost use Rattle.conflicts.specs.State.{position_kept};
 
 use replica_state::{PosTable, State};
 use u1_base::{Memory, Position, ReplicaUid};

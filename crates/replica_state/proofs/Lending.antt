@@ -8,7 +8,8 @@ use Rattle.u1_base.specs.Ids.{id_cmp, same_id}
 use Rattle.replica_state.specs.Held.{Heading, Held, named}
 use Rattle.replica_state.specs.Keyed.{AreTables, Docs, IsTable}
 use Rattle.replica_state.specs.Lent.{IsLent}
-use Rattle.replica_state.specs.Named.{first_named, heading}
+use Rattle.replica_state.specs.Named.{heading}
+use Rattle.replica_state.specs.inner.Named.{first_named}
 use Rattle.replica_state.specs.declared.index.Index.{Index}
 
 -- what the first index of a name is, by what holds of all

@@ -13,7 +13,8 @@ use Rattle.index_tables.specs.Order.{Entry}
 use Rattle.u1_base.specs.Ids.{id_cmp}
 use Rattle.replica_state.specs.Held.{Heading, Names, named}
 use Rattle.replica_state.specs.Keyed.{AreTables, Docs, keyed}
-use Rattle.replica_state.specs.Named.{AreNamed, bare, heading, names_of}
+use Rattle.replica_state.specs.Named.{AreNamed, heading}
+use Rattle.replica_state.specs.inner.Named.{bare, names_of}
 use Rattle.replica_state.specs.declared.index.Index.{Index}
 
 module _ {X Y : Type 0} (f : X → Y) (P : Y → Type 0) where

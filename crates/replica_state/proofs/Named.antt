@@ -12,8 +12,9 @@ use Rattle.doc_table.specs.Listed.{without}
 use Rattle.u1_base.specs.Ids.{id_cmp, same_id}
 use Rattle.u1_base.proofs.SameIds.{equal_is, id_tied}
 use Rattle.replica_state.specs.Held.{Names}
-use Rattle.replica_state.specs.Named.{AreNamed, is_before, is_named, name_of, names_of, other_indexes, place_in}
-use Rattle.replica_state.specs.Named.{put_index}
+use Rattle.replica_state.specs.Named.{AreNamed}
+use Rattle.replica_state.specs.inner.Named.{is_before, is_named, name_of, names_of, other_indexes, place_in}
+use Rattle.replica_state.specs.inner.Named.{put_index}
 use Rattle.replica_state.specs.Prepared.{names_with}
 use Rattle.replica_state.specs.declared.index.Index.{Index}
 use Rattle.replica_state.specs.declared.prepared.Replacement.{Replacement}

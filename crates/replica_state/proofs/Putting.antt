@@ -8,9 +8,9 @@ use Rattle.conflicts.specs.Document.{document_after}
 use Rattle.conflicts.specs.Kept.{Kept, document}
 use Rattle.conflicts.specs.State.{Text}
 use Rattle.conflicts.specs.declared.accept.Accept.{Accept}
-use Rattle.replica_state.specs.Accepted.{HaveAccepted, IsDocumentAfter, IsSetPut}
+use Rattle.replica_state.specs.inner.Accepted.{HaveAccepted, IsDocumentAfter, IsSetPut}
 use Rattle.replica_state.specs.Keyed.{Docs}
-use Rattle.replica_state.specs.Sets.{IsSetAfter}
+use Rattle.replica_state.specs.inner.Sets.{IsSetAfter}
 use Rattle.replica_state.specs.declared.prepared.Replacement.{Replacement}
 use Rattle.replica_state.specs.declared.prepared.Replacement.TheVariants.{Nothing, Document as NewSet, NewIndex}
 use Rattle.replica_state.specs.declared.prepared.Replacement.TheVariants.{NoIndex}

@@ -14,7 +14,7 @@ use Rattle.doc_table.specs.Listed.{without}
 use Rattle.replica_state.specs.Exprs.{IndexTexts}
 use Rattle.replica_state.specs.Held.{Heading, Held, Names, meaning, named}
 use Rattle.replica_state.specs.Indexes.{HasNoIndex, with_indexes}
-use Rattle.replica_state.specs.Named.{name_of, names_of, put_index}
+use Rattle.replica_state.specs.inner.Named.{name_of, names_of, put_index}
 use Rattle.replica_state.specs.declared.index.Index.{Index}
 use Rattle.replica_state.proofs.Named.{names_put}
 use Rattle.replica_state.proofs.Steps.{drop_name, put_name}

@@ -18,7 +18,7 @@ use Rattle.conflicts.specs.declared.moves.Move.{Move}
 use Rattle.conflicts.specs.declared.moves.PosTable.{PosTable}
 use Rattle.conflicts.specs.declared.moves.PosTable.TheVariants.{Known, Told}
 use Rattle.doc_table.specs.Listed.{without}
-use Rattle.replica_state.specs.Accepted.{IsDocumentAfter, IsIndexAfter}
+use Rattle.replica_state.specs.inner.Accepted.{IsDocumentAfter, IsIndexAfter}
 use Rattle.replica_state.specs.Held.{Lists, Names, chosen, meaning_of}
 use Rattle.replica_state.specs.Prepared.{docs_with, entries_with, lists_with, names_with, places_with}
 use Rattle.replica_state.specs.declared.prepared.Parts.{Parts}

@@ -1,8 +1,8 @@
 -- The expressions of an index, as contracts see them.
 use Rattle.std.specs.Prelude.{◌≡◌, ℕ, ◌≤◌, Bool, true, false, List, [], ◌∷◌, length, map, Option, Some, None, refl}
 use Rattle.std.proofs.Common.{◌∙◌, ap}
-use Rattle.std.proofs.lemmas.Bool.{and_from, and_parts}
-use Rattle.std.proofs.lemmas.List.Elements.{All-nil, All-cons, All-head, All-tail}
+use Rattle.std.proofs.lemmas.Bool.{and_parts}
+use Rattle.std.proofs.lemmas.List.Elements.{All-nil, All-cons}
 use Rattle.std.specs.Coded.{Coded, coded_ℕ, coded_list}
 use Rattle.std.specs.List.{All, list_all}
 use base.Stored.{coded_via}
@@ -38,13 +38,6 @@ all_read [] h = All-nil IsExpr
 all_read (f ∷ fs) h =
     let both = and_parts (is_read f) (list_all is_read fs) h in
     All-cons IsExpr f fs (found f (expr_in (canonical f)) refl both.0) (all_read fs both.1)
-
-pub read_all : (fs : List Form) → All IsExpr fs → list_all is_read fs ≡ true
-read_all [] all = refl
-read_all (f ∷ fs) all =
-    and_from (is_read f) (list_all is_read fs)
-    (ap (is_read_as f) (All-head IsExpr f fs all) ∙ (same_tells f f (is_same f f) refl).1 refl)
-    (read_all fs (All-tail IsExpr f fs all))
 
 -- the texts of some expressions
 abbrev pub texts_of : (forms : List Form) → list_all is_read forms ≡ true → 1 ≤ length forms

@@ -4,9 +4,8 @@ pub mod Held
 pub mod Steps
 pub mod Prepared
 pub mod Lent
-pub mod Sets
 pub mod Named
-pub mod Accepted
 pub mod Indexes
 pub mod Replayed
 pub mod Waiting
+pub mod inner

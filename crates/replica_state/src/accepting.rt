@@ -4,8 +4,8 @@ ghost use Rattle.std.specs.List.{list_any};
 ghost use Rattle.vector_rev.specs.Clock.{dominates};
 ghost use Rattle.conflicts.specs.Document.{FitsDocument, document_after};
 ghost use Rattle.conflicts.specs.Kept.{document};
-ghost use Rattle.replica_state.specs.Accepted.{HaveAccepted};
-ghost use Rattle.replica_state.specs.Sets.{IsSetAfter};
+ghost use Rattle.replica_state.specs.inner.Accepted.{HaveAccepted};
+ghost use Rattle.replica_state.specs.inner.Sets.{IsSetAfter};
 
 use conflicts::{Accept, DocSet};
 use doc_table::Table;

@@ -4,7 +4,7 @@ ghost use Rattle.std.specs.List.{All};
 ghost use Rattle.std.specs.FinMap.Entries.{find, put};
 ghost use Rattle.u1_base.specs.Ids.{id_cmp};
 ghost use Rattle.replica_state.specs.Keyed.{AreTables, IsTable};
-ghost use Rattle.replica_state.specs.Named.{HasRoom, bare, name_of};
+ghost use Rattle.replica_state.specs.inner.Named.{HasRoom, bare, name_of};
 ghost use Rattle.replica_state.specs.Prepared.{key_change};
 
 use crate::index::Index;

@@ -76,7 +76,8 @@ impl Collection {
 
 impl Collection {
     ghost use Rattle.std.specs.Prelude.{◌≡◌, [], IfOk, OnOk};
-    ghost use Rattle.replica_state.specs.Accepted.{HaveAccepted, IsDocumentAfter, IsIndexAfter};
+    ghost use Rattle.replica_state.specs.inner.Accepted.{HaveAccepted, IsDocumentAfter};
+    ghost use Rattle.replica_state.specs.inner.Accepted.{IsIndexAfter};
     ghost use Rattle.replica_state.specs.Held.{named};
     ghost use Rattle.replica_state.specs.Prepared.{Takes, docs_with, names_with};
 

@@ -9,7 +9,7 @@ use expr_parser::{Expr, Exprs};
 use std::marker::Model;
 
 /// One to eight expressions, each of which some text reads as, seen as their canonical texts.
-#[derive(Debug, Drop)]
+#[derive(Drop)]
 pub struct IndexExprs {
     exprs: Exprs,
     ghost read: { IsTrue (list_all is_read (map form_of exprs)) },

@@ -2,8 +2,8 @@
 ghost use Rattle.std.specs.Prelude.{◌≡◌, ◌<◌, ◌≤◌, length, slice_get, slice_set, option_copied};
 ghost use Rattle.std.specs.Prelude.{vec_capacity, vec_len};
 ghost use Rattle.std.specs.List.{insert};
-ghost use Rattle.replica_state.specs.Named.{first_named, is_named, other_indexes, place_in};
-ghost use Rattle.replica_state.specs.Named.{put_index};
+ghost use Rattle.replica_state.specs.inner.Named.{first_named, is_named, other_indexes, place_in};
+ghost use Rattle.replica_state.specs.inner.Named.{put_index};
 
 use crate::index::Index;
 use u1_base::IndexName;

@@ -4,9 +4,10 @@ ghost use Rattle.std.specs.Prelude.{option_copied};
 ghost use Rattle.std.specs.List.{All};
 ghost use Rattle.std.specs.FinMap.Entries.{find, put};
 ghost use Rattle.u1_base.specs.Ids.{id_cmp};
-ghost use Rattle.replica_state.specs.Accepted.{IsDocumentAfter, IsIndexAfter, IsSetPut};
+ghost use Rattle.replica_state.specs.inner.Accepted.{IsDocumentAfter, IsIndexAfter, IsSetPut};
 ghost use Rattle.replica_state.specs.Keyed.{AreTables, IsTable};
-ghost use Rattle.replica_state.specs.Named.{HasRoom, bare, heading, names_of};
+ghost use Rattle.replica_state.specs.Named.{heading};
+ghost use Rattle.replica_state.specs.inner.Named.{HasRoom, bare, names_of};
 ghost use Rattle.replica_state.specs.Prepared.{Takes, docs_with, key_change, names_with};
 
 use crate::accepting::set_after;

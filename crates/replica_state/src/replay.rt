@@ -6,7 +6,7 @@ ghost use Rattle.u1_base.specs.Ids.{id_cmp};
 ghost use Rattle.conflicts.specs.State.{Accepted, Text, after, indexes_in, state_of};
 ghost use Rattle.replica_state.specs.Held.{meaning};
 ghost use Rattle.replica_state.specs.Indexes.{HasNoIndex, with_indexes};
-ghost use Rattle.replica_state.specs.Named.{names_of};
+ghost use Rattle.replica_state.specs.inner.Named.{names_of};
 ghost use Rattle.replica_state.specs.Steps.{step_of};
 
 use crate::exprs::IndexExprs;

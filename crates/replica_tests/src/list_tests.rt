@@ -1,10 +1,13 @@
 //! A list of calls on a replica in memory.
 ghost use Rattle.std.specs.Prelude.{◌<◌};
 
-use conflicts::{Member, Move, PosTable};
+use conflicts::{Member, Move, PosTable, Taken};
 use content::Content;
 use expr_parser::{Expr, Exprs};
-use replica_core::{Call, CallFault, Ends, MemReplica, Replica, get_doc, run_all, whats_changed};
+use replica_core::{
+    Call, CallFault, Ends, MemReplica, Replica, TakeFault, get_doc, position_of, run_all,
+    stage_if_newer, stage_position, whats_changed,
+};
 use replica_state::{IndexExprs, State};
 use std::alloc::Global;
 use u1_base::{DbName, DocId, IndexName, Position, ReplicaUid, TransId};
@@ -179,7 +182,79 @@ fn is_run(alloc: Global) -> Option<bool> {
     have_run(alloc, &mut replica)
 }
 
+// ---- receipts and moves that are staged
+
+fn stage(
+    alloc: Global,
+    replica: &mut MemReplica,
+    incoming: &Member,
+    id: &DocId,
+    moved: &Move,
+) -> Result<Taken, TakeFault> {
+    stage_if_newer(alloc, replica, SEED, id, incoming, false, moved)
+}
+
+// The revision of `d1`, with a move of `b`: whether it was accepted. None where the call failed.
+fn stage_rev(alloc: Global, replica: &mut MemReplica, of: &str, generation: u64) -> Option<bool>
+    requires some { 0 < generation }
+    requires most { generation < 10 }
+{
+    let id = doc(alloc)?;
+    let moved = to(alloc, generation)?;
+    let rev = rev(alloc, of)?;
+    let incoming = Member { rev, content: None };
+    is_accepted(stage(alloc, replica, &incoming, &id, &moved))
+}
+
+fn is_accepted(answer: Result<Taken, TakeFault>) -> Option<bool> {
+    match answer {
+        Ok(taken) => Some(taken.accepted.is_some()),
+        Err(TakeFault::LogCheck { mine: _, theirs: _ }) => Some(false),
+        Err(_) => None,
+    }
+}
+
+fn stage_move(replica: &mut MemReplica, moved: &Move) -> bool {
+    stage_position(replica, moved).is_ok()
+}
+
+fn is_flushed(replica: &mut MemReplica) -> bool {
+    replica.flush().is_ok()
+}
+
+// Each call is decided over what was staged before it, and a refusal keeps that.
+fn are_staged(alloc: Global, replica: &mut MemReplica) -> Option<bool> {
+    let first = stage_rev(alloc, replica, "b:1", 1)?;
+    let second = stage_rev(alloc, replica, "b:2", 2)?;
+    let back = stage_rev(alloc, replica, "b:3", 1)?;
+    let older = stage_rev(alloc, replica, "b:1", 2)?;
+    let on = stage_move(replica, &to(alloc, 3)?);
+    let off = stage_move(replica, &to(alloc, 2)?);
+    Some(first && second && !back && !older && on && !off)
+}
+
+// What was staged stands after the flush, and a second flush has nothing to do.
+fn is_kept(alloc: Global, state: &State) -> Option<bool> {
+    let id = doc(alloc)?;
+    let text = get_doc(state, &id, true)?.rev.text().ok()?;
+    let log = whats_changed(state, 0).ok()?.at.generation;
+    let of_peer = position_of(state, PosTable::Known, &ReplicaUid::read(alloc, "b").ok()?).ok()?;
+    Some(text.as_str() == "b:2" && log == 2 && of_peer.generation == 3)
+}
+
+fn is_staged(alloc: Global) -> Option<bool> {
+    let mut replica = new_replica(alloc)?;
+    let staged = are_staged(alloc, &mut replica)?;
+    let flushed = is_flushed(&mut replica) && is_flushed(&mut replica);
+    Some(staged && flushed && is_kept(alloc, replica.state())?)
+}
+
 #[test]
 fn a_list_of_calls(rt: HostRuntime) {
     assert!(rt; is_run(rt.alloc()) == Some(true));
+}
+
+#[test]
+fn staged_receipts(rt: HostRuntime) {
+    assert!(rt; is_staged(rt.alloc()) == Some(true));
 }

@@ -1,16 +1,12 @@
 //! Queries over 5,000 documents, against a scan of all of them.
-ghost use Rattle.std.specs.Prelude.{◌≡◌, ◌<◌};
-
 use content::Content;
 use expr_parser::{Expr, Exprs};
 use query_range::Pattern;
-use replica_core::{MemReplica, Replica, create_index, from_index, index_table, put_doc};
+use replica_core::{MemReplica, Replica, create_index, index_table, put_doc, query_index};
 use replica_state::{Index, IndexExprs};
 use std::alloc::Global;
 use std::fmt::Write;
-use std::marker::Brand;
-use std::sync::ledger::{Blank, Ledger};
-use u1_base::{DbName, DocId, Ids, IndexName, Key, Memory, ReplicaUid, Steps, Text, Texts};
+use u1_base::{DbName, DocId, Ids, IndexName, Key, Memory, ReplicaUid, Text, Texts};
 
 const DOCS: u64 = 5_000;
 
@@ -113,18 +109,8 @@ fn two_texts(alloc: Global, one: &str, other: &str) -> Result<Texts, Memory> {
     Ok(texts)
 }
 
-fn matching<L: Ledger>(alloc: Global, index: &Index, values: &Texts, blank: Blank) -> Option<Ids>
-    requires name { blank.name ≡ L.name }
-    requires parts { blank.parts ≡ L.parts }
-    requires some { 0 < L.parts }
-{
-    let mut steps = Steps::<L>::new(blank);
-    from_index(alloc, index, values.as_slice(), &mut steps).ok()
-}
-
-// Who counts nothing hands the query a new counter.
 fn found(alloc: Global, index: &Index, values: &Texts) -> Option<Ids> {
-    matching::<Brand>(alloc, index, values, Blank::new(1))
+    query_index(alloc, index, values.as_slice()).ok()
 }
 
 fn key_of(alloc: Global, key: u64) -> Option<Key> {

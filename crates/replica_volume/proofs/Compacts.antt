@@ -1,5 +1,5 @@
 -- The image of a volume is written anew with what a compaction leaves.
-use Rattle.std.specs.Prelude.{IsTrue, if◌then◌else◌, map, min}
+use Rattle.std.specs.Prelude.{map, min}
 use Rattle.std.specs.List.{flat_map}
 use Rattle.std.proofs.Common.{◌≡◌, ◌≢◌, ⊎_elim, inl, inr, ℕ, ◌+◌, ◌-◌, ◌^◌, ◌≤◌, Bool, List, [], ◌∷◌, ◌++◌, length}
 use Rattle.std.proofs.Common.{Result, Ok, Err}
@@ -34,25 +34,29 @@ use Rattle.replica_state.specs.Steps.{step_of}
 use Rattle.replica_state.specs.declared.step.Step.{Step as Held}
 use Rattle.volume.specs.Crashes.{OnlyLooks}
 use Rattle.volume.specs.Opening.{OpensStore}
-use Rattle.volume.specs.declared.opening.StoreFault.{StoreFault}
-use Rattle.volume.specs.declared.opening.StoreFault.TheVariants as store
+use Rattle.disks.specs.declared.fault.OpenFault.{OpenFault}
+use Rattle.disks.specs.declared.fault.OpenFault.TheVariants as store
 use Rattle.volume.specs.Store.{IsStore, found_of}
 use Rattle.volume.specs.Store.FoundImages.{Stands as StandingImage}
 use Rattle.volume.proofs.Opens.{still_stands}
 use Rattle.volume.proofs.Standing.{store_stands}
-use Rattle.replica_volume.specs.Compacting.{AreKept, AreKeptSoFar, AreThose, Compacts, HoldOldOrCompacted, IsCompacted}
-use Rattle.replica_volume.specs.Compacting.{IsLeftAlone, IsOneKept, IsWrittenAnew, KeepsAll, KeepsOne, KeepsSteps}
-use Rattle.replica_volume.specs.Compacting.{LeavesOldOrCompacted, LeavesState}
-use Rattle.replica_volume.specs.Compacting.{WritesAnew, other_side, sizes_of}
-use Rattle.replica_volume.specs.Faults.{fault_compacting, fault_reading}
-use Rattle.replica_volume.specs.Placing.{IsSpelled, LeavesOldOrSpelled, StandsWith}
-use Rattle.replica_volume.specs.Replaying.{DecodesAt, IsBadAt}
+use Rattle.replica_volume.specs.Compacting.{Compacts, HoldOldOrCompacted, IsCompacted}
+use Rattle.replica_volume.specs.inner.Compacting.{AreKept, AreKeptSoFar, AreThose}
+use Rattle.replica_volume.specs.inner.Compacting.{IsLeftAlone, IsOneKept, IsWrittenAnew, KeepsAll, KeepsOne, KeepsSteps}
+use Rattle.replica_volume.specs.Compacting.{LeavesOldOrCompacted, LeavesStored}
+use Rattle.replica_volume.specs.Compacting.{other_side, sizes_of}
+use Rattle.replica_volume.specs.inner.Compacting.{WritesAnew}
+use Rattle.disks.specs.Faults.{fault_reading}
+use Rattle.replica_volume.specs.Faults.{fault_compacting}
+use Rattle.replica_volume.specs.inner.Placing.{IsSpelled, LeavesOldOrSpelled, StandsWith}
+use Rattle.replica_volume.specs.inner.Replaying.{DecodesAt, IsBadAt}
+use Rattle.replica_volume.specs.Settled.{stored_is}
 use Rattle.replica_volume.specs.Steps.{Chronicle, body_in, state_at, steps_of}
 use Rattle.replica_volume.specs.Store.{holds_steps, opened_as, opens_as, store_of, with_steps}
 use Rattle.replica_volume.specs.Store.StoreFound.{Holds}
-use Rattle.replica_volume.specs.Volume.{KeepsHistory, devices, limit_in, volume_known}
-use Rattle.replica_volume.specs.declared.compact_fault.CompactFault.TheVariants as anew
-use Rattle.replica_volume.specs.declared.compact_fault.Sizes.{Sizes}
+use Rattle.replica_volume.specs.Volume.{KeepsHistory, devices, length_with, volume_known}
+use Rattle.disks.specs.declared.fault.CompactFault.TheVariants as anew
+use Rattle.disks.specs.declared.fault.Sizes.{Sizes}
 use Rattle.replica_volume.specs.declared.compacting.KeptSteps.{KeptSteps}
 use Rattle.replica_volume.specs.declared.placing.PlaceFault.{PlaceFault}
 use Rattle.replica_volume.specs.declared.placing.PlaceFault.TheVariants as place
@@ -181,12 +185,17 @@ image_push head h x =
 same_less : (a b c d : ℕ) → b ≡ d → a ≡ c → c ≤ d → a ≤ b
 same_less a b c d p q h = omega arith
 
-pub needs : (head : Head) (g : History) (x : Step) (size : ℕ) (uids : List Text) → size ≡ length (image_of head g)
+-- the image of further steps
+pub lengths : (head : Head) (g xs : History) (x : Step) (size : ℕ) (uids : List Text) → size ≡ length (image_of head g)
     → uids ≡ uids_after (head.uid ∷ []) g
-    → min (size + 5 + length (body_of uids x)) (2 ^ 64 - 1) ≡ min (length (image_of head (g ++ x ∷ []))) (2 ^ 64 - 1)
-needs head g x size uids is names =
-    ap (λ (n : ℕ). min n (2 ^ 64 - 1))
-    ((λ i. is i + 5 + length (body_of (names i) x)) ∙ sym (image_push head g x))
+    → length_with size uids xs x ≡ length (image_of head (g ++ (xs ++ x ∷ [])))
+lengths head g [] x size uids is names =
+    (λ i. is i + 5 + length (body_of (names i) x)) ∙ sym (image_push head g x)
+lengths head g (y ∷ xs) x size uids is names =
+    lengths head (g ++ y ∷ []) xs x (size + 5 + length (body_of uids y)) (uids ++ added_of uids y)
+    ((λ i. is i + 5 + length (body_of (names i) y)) ∙ sym (image_push head g y))
+    ((λ i. names i ++ added_of (names i) y) ∙ sym (uids_after-push (head.uid ∷ []) g y))
+    ∙ ap (λ (h : History). length (image_of head h)) (append_assoc g (y ∷ []) (xs ++ x ∷ []))
 
 -- ---- the volume
 
@@ -269,14 +278,17 @@ module _ {D : Type 0} (known : D → Device) (v : Volume D) (k : KeepsHistory v 
 
   -- both histories leave the state
   pub state_left : (new : Devices) → LeavesOldOrCompacted (devices known v) new
-      → LeavesState (meaning v.state) (devices known v) new
+      → LeavesStored (record { state = meaning v.state; limit = v.journal.limit }) (devices known v) new
   state_left new run =
       weaker (devices known v) new (HoldOldOrCompacted v.side k.head k.history)
-      (λ files. opens_as files ≡ Stands (meaning v.state))
+      (λ files. opens_as files ≡ Stands (record { state = meaning v.state; limit = v.journal.limit }))
       (run v.side k.head k.history (holds_before (seen_of (devices known v).files) found_before))
       (λ files found. ⊎_elim
-      (λ e. ap opened_as e ∙ ap Stands (sym k.leaves))
-      (λ e. ap opened_as e ∙ ap Stands (state_of-compaction k.head.name k.head.uid k.history ∙ sym k.leaves))
+      (λ e. ap opened_as e ∙ ap Stands (stored_is (state_at k.head k.history) (meaning v.state) k.head.limit
+      v.journal.limit k.leaves k.stands.image.extent.limit))
+      (λ e. ap opened_as e ∙ ap Stands (stored_is (state_at k.head (compaction k.history)) (meaning v.state)
+      k.head.limit v.journal.limit (k.leaves ∙ sym (state_of-compaction k.head.name k.head.uid k.history))
+      k.stands.image.extent.limit))
       found)
 
   -- ---- the image that was read is its own
@@ -373,7 +385,7 @@ module _ {D : Type 0} (known : D → Device) (v : Volume D) (k : KeepsHistory v 
       -- ---- the new image stands
 
       module _ (new : Volume D) (s : Standing) (state : new.state ≡ v.state) (at : new.side ≡ s.side)
-          (uids : new.uids ≡ s.uids) (journal : new.journal ≡ s.journal)
+          (uids : new.uids ≡ s.uids) (journal : new.journal ≡ s.journal) (nothing : new.staged ≡ [])
           (stands : StandsWith head (compacted (meaning v.state) (map step_of kept)) s (devices known new).files) where
         stands_own : StandsWith k.head (compaction k.history) s (devices known new).files
         stands_own =
@@ -395,7 +407,7 @@ module _ {D : Type 0} (known : D → Device) (v : Volume D) (k : KeepsHistory v 
           leaves = ap meaning state ∙ k.leaves ∙ sym (state_of-compaction k.head.name k.head.uid k.history);
         }
 
-        module _ (tells : Bool) (t : IsTrue tells) (side_is : s.side ≡ to) (uids_are : s.uids ≡ spelled.uids)
+        module _ (tells : Bool) (side_is : s.side ≡ to) (uids_are : s.uids ≡ spelled.uids)
             (length_is : s.journal.length ≡ length (image_of head (compacted (meaning v.state) (map step_of kept))))
           where
             found_after : found_of (seen_of (devices known new).files)
@@ -420,11 +432,10 @@ module _ {D : Type 0} (known : D → Device) (v : Volume D) (k : KeepsHistory v 
                   ∙ ap (λ (d : DiskName). Holds d 2 k.head (compaction k.history)) (side_is ∙ at_other);
               before = length_before;
               after = length_after;
-              limit = ap (λ (b : Bool). if b then limit_in (found_of (seen_of (devices known new).files))
-                  else new.journal.limit) t
-                  ∙ ap limit_in found_after;
-              need = λ x. needs k.head (compaction k.history) x new.journal.length new.uids.uids length_after
-                  uids_after_it;
+              limit = ap (λ (j : Extent). j.limit) journal ∙ stands_own.stands.image.extent.limit;
+              need = λ xs x. ap (λ (n : ℕ). min n (2 ^ 64 - 1))
+                  (lengths k.head (compaction k.history) xs x (new.journal.length + length new.staged) new.uids.uids
+                  (omega (arith, length_after, ap length nothing)) uids_after_it);
             }
 
             compacts_own : Compacts tells known v new (sizes_of v new)
@@ -455,7 +466,7 @@ module _ {D : Type 0} (known : D → Device) (v : Volume D) (k : KeepsHistory v 
   -- ---- why no image was put
 
   -- the files that were found before are neither blank nor damaged
-  pub not_read : (tells : Bool) (new : Volume D) (files : Trio (List ℕ)) (why : StoreFault)
+  pub not_read : (tells : Bool) (new : Volume D) (files : Trio (List ℕ)) (why : OpenFault)
       → files ≡ seen_of (devices known v).files
       → OpensStore files (Err why) → OnlyLooks (devices known v) (devices known new)
       → KeepsHistory new (devices known new).files → WritesAnew tells known v new (Err (fault_reading why))

@@ -14,7 +14,7 @@ use Rattle.volume.specs.Crashes.{IsBlankOrEmpty, IsEmptyStore, LeavesOldOrEmpty,
 use Rattle.volume.proofs.Finding.{found_blank}
 use Rattle.replica_volume.specs.Making.{LeavesAsBeforeOrNew}
 use Rattle.replica_volume.specs.Steps.{state_at}
-use Rattle.replica_volume.specs.Store.{MayOpenAs, opened_as, opens_as, with_steps}
+use Rattle.replica_volume.specs.Store.{MayOpenAs, opened_as, opens_as, stored_at, with_steps}
 use Rattle.replica_volume.specs.Volume.{IsOpenVolume, devices}
 use Rattle.replica_volume.specs.declared.replica.Volume.{Volume}
 
@@ -25,7 +25,7 @@ opens_found files found e = ap (λ (f : FoundImages). opened_as (with_steps f)) 
 
 -- the empty store has the state of no steps, on either side
 empty_opens : (head : Head) (files : Trio (List ℕ)) → IsEmptyStore head (found_of files)
-    → opens_as files ≡ Stands (state_at head [])
+    → opens_as files ≡ Stands (stored_at head [])
 empty_opens head files empty = ⊎_elim (λ e. ap (λ (f : FoundImages). opened_as (with_steps f)) e)
     (λ e. ap (λ (f : FoundImages). opened_as (with_steps f)) e) empty
 
@@ -33,7 +33,7 @@ pub as_before_or_new : (head : Head) (old new : Devices) → LeavesOldOrEmpty he
     → LeavesAsBeforeOrNew head old new
 as_before_or_new head old new run =
     weaker old new (λ files. MayFind (now_of old.files) (found_of files) ⊎ IsEmptyStore head (found_of files))
-    (λ files. MayOpenAs (now_of old.files) (opens_as files) ⊎ (opens_as files ≡ Stands (state_at head []))) run
+    (λ files. MayOpenAs (now_of old.files) (opens_as files) ⊎ (opens_as files ≡ Stands (stored_at head []))) run
     (λ files found. ⊎_elim
     (λ may. inl (may.0, may.1, ap (λ (f : FoundImages). opened_as (with_steps f)) may.2))
     (λ empty. inr (empty_opens head files empty))
@@ -41,15 +41,16 @@ as_before_or_new head old new run =
 
 pub nothing_made : (head : Head) (old : Devices) → LeavesAsBeforeOrNew head old old
 nothing_made head old =
-    begins old (λ files. MayOpenAs (now_of old.files) (opens_as files) ⊎ (opens_as files ≡ Stands (state_at head [])))
+    begins old (λ files. MayOpenAs (now_of old.files) (opens_as files) ⊎ (opens_as files ≡ Stands (stored_at head [])))
     (λ files images. inl (files, images, refl))
 
 pub made_volume : {D : Type 0} (tells : Bool) (known : D → Device) (head : Head) (v : Volume D)
     → (IsTrue tells → IsStore v.journal Left 2 head [] (devices known v).files) → v.side ≡ Left → v.open ≡ true
-    → v.uids.uids ≡ head.uid ∷ [] → meaning v.state ≡ state_at head [] → IsOpenVolume tells known v
-made_volume tells known head v stands side ready uids state = record {
+    → v.uids.uids ≡ head.uid ∷ [] → meaning v.state ≡ state_at head [] → v.staged ≡ [] → IsOpenVolume tells known v
+made_volume tells known head v stands side ready uids state nothing = record {
   ready = ready;
   image = λ e. absurd (cc (sym side ∙ e));
+  nothing = nothing;
   keeps = λ t. record {
     head = head;
     bodies = [];

@@ -23,9 +23,10 @@ use Rattle.volume.specs.Crashes.{MayFind, OnlyLooks}
 use Rattle.volume.specs.Store.{FoundImages, IsStore, found_of}
 use Rattle.volume.specs.Store.FoundImages.{Blank as NoImages, Damaged as BrokenImage, Stands as StandingImage}
 use Rattle.volume.proofs.Standing.{store_stands}
-use Rattle.replica_volume.specs.Opening.{IsLeft, LeavesAsBefore, LeavesOldOrMoved, LeavesSameOrMoved}
+use Rattle.replica_volume.specs.Opening.{IsLeft, LeavesAsBefore, LeavesOldOrMoved}
+use Rattle.replica_volume.specs.inner.Opening.{LeavesSameOrMoved}
 use Rattle.record_fields.specs.Table.{Numbers}
-use Rattle.replica_volume.specs.Placing.{IsSpelled, LeavesOldOrSpelled, SaysSteps, StandsWith}
+use Rattle.replica_volume.specs.inner.Placing.{IsSpelled, LeavesOldOrSpelled, SaysSteps, StandsWith}
 use Rattle.replica_volume.specs.Steps.{Chronicle, body_in, steps_in, steps_of, unnumbered}
 use Rattle.replica_volume.specs.Store.{IsMoved, IsSameOrMoved, MayOpenAs, holds_steps, opened_as, opens_as, with_steps}
 use Rattle.replica_volume.specs.declared.moving.Finished.{Finished}

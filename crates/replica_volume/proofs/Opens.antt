@@ -1,6 +1,6 @@
 -- The image that the root names was read, and its steps were made.
 use Rattle.std.specs.Prelude.{IsTrue}
-use Rattle.std.proofs.Common.{◌≡◌, ◌≢◌, ℕ, Bool, List, Ok, Err, refl, sym, ◌∙◌, ap, subst}
+use Rattle.std.proofs.Common.{◌≡◌, ◌≢◌, ℕ, Bool, List, [], Ok, Err, refl, sym, ◌∙◌, ap, subst}
 use Rattle.conflicts.specs.State.{History}
 use Rattle.disk_model.specs.Device.{Device}
 use Rattle.disks.specs.declared.name.DiskName.{DiskName}
@@ -14,18 +14,16 @@ use Rattle.replica_state.specs.Replayed.{replayed}
 use Rattle.volume.specs.Opening.{OpensStore}
 use Rattle.volume.specs.Store.{IsStore, found_of}
 use Rattle.volume.specs.Store.FoundImages.{Stands as StandingImage}
-use Rattle.volume.specs.declared.opening.StoreFault.{StoreFault}
-use Rattle.volume.specs.declared.opening.StoreFault.TheVariants as store
-use Rattle.replica_volume.specs.Faults.{fault_of, fault_placing}
+use Rattle.disks.specs.declared.fault.OpenFault.{OpenFault}
+use Rattle.disks.specs.declared.fault.OpenFault.TheVariants as fault
+use Rattle.replica_volume.specs.Faults.{fault_placing}
 use Rattle.replica_volume.specs.Opening.{IsFormer, IsOpenedFrom, OpensVolume}
-use Rattle.replica_volume.specs.Replaying.{AreMade, IsBadAt, ReplaysOn}
-use Rattle.replica_volume.specs.Placing.{SaysSteps, StandsWith}
+use Rattle.replica_volume.specs.inner.Replaying.{AreMade, IsBadAt, ReplaysOn}
+use Rattle.replica_volume.specs.inner.Placing.{SaysSteps, StandsWith}
 use Rattle.replica_volume.specs.Steps.{steps_of}
 use Rattle.replica_volume.specs.Store.{holds_steps, store_of, with_steps}
 use Rattle.replica_volume.specs.Store.StoreFound.{Damaged, Holds}
 use Rattle.replica_volume.specs.Volume.{IsOpenVolume, devices}
-use Rattle.replica_volume.specs.declared.fault.VolumeFault.{VolumeFault}
-use Rattle.replica_volume.specs.declared.fault.VolumeFault.TheVariants as volume
 use Rattle.replica_volume.specs.declared.replaying.Made.{Made}
 use Rattle.replica_volume.specs.declared.replica.Volume.{Volume}
 use Rattle.replica_volume.specs.declared.placing.PlaceFault.{PlaceFault}
@@ -33,12 +31,12 @@ use Rattle.replica_volume.specs.declared.placing.PlaceFault.TheVariants as place
 use Rattle.replica_volume.specs.declared.placing.Standing.{Standing}
 
 -- no image was read: the fault is that of the files
-pub no_image : {D : Type 0} (files : Trio (List ℕ)) (disks : Disks D) (why : StoreFault) → OpensStore files (Err why)
-    → OpensVolume {D = D} files (Err (disks, fault_of why))
-no_image files disks store.Blank e = ap with_steps e
-no_image files disks (store.Damaged disk place) e = ap with_steps e
-no_image files disks store.Disk e = tt
-no_image files disks store.Memory e = tt
+pub no_image : {D : Type 0} (files : Trio (List ℕ)) (disks : Disks D) (why : OpenFault) → OpensStore files (Err why)
+    → OpensVolume {D = D} files (Err (disks, why))
+no_image files disks fault.Blank e = ap with_steps e
+no_image files disks (fault.Damaged disk place) e = ap with_steps e
+no_image files disks fault.Disk e = tt
+no_image files disks fault.Memory e = tt
 
 -- the store of the image that was read
 found_with : (files : Trio (List ℕ)) (side : DiskName) (image : StoredImage)
@@ -102,10 +100,12 @@ pub opened_volume : {D : Type 0} (tells : Bool) (known : D → Device) (image : 
     → StandsWith image.header h s (devices known v).files)
     → s.side ≢ Root → AreMade image image.bodies m
     → v.side ≡ s.side → meaning v.state ≡ replayed m.steps → v.uids ≡ s.uids → v.journal ≡ s.journal → IsTrue v.open
+    → v.staged ≡ []
     → IsOpenVolume tells known v
-opened_volume tells known image m s v stands root i side state uids journal ready = record {
+opened_volume tells known image m s v stands root i side state uids journal ready nothing = record {
   ready = ready;
   image = λ e. root (sym side ∙ e);
+  nothing = nothing;
   keeps = λ t.
       let is = stands t i.history i.says in
       record {
@@ -128,20 +128,20 @@ not_placed files disks place.Disk = tt
 not_placed files disks place.Memory = tt
 
 -- a failed disk is told only where it failed, and running out of memory where it happened
-pub disk_placing : (why : PlaceFault) → fault_placing why ≡ volume.Disk → why ≡ place.Disk
+pub disk_placing : (why : PlaceFault) → fault_placing why ≡ fault.Disk → why ≡ place.Disk
 disk_placing place.Disk e = refl
 disk_placing place.Memory e = absurd (cc e)
 
-pub memory_placing : (why : PlaceFault) → fault_placing why ≡ volume.Memory → why ≡ place.Memory
+pub memory_placing : (why : PlaceFault) → fault_placing why ≡ fault.Memory → why ≡ place.Memory
 memory_placing place.Disk e = absurd (cc e)
 memory_placing place.Memory e = refl
 
 -- what going through the bodies found is what is found of the store
 pub not_replayed : {D : Type 0} (files : Trio (List ℕ)) (disks : Disks D) (side : DiskName) (image : StoredImage)
-    (why : VolumeFault)
+    (why : OpenFault)
     → found_of files ≡ StandingImage side image.format image.header image.bodies → ReplaysOn side image (Err why)
     → OpensVolume {D = D} files (Err (disks, why))
-not_replayed files disks side image volume.Blank e r = absurd r
-not_replayed files disks side image (volume.Damaged disk place) e r = bad_body files side disk image place e r.0 r.1
-not_replayed files disks side image volume.Disk e r = absurd r
-not_replayed files disks side image volume.Memory e r = tt
+not_replayed files disks side image fault.Blank e r = absurd r
+not_replayed files disks side image (fault.Damaged disk place) e r = bad_body files side disk image place e r.0 r.1
+not_replayed files disks side image fault.Disk e r = absurd r
+not_replayed files disks side image fault.Memory e r = tt

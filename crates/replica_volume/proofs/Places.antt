@@ -18,7 +18,7 @@ use Rattle.volume.specs.Crashes.{LeavesOldOrNew}
 use Rattle.volume.specs.Store.{IsStore, StandsSpelled, found_of}
 use Rattle.volume.specs.Store.FoundImages.{Stands as StandingImage}
 use Rattle.volume.proofs.Standing.{store_stands}
-use Rattle.replica_volume.specs.Placing.{IsSpelled, LeavesOldOrSpelled, StandsWith}
+use Rattle.replica_volume.specs.inner.Placing.{IsSpelled, LeavesOldOrSpelled, StandsWith}
 use Rattle.replica_volume.specs.Steps.{after_body, steps_in, with_step}
 use Rattle.replica_volume.specs.declared.placing.Standing.{Standing}
 

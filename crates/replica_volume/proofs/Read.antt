@@ -7,7 +7,7 @@ use Rattle.journal.specs.Image.{entry, entries, header_bytes, up_to_gate}
 use Rattle.journal.specs.Stored.{StoredImage}
 use Rattle.journal.specs.Passing.{HasPassed}
 use Rattle.record_codec.specs.Bodies.{Recorded}
-use Rattle.replica_volume.specs.Replaying.{IsBadAt}
+use Rattle.replica_volume.specs.inner.Replaying.{IsBadAt}
 use Rattle.replica_volume.specs.Steps.{Chronicle, after_body, body_in, steps_in, steps_of, with_step}
 
 -- steps and so many bytes before what later entries say

@@ -8,7 +8,7 @@ use Rattle.record_codec.specs.Bodies.{Recorded}
 use Rattle.replica_volume.specs.Steps.{body_in, state_at}
 use Rattle.record_codec.specs.declared.decoding.RecordFault.{RecordFault}
 use Rattle.record_codec.specs.declared.decoding.RecordFault.TheVariants.{Bad, Memory}
-use Rattle.replica_volume.specs.Replaying.{AreMade, DecodesAt, IsOneMade, Leave, MakesAll, MakesOne, Replays}
+use Rattle.replica_volume.specs.inner.Replaying.{AreMade, DecodesAt, IsOneMade, Leave, MakesAll, MakesOne, Replays}
 use Rattle.replica_volume.specs.declared.replaying.Made.{Made}
 use Rattle.replica_volume.proofs.Read.{bad_in, one_said}
 

@@ -5,7 +5,7 @@ pub mod Settled
 pub mod Opening
 pub mod Making
 pub mod Faults
-pub mod Replaying
-pub mod Committing
-pub mod Placing
 pub mod Compacting
+pub mod Keeping
+pub mod Staging
+pub mod inner

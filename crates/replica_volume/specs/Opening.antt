@@ -1,4 +1,3 @@
--- Opening a store: what is answered, and what a crash on the way leaves. The last word of this file is private.
 use Rattle.std.specs.Prelude.{◌≡◌, ◌⊎◌, ℕ, List, Result, Ok, Err}
 use Rattle.conflicts.specs.State.{History}
 use Rattle.disks.specs.declared.name.DiskName.{DiskName}
@@ -14,8 +13,8 @@ use Rattle.volume.specs.Store.{found_of}
 use Rattle.replica_volume.specs.Steps.{state_at}
 use Rattle.replica_volume.specs.Store.{IsMoved, IsSameOrMoved, MayOpenAs, store_of, opens_as}
 use Rattle.replica_volume.specs.Store.StoreFound.{Blank, Damaged, Holds}
-use Rattle.replica_volume.specs.declared.fault.VolumeFault.{VolumeFault}
-use Rattle.replica_volume.specs.declared.fault.VolumeFault.TheVariants as fault
+use Rattle.disks.specs.declared.fault.OpenFault.{OpenFault}
+use Rattle.disks.specs.declared.fault.OpenFault.TheVariants as fault
 use Rattle.replica_volume.specs.declared.replica.Volume.{Volume}
 
 -- the volume has the state of the history that is found, and the limit of its image, which has either format
@@ -36,7 +35,7 @@ pub record IsFormer (files : Trio (List ℕ)) : Type 0 where
   pub found : store_of files ≡ Holds side FIRST_FORMAT head history
 
 -- what was opened, or the fault that was named, is what is found of the files; the other faults say nothing of them
-abbrev pub OpensVolume : {D : Type 0} → Trio (List ℕ) → Result (Volume D) (Disks D × VolumeFault) → Type 0
+abbrev pub OpensVolume : {D : Type 0} → Trio (List ℕ) → Result (Volume D) (Disks D × OpenFault) → Type 0
 OpensVolume files (Ok v) = IsOpenedFrom files v
 OpensVolume files (Err (disks, fault.Blank)) = store_of files ≡ Blank
 OpensVolume files (Err (disks, fault.Damaged disk place)) = store_of files ≡ Damaged disk place
@@ -56,8 +55,3 @@ LeavesOldOrMoved old new =
 -- so it leaves what opens as after a crash at the start
 abbrev pub LeavesAsBefore : Devices → Devices → Type 0
 LeavesAsBefore old new = LeavesTogether old new (λ files. MayOpenAs (now_of old.files) (opens_as files))
-
--- private: a crash on the way leaves what stood at the start, or the same, moved to format 2
-abbrev pub LeavesSameOrMoved : Devices → Devices → Type 0
-LeavesSameOrMoved old new =
-    LeavesTogether old new (λ files. IsSameOrMoved (found_of (seen_of old.files)) (found_of files))

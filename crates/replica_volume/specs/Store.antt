@@ -1,7 +1,7 @@
 -- What is found of three files, with the steps that the bodies say.
 use Rattle.std.specs.Prelude.{◌≡◌, ◌≢◌, ◌⊎◌, ℕ, ◌+◌, List, [], ◌∷◌, length, Result, Ok, Err}
 use Rattle.compaction.specs.Images.{bodies_of, uids_after}
-use Rattle.conflicts.specs.State.{History, State, Text}
+use Rattle.conflicts.specs.State.{History, Text}
 use Rattle.disks.specs.declared.name.DiskName.{DiskName}
 use Rattle.disks.specs.declared.trio.Trio.{Trio}
 use Rattle.disks.specs.Joint.{JointMoment, AreCrashImages}
@@ -9,7 +9,7 @@ use Rattle.journal.specs.Image.{Head, header_bytes}
 use Rattle.journal.specs.declared.layout.TheConstants.{FIRST_FORMAT, SECOND_FORMAT}
 use Rattle.volume.specs.Store.{FoundImages, found_of}
 use Rattle.volume.specs.Store.FoundImages.{Blank as NoImages, Damaged as BrokenImage, Stands as StandingImage}
-use Rattle.replica_core.specs.Replica.{Found}
+use Rattle.replica_core.specs.Replica.{Found, Stored}
 use Rattle.replica_core.specs.Replica.Found.{Blank as Nothing, Damaged as Broken, Stands}
 use Rattle.replica_volume.specs.Steps.{Chronicle, steps_of, state_at}
 
@@ -54,16 +54,20 @@ IsSameOrMoved old new = (new ≡ old) ⊎ IsMoved old new
 abbrev pub store_of : Trio (List ℕ) → StoreFound
 store_of files = with_steps (found_of files)
 
--- the same as a replica is opened: a history leaves a state
-abbrev pub opened_as : StoreFound → Found State
+-- what a store of this header and history stands for
+abbrev pub stored_at : Head → History → Stored
+stored_at head h = record { state = state_at head h; limit = head.limit }
+
+-- the same as a replica is opened: a history leaves a state, and the header has the limit
+abbrev pub opened_as : StoreFound → Found Stored
 opened_as Blank = Nothing
 opened_as (Damaged disk place) = Broken
-opened_as (Holds side format head h) = Stands (state_at head h)
+opened_as (Holds side format head h) = Stands (stored_at head h)
 
 -- what opening three files finds
-abbrev pub opens_as : Trio (List ℕ) → Found State
+abbrev pub opens_as : Trio (List ℕ) → Found Stored
 opens_as files = opened_as (store_of files)
 
 -- opening finds this after some crash at this moment
-abbrev pub MayOpenAs : JointMoment → Found State → Type 0
+abbrev pub MayOpenAs : JointMoment → Found Stored → Type 0
 MayOpenAs moment o = (files : Trio (List ℕ)) × AreCrashImages moment files × (o ≡ opens_as files)

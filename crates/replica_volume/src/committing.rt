@@ -1,17 +1,25 @@
-//! A volume takes a step: its body is added to the image, and then the step is made.
-ghost use Rattle.std.specs.Prelude.{◌≡◌, IfOk};
-ghost use Rattle.replica_volume.specs.Committing.{CanTake, IsAsBefore, IsOfStep, IsSpelled};
-ghost use Rattle.replica_volume.specs.Committing.{WritesStep, fault_adding, opened_behind};
+//! A volume takes a step: its body is added to the image, or staged for that, and then the step is
+//! made.
+ghost use Rattle.std.specs.Prelude.{◌≡◌, ◌++◌, ◌≤◌, IfOk, length};
+ghost use Rattle.record_fields.specs.Table.{AreNumbered};
+ghost use Rattle.replica_state.specs.Held.{meaning};
+ghost use Rattle.replica_state.specs.Prepared.{IsPartsOf, IsReady};
+ghost use Rattle.replica_state.specs.Steps.{step_of};
+ghost use Rattle.conflicts.specs.State.{after};
+ghost use Rattle.replica_state.specs.declared.step.Step.{Step as Held};
+ghost use Rattle.replica_volume.specs.inner.Committing.{CanTake, HoldsStep, IsAsBefore, IsOfStep};
+ghost use Rattle.replica_volume.specs.inner.Committing.{IsSpelled};
+ghost use Rattle.replica_volume.specs.inner.Committing.{WritesStep, fault_adding, opened_behind};
 ghost use Rattle.replica_volume.specs.Volume.{IsOpenVolume};
 
 use crate::Volume;
-use disk_model::Disk;
+use disk_model::{Disk, DiskFailed};
 use journal::AppendFault;
-use record_codec::{Encoded, encode};
+use record_codec::{Encoded, ReplicaUids, encode};
 use replica_core::{CommitFault, Replica};
 use replica_state::{Prepared, State, Step};
 use u1_base::Memory;
-use volume::append_on;
+use volume::{append_all_on, append_on};
 
 // What a step needs, made ahead: its body, and its parts of the state.
 #[derive(Drop)]
@@ -21,21 +29,31 @@ struct Ready {
 }
 
 impl<D: Disk> Replica for Volume<D> {
-    ghost use Rattle.std.specs.Prelude.{◌≡◌, ◌≢◌, ◌<◌, ◌≤◌, Err, IfErr, OnErr, OnOk, Some};
+    ghost use Rattle.std.specs.Prelude.{◌≡◌, ◌≢◌, ◌<◌, ◌≤◌, [], ◌∷◌, ◌++◌, Err, IfErr, IsOk};
+    ghost use Rattle.std.specs.Prelude.{IsTrue};
+    ghost use Rattle.std.specs.Prelude.{OnErr, OnOk, Some};
     ghost use Rattle.std.specs.Result.{IsErrAnd};
-    ghost use Rattle.conflicts.specs.State.{Fits, after};
+    ghost use Rattle.conflicts.specs.State.{Fits, History, after};
     ghost use Rattle.disk_model.specs.Counts.{called};
+    ghost use Rattle.disks.specs.Joint.{seen_of};
     ghost use Rattle.replica_state.specs.Held.{lists_of};
     ghost use Rattle.replica_state.specs.Steps.{step_of};
     ghost use Rattle.replica_core.specs.Replica.{AddsOnly, HasFailed, IsLeft, IsTooLong};
-    ghost use Rattle.replica_core.specs.Replica.{MayStand, is_disk, may_be_written, state_in};
-    ghost use Rattle.replica_volume.specs.Settled.{leaves_its_state};
+    ghost use Rattle.replica_core.specs.Replica.{IsUnflushed, MayStand, NeedsBehind, StandsAs};
+    ghost use Rattle.replica_core.specs.Replica.{StandsAsEither, is_disk, may_be_written, state_in};
+    ghost use Rattle.replica_core.specs.Replica.{stored_as, stored_in};
+    ghost use Rattle.replica_volume.specs.Keeping.{HoldsMore, LeavesOldOrMore};
+    ghost use Rattle.replica_volume.specs.Settled.{leaves_its_state, leaves_kept, nothing_staged};
+    ghost use Rattle.replica_volume.specs.Staging.{IsStagedVolume, StagesSteps};
+    ghost use Rattle.replica_volume.specs.Store.{store_of};
     ghost use Rattle.replica_volume.specs.Volume.{IsOpenVolume, devices};
     ghost use Rattle.replica_volume.specs.Volume.{volume_crash, volume_known};
 
     ghost known = { volume_known D.tells D.known };
 
     ghost is_open = { IsOpenVolume D.tells D.known };
+
+    ghost stages = { IsStagedVolume D.tells D.known };
 
     ghost crash = { volume_crash D.tells D.known };
 
@@ -49,6 +67,8 @@ impl<D: Disk> Replica for Volume<D> {
 
     /// All memory is taken before a disk is called. The disks are given four calls: write, sync,
     /// write, sync. At `Full` and `Memory` no disk was called.
+    ///
+    /// The image then holds the former history with this very step behind it.
     fn commit(&mut self, step: Step) -> Result<(), CommitFault>
         requires ready { IsOpenVolume D.tells D.known self.old }
         requires fits { Fits (state_in (volume_known D.tells D.known self.old)) (step_of step) }
@@ -56,10 +76,12 @@ impl<D: Disk> Replica for Volume<D> {
             ((state_in (volume_known D.tells D.known self.new)
             ≡ after (state_in (volume_known D.tells D.known self.old)) (step_of step))
             × IsOpenVolume D.tells D.known self.new) }
+        ensures need { OnOk result (NeedsBehind (volume_known D.tells D.known self.old)
+            (volume_known D.tells D.known self.new) (step_of step ∷ [])) }
         ensures cause { IfErr result (HasFailed (volume_known D.tells D.known self.old)
             (volume_known D.tells D.known self.new) (Some (step_of step))) }
         ensures too_long { (volume_known D.tells D.known self.old).limit
-            < (volume_known D.tells D.known self.old).need (step_of step)
+            < (volume_known D.tells D.known self.old).need [] (step_of step)
             → IsErrAnd result (IsTooLong (volume_known D.tells D.known self.old) (step_of step)) }
         ensures state { OnErr result (lists_of (volume_known D.tells D.known self.new).state
             ≡ lists_of (volume_known D.tells D.known self.old).state) }
@@ -68,12 +90,17 @@ impl<D: Disk> Replica for Volume<D> {
             (is_disk fault)) }
         ensures any_moment { AddsOnly (volume_known D.tells D.known)
             (volume_crash D.tells D.known) self.old self.new
-            (MayStand (state_in (volume_known D.tells D.known self.old)) (Some (step_of step))
+            (MayStand (stored_in (volume_known D.tells D.known self.old)) (Some (step_of step))
             (may_be_written result)) }
         ensures limit { (volume_known D.tells D.known self.new).limit
             ≡ (volume_known D.tells D.known self.old).limit }
         ensures later { (volume_known D.tells D.known self.old).faults
             ≤ (volume_known D.tells D.known self.new).faults }
+        ensures history { IsTrue D.tells → OnOk result (HoldsMore (step_of step ∷ [])
+            (store_of (seen_of (devices D.known self.old).files))
+            (store_of (seen_of (devices D.known self.new).files))) }
+        ensures any_history { IsTrue D.tells → LeavesOldOrMore (step_of step ∷ [])
+            (devices D.known self.old) (devices D.known self.new) }
         ensures calls { OnOk result
             ((devices D.known self.new).made ≡ called 4 (devices D.known self.old).made) }
         ensures most_calls { (devices D.known self.new).made
@@ -85,9 +112,101 @@ impl<D: Disk> Replica for Volume<D> {
         self.write(ready)
     }
 
+    /// All memory is taken before the step is made. No disk is called.
+    fn stage(&mut self, step: Step) -> Result<(), CommitFault>
+        requires ready { (kept : _) × IsStagedVolume D.tells D.known self.old kept }
+        requires fits { Fits (state_in (volume_known D.tells D.known self.old)) (step_of step) }
+        ensures ok { OnOk result (state_in (volume_known D.tells D.known self.new)
+            ≡ after (state_in (volume_known D.tells D.known self.old)) (step_of step)) }
+        ensures need { OnOk result (NeedsBehind (volume_known D.tells D.known self.old)
+            (volume_known D.tells D.known self.new) (step_of step ∷ [])) }
+        ensures stays { (kept : _) → IsStagedVolume D.tells D.known self.old kept
+            → IsStagedVolume D.tells D.known self.new kept }
+        ensures cause { IfErr result (HasFailed (volume_known D.tells D.known self.old)
+            (volume_known D.tells D.known self.new) (Some (step_of step))) }
+        ensures no_disk { result ≢ Err CommitFault.Disk }
+        ensures too_long { (volume_known D.tells D.known self.old).limit
+            < (volume_known D.tells D.known self.old).need [] (step_of step)
+            → IsErrAnd result (IsTooLong (volume_known D.tells D.known self.old) (step_of step)) }
+        ensures state { OnErr result (lists_of (volume_known D.tells D.known self.new).state
+            ≡ lists_of (volume_known D.tells D.known self.old).state) }
+        ensures left { OnErr result (NeedsBehind (volume_known D.tells D.known self.old)
+            (volume_known D.tells D.known self.new) []) }
+        ensures any_moment { (kept : _) → IsStagedVolume D.tells D.known self.old kept
+            → AddsOnly (volume_known D.tells D.known) (volume_crash D.tells D.known) self.old
+            self.new (StandsAs (stored_as (volume_known D.tells D.known self.old) kept)) }
+        ensures limit { (volume_known D.tells D.known self.new).limit
+            ≡ (volume_known D.tells D.known self.old).limit }
+        ensures faults { (volume_known D.tells D.known self.new).faults
+            ≡ (volume_known D.tells D.known self.old).faults }
+        ensures untouched { devices D.known self.new ≡ devices D.known self.old }
+        ensures taken { IsTrue D.tells → OnOk result ((later : History)
+            → StagesSteps self.old (devices D.known self.old).files later
+            → StagesSteps self.new (devices D.known self.new).files (later ++ step_of step ∷ [])) }
+        ensures refused { IsTrue D.tells → OnErr result ((later : History)
+            → StagesSteps self.old (devices D.known self.old).files later
+            → StagesSteps self.new (devices D.known self.new).files later) }
+    {
+        let ready = self.make_ready(step)?;
+        self.hold(ready)
+    }
+
+    /// The disks are given four calls: write, sync, write, sync; and none where nothing is staged.
+    ///
+    /// The image then holds the former history with all staged steps behind it.
+    fn flush(&mut self) -> Result<(), CommitFault>
+        requires ready { (kept : _) × IsStagedVolume D.tells D.known self.old kept }
+        ensures ok { OnOk result (IsOpenVolume D.tells D.known self.new) }
+        ensures idle { IsOpenVolume D.tells D.known self.old
+            → (self.new ≡ self.old) × IsOk result }
+        ensures state { lists_of (volume_known D.tells D.known self.new).state
+            ≡ lists_of (volume_known D.tells D.known self.old).state }
+        ensures need { NeedsBehind (volume_known D.tells D.known self.old)
+            (volume_known D.tells D.known self.new) [] }
+        ensures cause { IfErr result (IsUnflushed (volume_known D.tells D.known self.old)
+            (volume_known D.tells D.known self.new)) }
+        ensures any_moment { (kept : _) → IsStagedVolume D.tells D.known self.old kept
+            → AddsOnly (volume_known D.tells D.known) (volume_crash D.tells D.known) self.old
+            self.new (StandsAsEither (stored_as (volume_known D.tells D.known self.old) kept)
+            (stored_in (volume_known D.tells D.known self.old))) }
+        ensures limit { (volume_known D.tells D.known self.new).limit
+            ≡ (volume_known D.tells D.known self.old).limit }
+        ensures later { (volume_known D.tells D.known self.old).faults
+            ≤ (volume_known D.tells D.known self.new).faults }
+        ensures history { IsTrue D.tells → OnOk result ((later : History)
+            → StagesSteps self.old (devices D.known self.old).files later
+            → HoldsMore later (store_of (seen_of (devices D.known self.old).files))
+            (store_of (seen_of (devices D.known self.new).files))) }
+        ensures any_history { IsTrue D.tells → (later : History)
+            → StagesSteps self.old (devices D.known self.old).files later
+            → LeavesOldOrMore later (devices D.known self.old) (devices D.known self.new) }
+        ensures most_calls { (devices D.known self.new).made
+            ≤ called 4 (devices D.known self.old).made }
+    {
+        if self.staged.is_empty() {
+            return Ok(());
+        }
+        match append_all_on(&mut self.disks, &mut self.journal, self.side, &self.staged) {
+            Ok(()) => {
+                self.staged.clear();
+                Ok(())
+            }
+            Err(DiskFailed) => {
+                self.open = false;
+                Err(CommitFault::Disk)
+            }
+        }
+    }
+
     ghost opened = { λ v is. is.ready };
 
     ghost settled = { leaves_its_state D.tells D.known };
+
+    ghost none_staged = { nothing_staged D.tells D.known };
+
+    ghost staged_leaves = { leaves_kept D.tells D.known };
+
+    ghost opened_staged = { λ v kept is. is.ready };
 }
 
 impl<D: Disk> Volume<D> {
@@ -147,8 +266,7 @@ impl<D: Disk> Volume<D> {
             encoded.bytes.as_slice(),
         ) {
             Ok(()) => {
-                self.uids.add(encoded.added);
-                self.state.apply(prepared);
+                self.make(encoded.added, prepared);
                 Ok(())
             }
             Err(fault) => {
@@ -157,6 +275,44 @@ impl<D: Disk> Volume<D> {
                 Err(self.leave_off(fault))
             }
         }
+    }
+
+    // Stages the body of the step, and makes the step then. It takes memory for the body alone.
+    fn hold(&mut self, ready: Ready) -> Result<(), CommitFault>
+        requires { CanTake self.old ready }
+        ensures { HoldsStep D.tells D.known self.old ready self.new result }
+    {
+        let Ready { encoded, prepared } = ready;
+        match self
+            .journal
+            .stage(self.alloc, &mut self.staged, encoded.bytes.as_slice())
+        {
+            Ok(()) => {
+                self.make(encoded.added, prepared);
+                Ok(())
+            }
+            Err(fault) => {
+                drop(encoded);
+                drop(prepared);
+                Err(self.leave_off(fault))
+            }
+        }
+    }
+
+    // Makes the step whose body is added or staged: gives numbers to its uids, and puts in its parts
+    // of the state.
+    fn make(&mut self, added: ReplicaUids, prepared: Prepared)
+        requires numbered { AreNumbered (self.old.uids.uids ++ added) }
+        requires room { length added ≤ self.old.uids.room }
+        requires parts { IsReady self.old.state prepared }
+        ensures same { self.new
+            ≡ record self.old { uids = self.new.uids; state = self.new.state } }
+        ensures uids { self.new.uids.uids ≡ self.old.uids.uids ++ added }
+        ensures step { (x : Held) → IsPartsOf self.old.state x prepared
+            → meaning self.new.state ≡ after (meaning self.old.state) (step_of x) }
+    {
+        self.uids.add(added);
+        self.state.apply(prepared);
     }
 
     // Why the body was not added. The volume is closed where a disk failed.

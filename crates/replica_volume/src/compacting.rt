@@ -8,21 +8,25 @@ ghost use Rattle.disks.specs.declared.name.DiskName.{DiskName as Name};
 ghost use Rattle.disks.specs.declared.name.DiskName.TheVariants as names;
 ghost use Rattle.journal.specs.Image.{IsLimit};
 ghost use Rattle.record_fields.specs.Table.{AreNumbered};
+ghost use Rattle.replica_core.specs.Replica.{NeedsBehind, stored_in};
 ghost use Rattle.replica_state.specs.Held.{meaning};
 ghost use Rattle.replica_state.specs.Steps.{step_of};
 ghost use Rattle.volume.specs.Crashes.{OnlyLooks};
-ghost use Rattle.replica_volume.specs.Compacting.{AreKeptSoFar, Compacts, KeepsAll, KeepsOne};
-ghost use Rattle.replica_volume.specs.Compacting.{KeepsSteps, LeavesOldOrCompacted};
-ghost use Rattle.replica_volume.specs.Compacting.{LeavesState, StaysOpen, WritesAnew, sizes_of};
-ghost use Rattle.replica_volume.specs.Placing.{IsSpelled};
-ghost use Rattle.replica_volume.specs.Volume.{IsOpenVolume, devices};
+ghost use Rattle.replica_volume.specs.Compacting.{Compacts};
+ghost use Rattle.replica_volume.specs.inner.Compacting.{AreKeptSoFar, KeepsAll, KeepsOne};
+ghost use Rattle.replica_volume.specs.Compacting.{LeavesOldOrCompacted};
+ghost use Rattle.replica_volume.specs.inner.Compacting.{KeepsSteps};
+ghost use Rattle.replica_volume.specs.Compacting.{LeavesStored, StaysOpen, sizes_of};
+ghost use Rattle.replica_volume.specs.inner.Compacting.{WritesAnew};
+ghost use Rattle.replica_volume.specs.inner.Placing.{IsSpelled};
+ghost use Rattle.replica_volume.specs.Volume.{IsOpenVolume, devices, volume_known};
 
+use crate::Volume;
 use crate::placing::{Standing, put_spelled};
 use crate::replaying::step_at;
-use crate::{CompactFault, Sizes, Volume};
 use compaction::{Spelled, Steps, compact, spell, trim};
 use disk_model::Disk;
-use disks::DiskName;
+use disks::{CompactFault, DiskName, Sizes};
 use journal::{Entry, Header, Stored};
 use json::Scratch;
 use record_codec::{Decoded, RecordFault, Uids};
@@ -43,7 +47,7 @@ impl<D: Disk> Volume<D> {
     /// lets the root name it then. The state stays, and so does the log.
     ///
     /// The image is read from the disks again, and all memory is taken before they are written. A
-    /// crash on the way leaves the old image or the new one, and both the same state. After
+    /// crash on the way leaves the old image or the new one, and both the same state and limit. After
     /// `Damaged` and `Memory` nothing was written and the volume is open; after `Disk` it is not.
     pub fn compact(&mut self) -> Result<Sizes, CompactFault>
         requires open { IsOpenVolume D.tells D.known self.old }
@@ -61,8 +65,11 @@ impl<D: Disk> Volume<D> {
             → OnlyLooks (devices D.known self.old) (devices D.known self.new)) }
         ensures any_image { IsTrue D.tells
             → LeavesOldOrCompacted (devices D.known self.old) (devices D.known self.new) }
-        ensures any_moment { IsTrue D.tells → LeavesState (meaning self.old.state)
+        ensures any_moment { IsTrue D.tells
+            → LeavesStored (stored_in (volume_known D.tells D.known self.old))
             (devices D.known self.old) (devices D.known self.new) }
+        ensures need { OnErr result (NeedsBehind (volume_known D.tells D.known self.old)
+            (volume_known D.tells D.known self.new) []) }
         ensures cause { HasCauseOf CompactFault.Disk (devices D.known self.old).faults
             (devices D.known self.new).faults result }
     {
@@ -84,6 +91,9 @@ impl<D: Disk> Volume<D> {
         requires open { IsOpenVolume D.tells D.known self.old }
         ensures state { self.new.state ≡ self.old.state }
         ensures ready { self.new.open ≡ self.old.open }
+        ensures staged { self.new.staged ≡ self.old.staged }
+        ensures need { OnErr result (NeedsBehind (volume_known D.tells D.known self.old)
+            (volume_known D.tells D.known self.new) []) }
         ensures image { self.new.side ≢ names.Root }
         ensures writes { IsTrue D.tells → WritesAnew D.tells D.known self.old self.new result }
         ensures limit { self.new.journal.limit ≡ self.old.journal.limit }

@@ -10,12 +10,12 @@ ghost use Rattle.replica_volume.specs.Volume.{IsOpenVolume, disks_in, fault_in};
 
 use crate::Volume;
 use disk_model::Disk;
-use disks::{DiskName, Disks};
-use journal::Header;
+use disks::{DiskName, Disks, MakeFault};
+use journal::{Header, NewEntries};
 use record_codec::Uids;
 use replica_state::State;
 use std::alloc::Global;
-use volume::{InitFault, init_images};
+use volume::init_images;
 
 impl<D: Disk> Volume<D> {
     /// Makes the empty store of this header, over an empty root.
@@ -26,7 +26,7 @@ impl<D: Disk> Volume<D> {
         alloc: Global,
         disks: Disks<D>,
         header: Header,
-    ) -> Result<Volume<D>, (Disks<D>, InitFault)>
+    ) -> Result<Volume<D>, (Disks<D>, MakeFault)>
         ensures reads { (root : List ℕ)
             × (IsTrue D.tells → root ≡ (disks_known D.known disks).files.root.seen)
             × MakesVolume header root result }
@@ -38,13 +38,13 @@ impl<D: Disk> Volume<D> {
             (found_of (seen_of (disks_known D.known (disks_in result)).files)) }
         ensures any_moment { IsTrue D.tells → LeavesAsBeforeOrNew header
             (disks_known D.known disks) (disks_known D.known (disks_in result)) }
-        ensures untouched { IsErrOf (fault_in result) InitFault.Memory → disks_in result ≡ disks }
-        ensures cause { HasCauseOf InitFault.Disk (disks_known D.known disks).faults
+        ensures untouched { IsErrOf (fault_in result) MakeFault.Memory → disks_in result ≡ disks }
+        ensures cause { HasCauseOf MakeFault.Disk (disks_known D.known disks).faults
             (disks_known D.known (disks_in result)).faults (fault_in result) }
     {
         let mut disks = disks;
         let Ok(uids) = Uids::new(alloc, &header.uid) else {
-            return Err((disks, InitFault::Memory));
+            return Err((disks, MakeFault::Memory));
         };
         let journal = match init_images(alloc, &mut disks, &header) {
             Ok(journal) => journal,
@@ -60,6 +60,7 @@ impl<D: Disk> Volume<D> {
             uids,
             state,
             open: true,
+            staged: NewEntries::new(alloc),
         })
     }
 }

@@ -1,5 +1,6 @@
 //! Letting an image stand in format 2, with its state: one of format 1 is moved to the other side.
-ghost use Rattle.std.specs.Prelude.{◌≡◌, ◌≢◌, List, [], ◌∷◌, Ok, Err, IfOk, IsErrOf, IsOk, IsTrue, OnOk};
+ghost use Rattle.std.specs.Prelude.{◌≡◌, ◌≢◌, List, [], ◌∷◌, Ok, Err, IfOk, IsErrOf, IsOk, IsTrue};
+ghost use Rattle.std.specs.Prelude.{OnOk};
 ghost use Rattle.u1_base.specs.Causes.{HasCauseOf};
 ghost use Rattle.compaction.specs.Images.{IsOneMore};
 ghost use Rattle.conflicts.specs.State.{History, Text};
@@ -11,8 +12,8 @@ ghost use Rattle.replica_state.specs.Steps.{step_of};
 ghost use Rattle.journal.specs.Journal.{IsExtent};
 ghost use Rattle.journal.specs.declared.layout.TheConstants.{FIRST_FORMAT};
 ghost use Rattle.volume.specs.Store.{IsStore};
-ghost use Rattle.replica_volume.specs.Opening.{LeavesSameOrMoved};
-ghost use Rattle.replica_volume.specs.Placing.{IsSpelled, SaysSteps, StandsWith};
+ghost use Rattle.replica_volume.specs.inner.Opening.{LeavesSameOrMoved};
+ghost use Rattle.replica_volume.specs.inner.Placing.{IsSpelled, SaysSteps, StandsWith};
 
 use crate::placing::{PlaceFault, Standing, put_spelled};
 use crate::replaying::Made;

@@ -7,16 +7,16 @@ ghost use Rattle.disks.specs.Joint.{seen_of};
 ghost use Rattle.volume.specs.Crashes.{OnlyLooks};
 ghost use Rattle.replica_volume.specs.Opening.{IsFormer, IsLeft, LeavesAsBefore};
 ghost use Rattle.replica_volume.specs.Opening.{LeavesOldOrMoved, OpensVolume};
-ghost use Rattle.replica_volume.specs.Replaying.{ReplaysOn};
+ghost use Rattle.replica_volume.specs.inner.Replaying.{ReplaysOn};
 ghost use Rattle.replica_volume.specs.Volume.{IsOpenVolume, disks_in, fault_in};
 
+use crate::Volume;
 use crate::moving::{Finished, bring_forward};
 use crate::placing::Standing;
 use crate::replaying::{Made, replay};
-use crate::{Volume, VolumeFault};
 use disk_model::Disk;
-use disks::{DiskName, Disks};
-use journal::Stored;
+use disks::{DiskName, Disks, OpenFault};
+use journal::{NewEntries, Stored};
 use record_codec::RecordFault;
 use std::alloc::Global;
 use volume::{OpenedImages, open_images};
@@ -29,7 +29,7 @@ impl<D: Disk> Volume<D> {
     /// It may come out longer than its limit, which is not tested. All memory is taken before a
     /// disk is written, and a store of format 2 is not written at all. A crash on the way leaves no
     /// more than one at the start might, or the image that was moved.
-    pub fn open_volume(alloc: Global, disks: Disks<D>) -> Result<Volume<D>, (Disks<D>, VolumeFault)>
+    pub fn open_volume(alloc: Global, disks: Disks<D>) -> Result<Volume<D>, (Disks<D>, OpenFault)>
         ensures reads { (files : Trio (List ℕ))
             × (IsTrue D.tells → files ≡ seen_of (disks_known D.known disks).files)
             × OpensVolume files result }
@@ -38,19 +38,19 @@ impl<D: Disk> Volume<D> {
             → IsLeft (disks_known D.known disks) (disks_known D.known (disks_in result)) }
         ensures looks { IsTrue D.tells → ¬ (IsFormer (seen_of (disks_known D.known disks).files))
             → OnlyLooks (disks_known D.known disks) (disks_known D.known (disks_in result)) }
-        ensures memory { IsTrue D.tells → IsErrOf (fault_in result) VolumeFault.Memory
+        ensures memory { IsTrue D.tells → IsErrOf (fault_in result) OpenFault.Memory
             → OnlyLooks (disks_known D.known disks) (disks_known D.known (disks_in result)) }
         ensures moves { IsTrue D.tells → LeavesOldOrMoved
             (disks_known D.known disks) (disks_known D.known (disks_in result)) }
         ensures any_moment { IsTrue D.tells → LeavesAsBefore
             (disks_known D.known disks) (disks_known D.known (disks_in result)) }
-        ensures cause { HasCauseOf VolumeFault.Disk (disks_known D.known disks).faults
+        ensures cause { HasCauseOf OpenFault.Disk (disks_known D.known disks).faults
             (disks_known D.known (disks_in result)).faults (fault_in result) }
     {
         let mut disks = disks;
         let OpenedImages { side, image } = match open_images(alloc, &mut disks) {
             Ok(opened) => opened,
-            Err(fault) => return Err((disks, VolumeFault::from(fault))),
+            Err(fault) => return Err((disks, fault)),
         };
         let made = match replay_on(alloc, side, &image) {
             Ok(made) => made,
@@ -58,7 +58,7 @@ impl<D: Disk> Volume<D> {
         };
         let finished = match bring_forward(alloc, &mut disks, side, image, made) {
             Ok(finished) => finished,
-            Err(fault) => return Err((disks, VolumeFault::from(fault))),
+            Err(fault) => return Err((disks, OpenFault::from(fault))),
         };
         let Finished { standing, state } = finished;
         let Standing {
@@ -74,17 +74,18 @@ impl<D: Disk> Volume<D> {
             uids,
             state,
             open: true,
+            staged: NewEntries::new(alloc),
         })
     }
 }
 
 // Makes the steps that this image says, which lies on this side.
-fn replay_on(alloc: Global, side: DiskName, image: &Stored) -> Result<Made, VolumeFault>
+fn replay_on(alloc: Global, side: DiskName, image: &Stored) -> Result<Made, OpenFault>
     ensures { ReplaysOn side image.now result }
 {
     match replay(alloc, image) {
         Ok(made) => Ok(made),
-        Err(RecordFault::Bad(place)) => Err(VolumeFault::Damaged { disk: side, place }),
-        Err(RecordFault::Memory) => Err(VolumeFault::Memory),
+        Err(RecordFault::Bad(place)) => Err(OpenFault::Damaged { disk: side, place }),
+        Err(RecordFault::Memory) => Err(OpenFault::Memory),
     }
 }

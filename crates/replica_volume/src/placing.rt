@@ -5,11 +5,11 @@ ghost use Rattle.compaction.specs.Images.{image_of};
 ghost use Rattle.conflicts.specs.State.{History};
 ghost use Rattle.disks.specs.Disks.{disks_known};
 ghost use Rattle.volume.specs.Store.{StandsOnOther};
-ghost use Rattle.replica_volume.specs.Placing.{IsSpelled, LeavesOldOrSpelled, StandsWith};
+ghost use Rattle.replica_volume.specs.inner.Placing.{IsSpelled, LeavesOldOrSpelled, StandsWith};
 
 use compaction::Spelled;
 use disk_model::{Disk, DiskFailed};
-use disks::{DiskName, Disks};
+use disks::{CompactFault, DiskName, Disks, OpenFault};
 use journal::{Header, Journal, NewImage};
 use record_codec::Uids;
 use std::alloc::Global;
@@ -25,7 +25,7 @@ pub(crate) struct Standing {
 }
 
 /// Why an image was not put in place.
-#[derive(Clone, Copy, Debug, PartialEq, Eq)]
+#[derive(Clone, Copy, PartialEq, Eq)]
 pub(crate) enum PlaceFault {
     Disk,
     Memory,
@@ -50,6 +50,34 @@ impl From<DiskFailed> for PlaceFault {
 
     fn from(_failed: DiskFailed) -> PlaceFault {
         PlaceFault::Disk
+    }
+}
+
+impl From<PlaceFault> for OpenFault {
+    ghost use Rattle.std.specs.Prelude.{◌≡◌};
+    ghost use Rattle.replica_volume.specs.Faults.{fault_placing};
+
+    ghost from_gives = { λ fault e. e ≡ fault_placing fault };
+
+    fn from(fault: PlaceFault) -> OpenFault {
+        match fault {
+            PlaceFault::Disk => OpenFault::Disk,
+            PlaceFault::Memory => OpenFault::Memory,
+        }
+    }
+}
+
+impl From<PlaceFault> for CompactFault {
+    ghost use Rattle.std.specs.Prelude.{◌≡◌};
+    ghost use Rattle.replica_volume.specs.Faults.{fault_compacting};
+
+    ghost from_gives = { λ fault e. e ≡ fault_compacting fault };
+
+    fn from(fault: PlaceFault) -> CompactFault {
+        match fault {
+            PlaceFault::Disk => CompactFault::Disk,
+            PlaceFault::Memory => CompactFault::Memory,
+        }
     }
 }
 

@@ -1,5 +1,6 @@
 //! Making the steps that the bodies of an image say.
-ghost use Rattle.std.specs.Prelude.{◌≡◌, ◌≢◌, ◌+◌, ◌<◌, ◌≤◌, ◌^◌, ◌++◌, ◌∷◌, [], IfOk, OnOk, length};
+ghost use Rattle.std.specs.Prelude.{◌≡◌, ◌≢◌, ◌+◌, ◌<◌, ◌≤◌, ◌^◌, ◌++◌, ◌∷◌, [], IfOk, OnOk};
+ghost use Rattle.std.specs.Prelude.{length};
 ghost use Rattle.conflicts.specs.State.{after};
 ghost use Rattle.replica_state.specs.Replayed.{replayed};
 ghost use Rattle.replica_state.specs.Steps.{step_of};
@@ -7,7 +8,8 @@ ghost use Rattle.journal.specs.declared.layout.TheConstants.{FIRST_FORMAT};
 ghost use Rattle.record_codec.specs.Decoding.{Decodes, IsBadWithin, recorded};
 ghost use Rattle.record_codec.specs.Laws.{Says};
 ghost use Rattle.record_fields.specs.Table.{AreNumbered};
-ghost use Rattle.replica_volume.specs.Replaying.{AreMade, DecodesAt, MakesAll, MakesOne, Replays};
+ghost use Rattle.replica_volume.specs.inner.Replaying.{AreMade, DecodesAt, MakesAll, MakesOne};
+ghost use Rattle.replica_volume.specs.inner.Replaying.{Replays};
 ghost use Rattle.replica_volume.specs.Steps.{body_in, state_at};
 
 use journal::{Entry, FIRST_FORMAT, Stored};

@@ -1,7 +1,7 @@
 //! A replica on three disks.
 use disk_model::Disk;
 use disks::{DiskName, Disks};
-use journal::Journal;
+use journal::{Journal, NewEntries};
 use record_codec::Uids;
 use replica_state::State;
 use std::alloc::Global;
@@ -19,6 +19,8 @@ pub struct Volume<D: Disk> {
     pub(crate) uids: Uids,
     pub(crate) state: State,
     pub(crate) open: bool,
+    // The bodies of the steps that are made and not kept on the disks yet.
+    pub(crate) staged: NewEntries,
 }
 
 impl<D: Disk> Volume<D> {

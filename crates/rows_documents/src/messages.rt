@@ -2,10 +2,11 @@
 //!
 //! - `told BODY`: the position that a body tells, and how that is written.
 //! - `info BODY`: what a target says of itself and of its source, and how that is written.
+//! - `kept BODY`: whether a reply says that the told position is kept.
 use crate::meant::{say_bad, say_position, say_text_line};
 use rows::Said;
 use std::alloc::Global;
-use sync_http::{Info, read_info, read_told, write_info, write_told};
+use sync_http::{Info, read_info, read_kept, read_told, write_info, write_told};
 use u1_base::{Bytes, Position};
 
 pub(crate) fn answer(alloc: Global, call: &str, body: &[u8], said: &mut Said) -> Option<()> {
@@ -18,8 +19,17 @@ pub(crate) fn answer(alloc: Global, call: &str, body: &[u8], said: &mut Said) ->
             Ok(info) => say_info(alloc, &info, said),
             Err(fault) => say_bad(alloc, &fault, said),
         },
+        "kept" => match read_kept(alloc, body) {
+            Ok(()) => say_kept(said),
+            Err(fault) => say_bad(alloc, &fault, said),
+        },
         _ => None,
     }
+}
+
+fn say_kept(said: &mut Said) -> Option<()> {
+    said.word("kept").ok()?;
+    said.end().ok()
 }
 
 fn say_told(alloc: Global, at: &Position, said: &mut Said) -> Option<()> {

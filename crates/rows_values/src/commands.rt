@@ -1,5 +1,5 @@
 //! A command as it was read.
-use cli_words::Command;
+use cli_words::{Command, Edit, Online, Show, View};
 use rows::Said;
 use u1_base::{FormOf, Id, Key, Memory, Text, Texts};
 use vector_rev::{Clock, Clocks};
@@ -14,31 +14,31 @@ pub(crate) fn say_command(command: &Command, said: &mut Said) -> Result<(), Memo
 fn name_of(command: &Command) -> &'static str {
     match command {
         Command::Init { .. } => "init",
-        Command::Create { .. } => "create",
-        Command::Get { .. } => "get",
-        Command::Put { .. } => "put",
-        Command::Delete { .. } => "delete",
-        Command::Conflicts { .. } => "conflicts",
-        Command::Resolve { .. } => "resolve",
-        Command::ResolveDeleted { .. } => "resolve-deleted",
-        Command::IndexCreate { .. } => "index-create",
-        Command::IndexDelete { .. } => "index-delete",
-        Command::IndexList => "index-list",
-        Command::Query { .. } => "query",
-        Command::Range { .. } => "range",
-        Command::Keys { .. } => "keys",
-        Command::All { .. } => "all",
-        Command::Changes { .. } => "changes",
-        Command::Info => "info",
+        Command::Edit(Edit::Create { .. }) => "create",
+        Command::Show(Show::Get { .. }) => "get",
+        Command::Edit(Edit::Put { .. }) => "put",
+        Command::Edit(Edit::Delete { .. }) => "delete",
+        Command::Show(Show::Conflicts { .. }) => "conflicts",
+        Command::Edit(Edit::Resolve { .. }) => "resolve",
+        Command::Edit(Edit::ResolveDeleted { .. }) => "resolve-deleted",
+        Command::Edit(Edit::IndexCreate { .. }) => "index-create",
+        Command::Edit(Edit::IndexDelete { .. }) => "index-delete",
+        Command::Show(Show::IndexList) => "index-list",
+        Command::Show(Show::Query { .. }) => "query",
+        Command::Show(Show::Range { .. }) => "range",
+        Command::Show(Show::Keys { .. }) => "keys",
+        Command::Show(Show::All { .. }) => "all",
+        Command::Show(Show::Changes { .. }) => "changes",
+        Command::Show(Show::Info) => "info",
         Command::Compact => "compact",
-        Command::Sync { .. } => "sync",
-        Command::Serve { .. } => "serve",
-        Command::ServeDocs { .. } => "serve-docs",
-        Command::Node { .. } => "node",
+        Command::Online(Online::Sync { .. }) => "sync",
+        Command::Online(Online::Serve { .. }) => "serve",
+        Command::Online(Online::ServeDocs { .. }) => "serve-docs",
+        Command::Online(Online::Node { .. }) => "node",
         Command::Work { .. } => "work",
-        Command::ViewCreate { .. } => "view-create",
-        Command::ViewShow { .. } => "view-show",
-        Command::ViewDelete { .. } => "view-delete",
+        Command::View(View::Create { .. }) => "view-create",
+        Command::View(View::Show { .. }) => "view-show",
+        Command::View(View::Delete { .. }) => "view-delete",
     }
 }
 
@@ -49,58 +49,63 @@ fn say_operands(command: &Command, said: &mut Said) -> Result<(), Memory> {
             say_some(uid, said)?;
             say_limit(*limit, said)
         }
-        Command::Create { id } => say_some(id, said),
-        Command::Get { id, deleted } => {
+        Command::Edit(Edit::Create { id }) => say_some(id, said),
+        Command::Show(Show::Get { id, deleted }) => {
             say_id(id, said)?;
             say_deleted(*deleted, said)
         }
-        Command::Put { id, rev } => {
+        Command::Edit(Edit::Put { id, rev }) => {
             say_id(id, said)?;
             match rev {
                 Some(rev) => say_clock(rev, said),
                 None => Ok(()),
             }
         }
-        Command::Delete { id, rev } => {
+        Command::Edit(Edit::Delete { id, rev }) => {
             say_id(id, said)?;
             say_clock(rev, said)
         }
-        Command::Conflicts { id } => say_id(id, said),
-        Command::Resolve { id, revs } | Command::ResolveDeleted { id, revs } => {
+        Command::Show(Show::Conflicts { id }) => say_id(id, said),
+        Command::Edit(Edit::Resolve { id, revs })
+        | Command::Edit(Edit::ResolveDeleted { id, revs }) => {
             say_id(id, said)?;
             say_clocks(revs, said)
         }
-        Command::All { deleted } => say_deleted(*deleted, said),
-        Command::Changes { after } => said.number(*after),
-        Command::Info | Command::Compact | Command::IndexList => Ok(()),
+        Command::Show(Show::All { deleted }) => say_deleted(*deleted, said),
+        Command::Show(Show::Changes { after }) => said.number(*after),
+        Command::Show(Show::Info) | Command::Compact | Command::Show(Show::IndexList) => Ok(()),
         _ => say_others(command, said),
     }
 }
 
 fn say_others(command: &Command, said: &mut Said) -> Result<(), Memory> {
     match command {
-        Command::IndexCreate { name, exprs: texts }
-        | Command::Query {
-            name,
-            values: texts,
-        } => {
+        Command::Edit(Edit::IndexCreate { name, exprs: texts })
+        | Command::Show(
+            Show::Query {
+                name,
+                values: texts,
+            },
+        ) => {
             say_id(name, said)?;
             say_texts(texts, said)
         }
-        Command::IndexDelete { name }
-        | Command::Keys { name }
-        | Command::ViewShow { name }
-        | Command::ViewDelete { name } => say_id(name, said),
-        Command::Range { name, start, end } => {
+        Command::Edit(Edit::IndexDelete { name })
+        | Command::Show(Show::Keys { name })
+        | Command::View(View::Show { name })
+        | Command::View(View::Delete { name }) => say_id(name, said),
+        Command::Show(Show::Range { name, start, end }) => {
             say_id(name, said)?;
             say_end(start, said)?;
             say_end(end, said)
         }
-        Command::ViewCreate {
-            name,
-            index,
-            values,
-        } => {
+        Command::View(
+            View::Create {
+                name,
+                index,
+                values,
+            },
+        ) => {
             say_id(name, said)?;
             say_id(index, said)?;
             say_texts(values, said)
@@ -112,17 +117,22 @@ fn say_others(command: &Command, said: &mut Said) -> Result<(), Memory> {
 // The commands that meet others, and the one that makes documents.
 fn say_meetings(command: &Command, said: &mut Said) -> Result<(), Memory> {
     match command {
-        Command::Sync { with } => say_address(&with.host, with.port, &with.db, said),
-        Command::Serve { port, count } | Command::ServeDocs { port, count } => {
+        Command::Online(Online::Sync { with }) => say_address(
+            &with.host, with.port, &with.db, said,
+        ),
+        Command::Online(Online::Serve { port, count })
+        | Command::Online(Online::ServeDocs { port, count }) => {
             said.number(u64::from(*port))?;
             said.number(*count)
         }
-        Command::Node {
-            port,
-            with,
-            rounds,
-            between,
-        } => {
+        Command::Online(
+            Online::Node {
+                port,
+                with,
+                rounds,
+                between,
+            },
+        ) => {
             said.number(u64::from(*port))?;
             say_address(&with.host, with.port, &with.db, said)?;
             said.number(*rounds)?;

@@ -3,8 +3,7 @@ use Rattle.std.proofs.Common.{◌≡◌, ℕ, ◌<◌, ◌≤◌, List, [], ◌�
 use Rattle.std.specs.Prelude.{true}
 use Rattle.std.proofs.lemmas.Bool.{cases_lt}
 use Rattle.command_lines.specs.declared.outcome.Outcome.{Outcome}
-use Rattle.conflicts.specs.State.{State}
-use Rattle.replica_core.specs.Replica.{Found as Left}
+use Rattle.replica_core.specs.Replica.{Found as Left, Stored}
 use Rattle.store_commands.specs.Changes.{after_all}
 use Rattle.run_lists.specs.Kept.{CrashAt, found_at, moment_of}
 use Rattle.run_lists.specs.Lists.{Asked, Between, RunInTurn}
@@ -31,7 +30,7 @@ pub stands_after : (ss : List Share) (before after : Between) → AllDo ss befor
 stands_after [] before after d = ap found_at d
 stands_after (s ∷ more) before after d =
     stands_after more d.0 after d.2
-    ∙ ap (λ (f : Left State). after_all f (made more)) d.1.now
+    ∙ ap (λ (f : Left Stored). after_all f (made more)) d.1.now
     ∙ sym (after_both (found_at before) (take s.stood s.changes) (made more))
 
 pub proper_made : (ss : List Share) (before after : Between) → AllDo ss before after
@@ -40,7 +39,7 @@ proper_made [] before after d = tt
 proper_made (s ∷ more) before after d =
     proper_append (found_at before) (take s.stood s.changes) (made more)
     (proper_take (found_at before) s.stood s.changes d.1.proper)
-    (subst (λ (f : Left State). Proper f (made more)) d.1.now (proper_made more d.0 after d.2))
+    (subst (λ (f : Left Stored). Proper f (made more)) d.1.now (proper_made more d.0 after d.2))
 
 -- ---- moments
 
@@ -49,15 +48,15 @@ later_all [] before after d = omega (arith, ap moment_of d)
 later_all (s ∷ more) before after d = omega (arith, d.1.later, later_all more d.0 after d.2)
 
 -- no run changes what a crash before it left
-earlier_all : (ss : List Share) (before after : Between) → AllDo ss before after → (k : ℕ) (o : Left State)
+earlier_all : (ss : List Share) (before after : Between) → AllDo ss before after → (k : ℕ) (o : Left Stored)
     → k < moment_of before → CrashAt after k o → CrashAt before k o
 earlier_all [] before after d k o early crash = subst (λ (m : Between). CrashAt m k o) d crash
 earlier_all (s ∷ more) before after d k o early crash =
     d.1.earlier k o early (earlier_all more d.0 after d.2 k o (omega (arith, early, d.1.later)) crash)
 
-pub may_leave : (ss : List Share) (before after : Between) (P : Left State → Type 0) → AllDo ss before after
-    → ((o : Left State) → CrashAt before (moment_of before) o → P o)
-    → (k : ℕ) (o : Left State) → moment_of before ≤ k → k ≤ moment_of after → CrashAt after k o
+pub may_leave : (ss : List Share) (before after : Between) (P : Left Stored → Type 0) → AllDo ss before after
+    → ((o : Left Stored) → CrashAt before (moment_of before) o → P o)
+    → (k : ℕ) (o : Left Stored) → moment_of before ≤ k → k ≤ moment_of after → CrashAt after k o
     → MayLeave P k (found_at before) ss o
 may_leave [] before after P d start k o from to crash =
     let is : k ≡ moment_of before = omega (arith, from, to, ap moment_of d) in
@@ -69,7 +68,7 @@ may_leave (s ∷ more) before after P d start k o from to crash = ⊎_elim
     ))
     (λ (late : moment_of d.0 ≤ k). inr (
       omega (arith, late, d.1.end),
-      subst (λ (f : Left State). MayLeave (LeavesBehind P (found_at before) s) k f more o) d.1.now
+      subst (λ (f : Left Stored). MayLeave (LeavesBehind P (found_at before) s) k f more o) d.1.now
           (may_leave more d.0 after (LeavesBehind P (found_at before) s) d.2
           (behind s before d.0 P d.1 start) k o late to crash),
     ))

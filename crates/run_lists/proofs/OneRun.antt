@@ -5,19 +5,13 @@ use Rattle.cli_words.specs.Words.{command_in}
 use Rattle.cli_words.specs.declared.command.Command.{Command}
 use Rattle.cli_words.specs.declared.fault.WordsFault.{WordsFault}
 use Rattle.command_lines.specs.declared.outcome.Outcome.{Outcome}
-use Rattle.command_lines.specs.declared.outcome.Outcome.TheVariants.{Done, Usage, BadContent, Refused, Damaged}
-use Rattle.command_lines.specs.declared.outcome.Outcome.TheVariants.{StoreFull, DiskFault, SourceFault, SinkFault}
-use Rattle.command_lines.specs.declared.outcome.Outcome.TheVariants.{LinkFault, AcceptFault, Peer, BrokenReply}
-use Rattle.command_lines.specs.declared.outcome.Outcome.TheVariants.{LogCheck, Memory}
-use Rattle.conflicts.specs.State.{State}
 use Rattle.link.specs.Streams.{Input}
 use Rattle.replica_cli.specs.Run.{Runs, RunsAs, RunsCommand, seen_in}
 use Rattle.replica_cli.specs.Store.{store_seen}
-use Rattle.replica_core.specs.Replica.{Found as Left}
+use Rattle.replica_core.specs.Replica.{Found as Left, Stored}
 use Rattle.replica_volume.specs.Volume.{moments}
-use Rattle.store_commands.specs.Answer.{changes_of}
 use Rattle.store_commands.specs.Changes.{Change, IsAfterSome, IsSettled, after_all}
-use Rattle.store_commands.specs.Deeds.{Deed}
+use Rattle.store_commands.specs.Deeds.{Answer}
 use Rattle.store_commands.specs.Found.{Found, Store, in_short}
 use Rattle.store_commands.specs.Leaves.{Leaves}
 use Rattle.store_commands.specs.Run.{Decides, IsAnswered, IsUnread}
@@ -33,35 +27,21 @@ pub record Does (s : Share) (before after : Between) : Type 0 where
   pub now : found_at after ≡ after_all (found_at before) (take s.stood s.changes)
   pub end : s.end ≡ moment_of after
   pub later : moment_of before ≤ moment_of after
-  pub earlier : (k : ℕ) (o : Left State) → k < moment_of before → CrashAt after k o → CrashAt before k o
-  pub since : (k : ℕ) (o : Left State) → moment_of before ≤ k → k ≤ moment_of after → CrashAt after k o
+  pub earlier : (k : ℕ) (o : Left Stored) → k < moment_of before → CrashAt after k o → CrashAt before k o
+  pub since : (k : ℕ) (o : Left Stored) → moment_of before ≤ k → k ≤ moment_of after → CrashAt after k o
       → CrashAt before (moment_of before) o ⊎ IsAfterSome (found_at before) s.changes s.reached o
-  pub behind : s.settled ≡ true → (o : Left State) → CrashAt after (moment_of after) o
+  pub behind : s.settled ≡ true → (o : Left Stored) → CrashAt after (moment_of after) o
       → o ≡ after_all (found_at before) (take s.stood s.changes)
 
 -- ---- a command
 
-module _ (found : Found) (a : Result Deed Outcome) (unread : Type 0) (stood reached : ℕ) (before after : Store) where
+module _ (found : Found) (a : Answer) (unread : Type 0) (stood reached : ℕ) (before after : Store) where
   abbrev Rests : Type 0
-  Rests = IsSettled (after_all (in_short found) (take stood (changes_of a))) after
+  Rests = IsSettled (after_all (in_short found) (take stood a.changes)) after
 
   settled : (decided : Outcome) → Leaves found true a unread stood reached before after decided
       → settles decided ≡ true → Rests
-  settled Done l e = l.3 (inl refl)
-  settled (Usage kind) l e = l.1 (inl refl)
-  settled (BadContent fault) l e = l.1 (inl refl)
-  settled (Refused refusal) l e = l.1 (inl refl)
-  settled (Damaged disk place) l e = l.1 (inl refl)
-  settled (StoreFull need limit) l e = l.2 (inl refl)
-  settled DiskFault l e = absurd (true≢false (sym e))
-  settled SourceFault l e = l.2 (inl refl)
-  settled SinkFault l e = absurd l
-  settled LinkFault l e = absurd l
-  settled AcceptFault l e = absurd l
-  settled (Peer status) l e = absurd l
-  settled (BrokenReply line) l e = absurd l
-  settled (LogCheck mine theirs) l e = absurd l
-  settled Memory l e = l.1 (inl refl)
+  settled decided l e = l.rest (λ is. true≢false (sym (rw is at e))) (inl refl)
 
   pub if_settled : (opened : Bool) (decided : Outcome)
       → Leaves found opened a unread stood reached before after decided → opened && settles decided ≡ true → Rests
@@ -78,13 +58,13 @@ module _ (command : Command) (seed : ℕ) (before after : Between) (input read :
   told = ap in_short (sym decides.told)
 
   abbrev changes : List Change
-  changes = changes_of x.runs.a
+  changes = x.runs.a.changes
 
   proper_answer : IsAnswered decides.o decides.opened decides.read x.runs.a x.runs.decided
       → Proper (in_short decides.o.found) changes
-  proper_answer (inl has) = subst (λ (a : Result Deed Outcome). Proper (in_short decides.o.found) (changes_of a))
+  proper_answer (inl has) = subst (λ (a : Answer). Proper (in_short decides.o.found) a.changes)
       (sym has.is) (answered decides.o)
-  proper_answer (inr none) = subst (λ (a : Result Deed Outcome). Proper (in_short decides.o.found) (changes_of a))
+  proper_answer (inr none) = subst (λ (a : Answer). Proper (in_short decides.o.found) a.changes)
       (sym none.is) tt
 
   pub does_command : Does (share_as true (Ok command) seed (with_input before input) (with_input after read) outcome x)
@@ -93,17 +73,17 @@ module _ (command : Command) (seed : ℕ) (before after : Between) (input read :
       let does = decides.does in
       let passes = does.passes in
       record {
-        proper = subst (λ (f : Left State). Proper f changes) told (proper_answer decides.answers);
-        now = passes.now.0 ∙ ap (λ (f : Left State). after_all f (take does.stood changes)) told;
+        proper = subst (λ (f : Left Stored). Proper f changes) told (proper_answer decides.answers);
+        now = passes.now ∙ ap (λ (f : Left Stored). after_all f (take does.stood changes)) told;
         end = refl;
         later = passes.later;
         earlier = passes.earlier;
-        since = λ k o from to crash. subst (λ (f : Left State). CrashAt before (moment_of before) o
+        since = λ k o from to crash. subst (λ (f : Left Stored). CrashAt before (moment_of before) o
             ⊎ IsAfterSome f changes does.reached o) told (passes.since k o from to crash);
         behind = λ e o crash. if_settled decides.o.found x.runs.a
             (IsUnread decides.o input read) does.stood does.reached (store_seen true before.disks)
             (store_seen true after.disks) decides.opened x.runs.decided does.leaves e o crash
-            ∙ ap (λ (f : Left State). after_all f (take does.stood changes)) told;
+            ∙ ap (λ (f : Left Stored). after_all f (take does.stood changes)) told;
       }
 
 -- ---- no command
@@ -148,16 +128,16 @@ does_once a before after outcome x = does_words a.words a.seed before after a.in
 
 -- ---- what a crash leaves, where P says what one might have left at its start
 
-pub within : (s : Share) (before after : Between) (P : Left State → Type 0) → Does s before after
-    → ((o : Left State) → CrashAt before (moment_of before) o → P o)
-    → (k : ℕ) (o : Left State) → moment_of before ≤ k → k ≤ moment_of after → CrashAt after k o
+pub within : (s : Share) (before after : Between) (P : Left Stored → Type 0) → Does s before after
+    → ((o : Left Stored) → CrashAt before (moment_of before) o → P o)
+    → (k : ℕ) (o : Left Stored) → moment_of before ≤ k → k ≤ moment_of after → CrashAt after k o
     → LeavesIn P (found_at before) s o
 within s before after P d start k o from to crash =
     ⊎_elim (λ early. inl (start o early)) (λ some. inr some) (d.since k o from to crash)
 
-pub behind : (s : Share) (before after : Between) (P : Left State → Type 0) → Does s before after
-    → ((o : Left State) → CrashAt before (moment_of before) o → P o)
-    → (o : Left State) → CrashAt after (moment_of after) o → LeavesBehind P (found_at before) s o
+pub behind : (s : Share) (before after : Between) (P : Left Stored → Type 0) → Does s before after
+    → ((o : Left Stored) → CrashAt before (moment_of before) o → P o)
+    → (o : Left Stored) → CrashAt after (moment_of after) o → LeavesBehind P (found_at before) s o
 behind s before after P d start o crash = by_case s.settled refl
   where
     by_case : (b : Bool) → s.settled ≡ b → LeavesBehind P (found_at before) s o

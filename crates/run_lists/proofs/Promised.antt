@@ -3,8 +3,7 @@ use Rattle.std.proofs.Common.{◌≡◌, Bool, true, false, true≢false, List, 
 use Rattle.std.specs.Prelude.{IsTrue}
 use Rattle.command_lines.specs.declared.outcome.Outcome.{Outcome}
 use Rattle.conflicts.specs.Laws.{MembersAreKept, StateGoesOn}
-use Rattle.conflicts.specs.State.{State}
-use Rattle.replica_core.specs.Replica.{Found as Left}
+use Rattle.replica_core.specs.Replica.{Found as Left, Stored}
 use Rattle.replica_reads.specs.Answers.{AnswersAreFilters}
 use Rattle.store_commands.specs.Changes.{Change, after_all}
 use Rattle.run_lists.specs.Kept.{GoesOn, found_at}
@@ -17,12 +16,12 @@ use Rattle.run_lists.proofs.Proper.{Proper, after_both, goes, proper_append, pro
 use Rattle.run_lists.proofs.Showing.{answers_in_turn}
 
 module _ (goes_on : StateGoesOn) (members : MembersAreKept) where
-  stands : (found now : Left State) (so_far : List Change) → Proper found so_far → now ≡ after_all found so_far
+  stands : (found now : Left Stored) (so_far : List Change) → Proper found so_far → now ≡ after_all found so_far
       → GoesOn found so_far now
   stands found now so_far p e =
-      subst (λ (f : Left State). GoesOn found so_far f) (sym e) (goes goes_on members found so_far p)
+      subst (λ (f : Left Stored). GoesOn found so_far f) (sym e) (goes goes_on members found so_far p)
 
-  finds_in_turn : (found : Left State) (so_far : List Change) (list : List Asked) (before after : Between)
+  finds_in_turn : (found : Left Stored) (so_far : List Change) (list : List Asked) (before after : Between)
       (os : List Outcome) (x : RunInTurn true list before after os)
       → Proper found so_far → found_at before ≡ after_all found so_far
       → FindsInTurn found so_far true list before after os x
@@ -36,9 +35,9 @@ module _ (goes_on : StateGoesOn) (members : MembersAreKept) where
         stands found (found_at before) so_far p e,
         finds_in_turn found (so_far ++ first) more x.0 after os x.2
             (proper_append found so_far first p
-            (subst (λ (f : Left State). Proper f first) e
+            (subst (λ (f : Left Stored). Proper f first) e
             (proper_take (found_at before) s.stood s.changes does.proper)))
-            (does.now ∙ ap (λ (f : Left State). after_all f first) e ∙ sym (after_both found so_far first)),
+            (does.now ∙ ap (λ (f : Left Stored). after_all f first) e ∙ sym (after_both found so_far first)),
       )
 
   finds_if_told : (tells : Bool) (list : List Asked) (before after : Between) (os : List Outcome)

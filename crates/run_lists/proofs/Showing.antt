@@ -9,10 +9,13 @@ use Rattle.std.specs.Ordering.{is_lt}
 use Rattle.u1_base.specs.Ids.{id_cmp}
 use Rattle.cli_words.specs.Words.{command_in}
 use Rattle.cli_words.specs.declared.command.Command.{Command}
-use Rattle.cli_words.specs.declared.command.Command.TheVariants.{Query, Range, Keys}
+use Rattle.cli_words.specs.declared.command.Command.TheVariants.{Show}
+use Rattle.cli_words.specs.declared.command.Show.TheVariants.{Query, Range, Keys}
 use Rattle.cli_words.specs.declared.fault.WordsFault.{WordsFault}
+use Rattle.command_lines.specs.Endings.{ending_of}
 use Rattle.command_lines.specs.LastLines.{last_line}
 use Rattle.command_lines.specs.Lines.{lines_text}
+use Rattle.command_lines.specs.Outcomes.{index_end, put_end, refusal_end, resolve_end}
 use Rattle.command_lines.specs.declared.outcome.Outcome.{Outcome}
 use Rattle.command_lines.specs.declared.outcome.Outcome.TheVariants.{Done, Memory}
 use Rattle.conflicts.specs.State.{State, Text}
@@ -25,20 +28,26 @@ use Rattle.query_range.specs.declared.pattern.Part.{Part}
 use Rattle.replica_cli.specs.Run.{Runs, RunsAs, RunsCommand}
 use Rattle.replica_cli.specs.Store.{found_in, store_seen}
 use Rattle.replica_core.specs.Commands.Documents.{document_lines}
+use Rattle.replica_core.specs.CallsFaults.{index_failure, put_failure, resolve_failure}
 use Rattle.replica_core.specs.Commands.Effects.{Effect, Keyed, Line, Refusal, prints}
+use Rattle.replica_core.specs.Commands.Effects.{Edit as OfEdit, Resolve as OfResolve, OfIndex, Query as OfQuery}
+use Rattle.replica_core.specs.declared.fault.CommitFault.{CommitFault}
+use Rattle.replica_core.specs.declared.fault.CommitFault.TheVariants as commit
 use Rattle.replica_core.specs.Commands.Indexes.{answer_effect, keys_effect, of_index, query_effect, range_effect}
 use Rattle.replica_core.specs.Replica.{Stands as LeftStands}
 use Rattle.replica_reads.specs.Answers.{AnswersAreFilters, answer_by, keys_by}
 use Rattle.replica_reads.specs.Indexes.{for_pattern, queried, ranged}
 use Rattle.replica_reads.specs.Patterns.{bad_glob, has_width, unless_at}
 use Rattle.replica_reads.specs.declared.fault.QueryFault.{QueryFault}
-use Rattle.replica_reads.specs.declared.fault.QueryFault.TheVariants.{WrongWidth}
+use Rattle.replica_reads.specs.declared.fault.QueryFault.TheVariants.{WrongWidth, BadGlob, Memory as Starved}
 use Rattle.replica_state.specs.Held.{Held, Lists, lists_of, meaning, meaning_of}
 use Rattle.replica_state.specs.Keyed.{Docs, keyed}
-use Rattle.store_commands.specs.Answer.{Occasion, answer, is_opened, opens, opens_for, text_of}
-use Rattle.store_commands.specs.Deeds.{Deed, and_then, over_replica}
+use Rattle.store_commands.proofs.Called.{index_ends, put_ends, resolve_ends}
+use Rattle.store_commands.specs.Answer.{Occasion, answer, is_opened, opens, opens_for}
+use Rattle.store_commands.specs.inner.Calls.{EndsSo}
+use Rattle.store_commands.specs.Deeds.{Answer, go_on, over_replica}
 use Rattle.store_commands.specs.Found.{Blank, Damaged, Found, HasLists, IsTold, Stands, Store, in_short}
-use Rattle.store_commands.specs.Leaves.{IsDeed, Leaves}
+use Rattle.store_commands.specs.Leaves.{Leaves}
 use Rattle.store_commands.specs.Prints.{Prints, printed}
 use Rattle.store_commands.specs.Run.{BreaksOff, HasAnswer, IsAnswered, IsUnread}
 use Rattle.run_lists.specs.Kept.{found_at}
@@ -56,6 +65,22 @@ below_keyed exprs id (d ∷ docs) = ap (λ (b : Bool). is_lt (id_cmp id d.0) && 
 sorted_keyed : (exprs : List Text) (docs : Docs) → is_sorted id_cmp (keyed exprs docs) ≡ is_sorted id_cmp docs
 sorted_keyed exprs [] = refl
 sorted_keyed exprs (d ∷ docs) = ap₂ (λ (a b : Bool). a && b) (below_keyed exprs d.0 docs) (sorted_keyed exprs docs)
+
+-- ---- what is refused is not done
+
+no_end : (found : Option CommitFault) (end : Outcome) → EndsSo found end → end ≡ Done → ⊥
+no_end None end is e = cc (sym is.1 ∙ e)
+no_end (Some (commit.Full need limit)) end is e = cc (sym is ∙ e)
+no_end (Some commit.Disk) end is e = cc (sym is ∙ e)
+no_end (Some commit.Memory) end is e = cc (sym is ∙ e)
+
+not_done : (refusal : Refusal) → refusal_end refusal ≡ Done → ⊥
+not_done (OfEdit fault) e = no_end (put_failure fault) (put_end fault) (put_ends fault) e
+not_done (OfResolve fault) e = no_end (resolve_failure fault) (resolve_end fault) (resolve_ends fault) e
+not_done (OfIndex fault) e = no_end (index_failure fault) (index_end fault) (index_ends fault) e
+not_done (OfQuery WrongWidth) e = cc e
+not_done (OfQuery (BadGlob place)) e = cc e
+not_done (OfQuery Starved) e = cc e
 
 -- ---- what an answer has where it is no refusal
 
@@ -99,9 +124,9 @@ module _ (P : List Line → Type 0) where
   Spells text = (lines : List Line) × (text ≡ lines_text lines) × P lines
 
   of_effect : (r : Result Effect Refusal) → ((effect : Effect) → r ≡ Ok effect → P effect.lines)
-      → (deed : Deed) → over_replica r ≡ Ok deed → Spells deed.text
-  of_effect (Ok effect) p deed e = (effect.lines, sym (ap text_of e), p effect refl)
-  of_effect (Err refusal) p deed e = absurd (cc e)
+      → (over_replica r).outcome ≡ Done → Spells (over_replica r).text
+  of_effect (Ok effect) p e = (effect.lines, refl, p effect refl)
+  of_effect (Err refusal) p e = absurd (not_done refusal e)
 
 -- ---- the three questions, over the lists of a state
 
@@ -132,10 +157,10 @@ module _ (filters : AnswersAreFilters) (held : Held) (name : Text) where
     are = refl;
   }
 
-  pub query_shows : (values : List Text) (deed : Deed)
-      → over_replica (query_effect (lists_of held) name values) ≡ Ok deed
-      → Spells (λ lines. ShowsDocuments (meaning held) name (meets (map part_of values)) lines) deed.text
-  query_shows values deed e =
+  pub query_shows : (values : List Text) → (over_replica (query_effect (lists_of held) name values)).outcome ≡ Done
+      → Spells (λ lines. ShowsDocuments (meaning held) name (meets (map part_of values)) lines)
+      (over_replica (query_effect (lists_of held) name values)).text
+  query_shows values e =
       let wanted = meets (map part_of values) in
       let P = λ (lines : List Line). ShowsDocuments (meaning held) name wanted lines in
       of_effect P (query_effect (lists_of held) name values)
@@ -144,12 +169,13 @@ module _ (filters : AnswersAreFilters) (held : Held) (name : Text) where
       (λ ids q. filtered wanted exprs ids there
       (of_pattern (length values == length exprs) (bad_glob (map part_of values)) (map part_of values)
       (λ wanted. answer_by wanted (keyed exprs docs)) ids q))))
-      deed e
+      e
 
-  pub range_shows : (start end : Option Key) (deed : Deed)
-      → over_replica (range_effect (lists_of held) name start end) ≡ Ok deed
-      → Spells (λ lines. ShowsDocuments (meaning held) name (is_between start end) lines) deed.text
-  range_shows start end deed e =
+  pub range_shows : (start end : Option Key)
+      → (over_replica (range_effect (lists_of held) name start end)).outcome ≡ Done
+      → Spells (λ lines. ShowsDocuments (meaning held) name (is_between start end) lines)
+      (over_replica (range_effect (lists_of held) name start end)).text
+  range_shows start end e =
       let wanted = is_between start end in
       let P = λ (lines : List Line). ShowsDocuments (meaning held) name wanted lines in
       of_effect P (range_effect (lists_of held) name start end)
@@ -158,11 +184,11 @@ module _ (filters : AnswersAreFilters) (held : Held) (name : Text) where
       (λ ids q. filtered wanted exprs ids there
       (of_range (has_width (length exprs) start && has_width (length exprs) end)
       (answer_by wanted (keyed exprs docs)) ids q))))
-      deed e
+      e
 
-  pub keys_shows : (deed : Deed) → over_replica (keys_effect (lists_of held) name) ≡ Ok deed
-      → Spells (λ lines. ShowsKeys (meaning held) name lines) deed.text
-  keys_shows deed e =
+  pub keys_shows : (over_replica (keys_effect (lists_of held) name)).outcome ≡ Done
+      → Spells (λ lines. ShowsKeys (meaning held) name lines) (over_replica (keys_effect (lists_of held) name)).text
+  keys_shows e =
       let P = λ (lines : List Line). ShowsKeys (meaning held) name lines in
       of_effect P (keys_effect (lists_of held) name)
       (of_name P ((meaning held).index name) (λ exprs. prints (map Keyed (keys_by (keyed exprs docs))))
@@ -172,17 +198,17 @@ module _ (filters : AnswersAreFilters) (held : Held) (name : Text) where
         filter = filters.keys (keyed exprs docs) (in_order exprs);
         are = refl;
       })))
-      deed e
+      e
 
 -- ---- a run that was done
 
 -- it printed the text of what it answered
-printed_done : (a : Result Deed Outcome) (decided : Outcome) (before after : Output)
+printed_done : (a : Answer) (decided : Outcome) (before after : Output)
     → Prints (printed a decided) before after decided Done
-    → (decided ≡ Done) × Appends before.taken after.taken (text_of a)
+    → (decided ≡ Done) × Appends before.taken after.taken a.text
 printed_done a decided before after (inl x) = (
   sym x.0,
-  subst (λ (text : List ℕ). Appends before.taken after.taken text) (append-nil (text_of a))
+  subst (λ (text : List ℕ). Appends before.taken after.taken text) (append-nil a.text)
       (subst (λ (o : Outcome). Appends before.taken after.taken (printed a o)) (sym x.0) x.1.taken),
 )
 printed_done a decided before after (inr (inl x)) = absurd (cc x.0)
@@ -194,30 +220,41 @@ never_memory text before after (inl x) = absurd (cc x.0)
 never_memory text before after (inr (inl x)) = absurd (cc x.0)
 never_memory text before after (inr (inr x)) = absurd (cc x.0)
 
-has_answer : (o : Occasion) (opened : Bool) (read : List ℕ) (a : Result Deed Outcome) (decided : Outcome)
+has_answer : (o : Occasion) (opened : Bool) (read : List ℕ) (a : Answer) (decided : Outcome)
     → decided ≡ Done → IsAnswered o opened read a decided → HasAnswer o opened a
 has_answer o opened read a decided e (inl has) = has
-has_answer o opened read a decided e (inr none) = absurd (subst (λ (r : Outcome). BreaksOff r) e none.broke)
+has_answer o opened read a decided e (inr none) =
+    absurd (subst (λ (r : Outcome). BreaksOff (ending_of r)) e none.broke)
 
-has_deed : (found : Found) (opened : Bool) (a : Result Deed Outcome) (unread : Type 0) (stood reached : ℕ)
+as_answered : (found : Found) (opened : Bool) (a : Answer) (unread : Type 0) (stood reached : ℕ)
     (before after : Store) (decided : Outcome)
-    → decided ≡ Done → Leaves found opened a unread stood reached before after decided → IsDeed a
-has_deed found opened a unread stood reached before after decided e leaves =
-    (subst (λ (r : Outcome). Leaves found opened a unread stood reached before after r) e leaves).0
+    → decided ≡ Done → Leaves found opened a unread stood reached before after decided → a.outcome ≡ Done
+as_answered found opened a unread stood reached before after decided e leaves =
+    (subst (λ (r : Outcome). Leaves found opened a unread stood reached before after r) e leaves).cause.0
 
 -- a command that goes on over what stands does so over the lists of a state
-over_lists : (found : Found) (lists : Lists) (next : Lists → Result Deed Outcome) (deed : Deed)
+record OverLists (found : Found) (a : Answer) (next : Lists → Answer) : Type 0 where
+  held : Held
+  limit : ℕ
+  short : in_short found ≡ LeftStands (record { state = meaning held; limit = limit })
+  is : (next (lists_of held)).outcome ≡ Done
+  text : a.text ≡ (next (lists_of held)).text
+
+over_lists : (found : Found) (lists : Lists) (next : Lists → Answer)
     → (is_opened (opens false found lists) ≡ true → HasLists found lists)
-    → and_then (opens false found lists) next ≡ Ok deed
-    → (held : Held) × (in_short found ≡ LeftStands (meaning held)) × (next (lists_of held) ≡ Ok deed)
-over_lists Blank lists next deed listed e = absurd (cc e)
-over_lists (Damaged disk place) lists next deed listed e = absurd (cc e)
-over_lists (Stands x) lists next deed listed e =
-    let has = listed refl in (
-      has.0,
-      ap (λ (s : State). LeftStands s) (sym has.1),
-      subst (λ (l : Lists). next l ≡ Ok deed) has.2 e,
-    )
+    → (go_on (opens false found lists) next).outcome ≡ Done
+    → OverLists found (go_on (opens false found lists) next) next
+over_lists Blank lists next listed e = absurd (cc e)
+over_lists (Damaged disk place) lists next listed e = absurd (cc e)
+over_lists (Stands x) lists next listed e =
+    let has = listed refl in
+    record {
+      held = has.0;
+      limit = x.limit;
+      short = ap (λ (s : State). LeftStands (record { state = s; limit = x.limit })) (sym has.1);
+      is = subst (λ (l : Lists). (next l).outcome ≡ Done) has.2 e;
+      text = ap (λ (l : Lists). (next l).text) has.2;
+    }
 
 told_so : (tells : Bool) (there found : Found) → IsTold (if tells then Some there else None) found → IsTrue tells
     → in_short there ≡ in_short found
@@ -225,18 +262,18 @@ told_so true there found t told = ap in_short t
 told_so false there found t told = absurd (true≢false (sym told))
 
 -- it was done over the lists of the state that stood, and printed its text
-record WasDone (tells : Bool) (before after : Between) (next : Lists → Result Deed Outcome) : Type 0 where
+record WasDone (tells : Bool) (before after : Between) (next : Lists → Answer) : Type 0 where
   held : Held
-  stood : IsTrue tells → found_at before ≡ LeftStands (meaning held)
-  deed : Deed
-  is : next (lists_of held) ≡ Ok deed
-  printed_so : Appends before.output.taken after.output.taken deed.text
+  limit : ℕ
+  stood : IsTrue tells → found_at before ≡ LeftStands (record { state = meaning held; limit = limit })
+  is : (next (lists_of held)).outcome ≡ Done
+  printed_so : Appends before.output.taken after.output.taken (next (lists_of held)).text
 
 module _ (tells : Bool) (command : Command) (seed : ℕ) (before after : Between) (input read : Input)
     (x : RunsCommand tells command seed (with_input before input) (with_input after read) Done)
-    (next : Lists → Result Deed Outcome)
+    (next : Lists → Answer)
     (opened_by : (o : Occasion) → opens_for command o.found o.lists ≡ opens false o.found o.lists)
-    (answers : (o : Occasion) → answer (record o { command = command }) ≡ and_then (opens false o.found o.lists) next)
+    (answers : (o : Occasion) → answer (record o { command = command }) ≡ go_on (opens false o.found o.lists) next)
   where
     was_done : WasDone tells before after next
     was_done =
@@ -244,32 +281,34 @@ module _ (tells : Bool) (command : Command) (seed : ℕ) (before after : Between
         let o = d.o in
         let p = printed_done x.runs.a x.runs.decided before.output after.output x.runs.prints in
         let has = has_answer o d.opened d.read x.runs.a x.runs.decided p.0 d.answers in
-        let deed = has_deed o.found d.opened x.runs.a (IsUnread o input read) d.does.stood d.does.reached
+        let outcome = as_answered o.found d.opened x.runs.a (IsUnread o input read) d.does.stood d.does.reached
         (store_seen tells before.disks) (store_seen tells after.disks) x.runs.decided p.0 d.does.leaves in
-        let is : and_then (opens false o.found o.lists) next ≡ Ok deed.0 =
-        sym (answers o) ∙ ap (λ (c : Command). answer (record o { command = c })) (sym d.is_command)
-        ∙ sym has.is ∙ deed.1 in
-        let over = over_lists o.found o.lists next deed.0
+        let same : go_on (opens false o.found o.lists) next ≡ x.runs.a =
+        sym (answers o) ∙ ap (λ (c : Command). answer (record o { command = c })) (sym d.is_command) ∙ sym has.is in
+        let over = over_lists o.found o.lists next
         (λ there. has.lists (ap (λ (c : Command). is_opened (opens_for c o.found o.lists)) d.is_command
-        ∙ ap (λ (r : Result Lists Outcome). is_opened r) (opened_by o) ∙ there)) is in
+        ∙ ap (λ (r : Result Lists Outcome). is_opened r) (opened_by o) ∙ there))
+        (ap (λ (a : Answer). a.outcome) same ∙ outcome) in
         record {
-          held = over.0;
-          stood = λ told. told_so tells (found_in (seen_of before.disks.files)) o.found d.told told ∙ over.1;
-          deed = deed.0;
-          is = over.2;
+          held = over.held;
+          limit = over.limit;
+          stood = λ told. told_so tells (found_in (seen_of before.disks.files)) o.found d.told told ∙ over.short;
+          is = over.is;
           printed_so = subst (λ (text : List ℕ). Appends before.output.taken after.output.taken text)
-              (ap text_of deed.1) p.1;
+              (ap (λ (a : Answer). a.text) (sym same) ∙ over.text) p.1;
         }
 
 -- so it showed what these lists show
-showed : (tells : Bool) (before after : Between) (next : Lists → Result Deed Outcome)
+showed : (tells : Bool) (before after : Between) (next : Lists → Answer)
     (Shows : State → List Line → Type 0)
-    → ((held : Held) (deed : Deed) → next (lists_of held) ≡ Ok deed → Spells (Shows (meaning held)) deed.text)
+    → ((held : Held) → (next (lists_of held)).outcome ≡ Done
+    → Spells (Shows (meaning held)) (next (lists_of held)).text)
     → WasDone tells before after next → Showed tells before after Shows
 showed tells before after next Shows spelled done =
-    let spells = spelled done.held done.deed done.is in
+    let spells = spelled done.held done.is in
     record {
       state = meaning done.held;
+      limit = done.limit;
       stood = done.stood;
       lines = spells.0;
       printed = subst (λ (text : List ℕ). Appends before.output.taken after.output.taken text) spells.1 done.printed_so;
@@ -282,21 +321,21 @@ module _ (filters : AnswersAreFilters) where
   showed_by : (tells : Bool) (command : Command) (seed : ℕ) (before after : Between) (input read : Input)
       → RunsCommand tells command seed (with_input before input) (with_input after read) Done
       → ShowedBy tells command before after
-  showed_by tells (Query name values) seed before after input read x =
+  showed_by tells (Show (Query name values)) seed before after input read x =
       let next = λ (l : Lists). over_replica (query_effect l name values) in
       showed tells before after next (λ s lines. ShowsDocuments s name (meets (map part_of values)) lines)
-      (λ held deed e. query_shows filters held name values deed e)
-      (was_done tells (Query name values) seed before after input read x next (λ o. refl) (λ o. refl))
-  showed_by tells (Range name start end) seed before after input read x =
+      (λ held e. query_shows filters held name values e)
+      (was_done tells (Show (Query name values)) seed before after input read x next (λ o. refl) (λ o. refl))
+  showed_by tells (Show (Range name start end)) seed before after input read x =
       let next = λ (l : Lists). over_replica (range_effect l name start end) in
       showed tells before after next (λ s lines. ShowsDocuments s name (is_between start end) lines)
-      (λ held deed e. range_shows filters held name start end deed e)
-      (was_done tells (Range name start end) seed before after input read x next (λ o. refl) (λ o. refl))
-  showed_by tells (Keys name) seed before after input read x =
+      (λ held e. range_shows filters held name start end e)
+      (was_done tells (Show (Range name start end)) seed before after input read x next (λ o. refl) (λ o. refl))
+  showed_by tells (Show (Keys name)) seed before after input read x =
       let next = λ (l : Lists). over_replica (keys_effect l name) in
       showed tells before after next (λ s lines. ShowsKeys s name lines)
-      (λ held deed e. keys_shows filters held name deed e)
-      (was_done tells (Keys name) seed before after input read x next (λ o. refl) (λ o. refl))
+      (λ held e. keys_shows filters held name e)
+      (was_done tells (Show (Keys name)) seed before after input read x next (λ o. refl) (λ o. refl))
   showed_by tells command seed before after input read x = tt
 
   of_words : (tells : Bool) (words : List (List ℕ)) (seed : ℕ) (before after : Between) (input read : Input)

@@ -2,11 +2,10 @@
 use Rattle.std.proofs.Common.{◌≡◌, ◌⊎◌, ℕ, ◌≤◌, Bool, true, false, List, [], ◌∷◌, ◌++◌, refl, sym, ◌∙◌, ap, subst, inl}
 use Rattle.std.proofs.Common.{inr, append_assoc, append-nil}
 use Rattle.conflicts.specs.Laws.{MembersAreKept, StateGoesOn}
-use Rattle.conflicts.specs.State.{State}
 use Rattle.disks.specs.Joint.{AreCrashImages, AreSettled, JointMoment, moment_at, seen_of}
 use Rattle.disks.proofs.Runs.{settled_images}
 use Rattle.replica_cli.specs.Told.{short_images}
-use Rattle.replica_core.specs.Replica.{Found as Left}
+use Rattle.replica_core.specs.Replica.{Found as Left, Stored}
 use Rattle.replica_volume.specs.Settled.{now_at}
 use Rattle.replica_volume.specs.Store.{opens_as}
 use Rattle.store_commands.specs.Changes.{Change}
@@ -20,7 +19,7 @@ use Rattle.run_lists.proofs.Keeping.{keeps_all, none_lasts}
 use Rattle.run_lists.proofs.Proper.{goes}
 
 -- at a start of the machine a crash leaves what is there
-begun : (m : Between) → AreSettled m.disks.files → (o : Left State) → CrashAt m (moment_of m) o → o ≡ found_at m
+begun : (m : Between) → AreSettled m.disks.files → (o : Left Stored) → CrashAt m (moment_of m) o → o ≡ found_at m
 begun m settled o crash =
     let images = crash.1.0 in
     let are : images ≡ seen_of m.disks.files = settled_images m.disks.files settled images
@@ -34,7 +33,7 @@ files_found m next k are =
     (refl, (seen_of next.disks.files, are, short_images (found_of (seen_of next.disks.files))))
 
 -- the history goes on to what was left by these changes and later ones
-abbrev GoesOnBy : Left State → List Change → Left State → Type 0
+abbrev GoesOnBy : Left Stored → List Change → Left Stored → Type 0
 GoesOnBy found changes left = (later : List Change) × GoesOn found (changes ++ later) left
 
 -- what a list of changes has, it has with others before it
@@ -49,13 +48,13 @@ others_first (changes ∷ more) first whole all = (
 )
 
 module _ (goes_on : StateGoesOn) (members : MembersAreKept) where
-  still : (found : Left State) → GoesOn found [] found
+  still : (found : Left Stored) → GoesOn found [] found
   still found = goes goes_on members found [] tt
 
   module _ (before after : Between) (runs : List Share) (keeps : KeepsAll before after runs)
       (settled : AreSettled before.disks.files) where
     -- a stop after a run that settled the store, and one before the first of these
-    stopped_at : (k : ℕ) (left : Left State) → moment_of before ≤ k → k ≤ moment_of after → CrashAt after k left
+    stopped_at : (k : ℕ) (left : Left Stored) → moment_of before ≤ k → k ≤ moment_of after → CrashAt after k left
         → (b : Bool) → is_settled_by k runs ≡ b → GoesOnBy (found_at before) (lasting k runs) left
     stopped_at k left from to crash true e = keeps.lasts k left from to crash e
     stopped_at k left from to crash false e =
@@ -67,34 +66,34 @@ module _ (goes_on : StateGoesOn) (members : MembersAreKept) where
             → GoesOnBy (found_at before) [] left
         early (inl there) = (
           [],
-          subst (λ (o : Left State). GoesOn (found_at before) [] o) (sym (begun before settled left there))
+          subst (λ (o : Left Stored). GoesOn (found_at before) [] o) (sym (begun before settled left there))
               (still (found_at before)),
         )
         early (inr x) = x
 
-    left_by : (changes : List Change) (left : Left State) → IsLeft before after runs changes left
+    left_by : (changes : List Change) (left : Left Stored) → IsLeft before after runs changes left
         → GoesOnBy (found_at before) changes left
     left_by changes left (inl end) = (
       [],
       subst (λ (l : List Change). GoesOn (found_at before) l left)
           (sym (append-nil (made runs)) ∙ ap (λ (l : List Change). l ++ []) (sym end.0))
-          (subst (λ (o : Left State). GoesOn (found_at before) (made runs) o) (sym end.1) keeps.now),
+          (subst (λ (o : Left Stored). GoesOn (found_at before) (made runs) o) (sym end.1) keeps.now),
     )
     left_by changes left (inr stop) =
         subst (λ (l : List Change). GoesOnBy (found_at before) l left) (sym stop.3)
         (stopped_at stop.0 left stop.1 stop.2 stop.4 (is_settled_by stop.0 runs) refl)
 
-  session : (found : Left State) (changes : List Change) (left : Left State) → Session found changes left
+  session : (found : Left Stored) (changes : List Change) (left : Left Stored) → Session found changes left
       → GoesOnBy found changes left
   session found changes left s =
-      subst (λ (f : Left State). GoesOnBy f changes left) s.begins
+      subst (λ (f : Left Stored). GoesOnBy f changes left) s.begins
       (left_by s.before s.after (shares true s.list s.before s.after s.outcomes s.runs)
       (keeps_all goes_on members s.list s.before s.after s.outcomes s.runs) s.settled changes left s.ends)
 
-  pub sessions_go_on : (lists : List (List Change)) (found left : Left State) → InSessions lists found left
+  pub sessions_go_on : (lists : List (List Change)) (found left : Left Stored) → InSessions lists found left
       → (whole : List Change) × HasAll lists whole × GoesOn found whole left
   sessions_go_on [] found left same =
-      ([], tt, subst (λ (o : Left State). GoesOn found [] o) (sym same) (still found))
+      ([], tt, subst (λ (o : Left Stored). GoesOn found [] o) (sym same) (still found))
   sessions_go_on (changes ∷ more) found left x =
       let first = session found changes x.0 x.1 in
       let rest = sessions_go_on more x.0 left x.2 in (

@@ -1,8 +1,7 @@
 -- What `run_all` promises of a list of runs.
 use Rattle.std.specs.Prelude.{Bool, IsTrue, List, [], ◌∷◌, ◌++◌, take}
 use Rattle.command_lines.specs.declared.outcome.Outcome.{Outcome}
-use Rattle.conflicts.specs.State.{State}
-use Rattle.replica_core.specs.Replica.{Found as Left}
+use Rattle.replica_core.specs.Replica.{Found as Left, Stored}
 use Rattle.store_commands.specs.Changes.{Change}
 use Rattle.run_lists.specs.Kept.{GoesOn, KeepsAll, found_at}
 use Rattle.run_lists.specs.Lists.{Asked, Between, RunInTurn, RunsOnce, with_input}
@@ -17,7 +16,7 @@ made_by tells a before after o x =
     take s.stood s.changes
 
 -- each run found what the changes of those before it had made of the store
-abbrev pub FindsInTurn : (found : Left State) (so_far : List Change)
+abbrev pub FindsInTurn : (found : Left Stored) (so_far : List Change)
     (tells : Bool) (list : List Asked) (before after : Between) (os : List Outcome)
     → RunInTurn tells list before after os → Type 0
 FindsInTurn found so_far tells [] before after [] x = GoesOn found so_far (found_at before)

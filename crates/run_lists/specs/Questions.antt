@@ -1,11 +1,12 @@
 -- What the runs of a list showed that asked an index: the filter of the live documents that stood when each one ran.
-use Rattle.std.specs.Prelude.{◌≡◌, Bool, IsTrue, false, List, [], ◌∷◌, map, T, Some, Ok}
+use Rattle.std.specs.Prelude.{◌≡◌, ℕ, Bool, IsTrue, false, List, [], ◌∷◌, map, T, Some, Ok}
 use Rattle.std.specs.FinMap.Entries.{is_sorted}
 use Rattle.std.specs.Io.KnownBytes.{Appends}
 use Rattle.u1_base.specs.Ids.{id_cmp}
 use Rattle.cli_words.specs.Words.{command_in}
 use Rattle.cli_words.specs.declared.command.Command.{Command}
-use Rattle.cli_words.specs.declared.command.Command.TheVariants.{Query, Range, Keys}
+use Rattle.cli_words.specs.declared.command.Command.TheVariants.{Show}
+use Rattle.cli_words.specs.declared.command.Show.TheVariants.{Query, Range, Keys}
 use Rattle.command_lines.specs.Lines.{lines_text}
 use Rattle.command_lines.specs.declared.outcome.Outcome.{Outcome}
 use Rattle.command_lines.specs.declared.outcome.Outcome.TheVariants.{Done}
@@ -50,18 +51,19 @@ pub record ShowsKeys (s : State) (name : Text) (lines : List Line) : Type 0 wher
 -- disks, it is some state.
 pub record Showed (tells : Bool) (before after : Between) (Shows : State → List Line → Type 0) : Type 0 where
   pub state : State
-  pub stood : IsTrue tells → found_at before ≡ Stands state
+  pub limit : ℕ
+  pub stood : IsTrue tells → found_at before ≡ Stands (record { state = state; limit = limit })
   pub lines : List Line
   pub printed : Appends before.output.taken after.output.taken (lines_text lines)
   pub shows : Shows state lines
 
 -- what the commands show that ask an index: a query wants the keys that meet its values, a range those between its ends
 abbrev pub ShowedBy : Bool → Command → Between → Between → Type 0
-ShowedBy tells (Query name values) before after =
+ShowedBy tells (Show (Query name values)) before after =
     Showed tells before after (λ s lines. ShowsDocuments s name (meets (map part_of values)) lines)
-ShowedBy tells (Range name start end) before after =
+ShowedBy tells (Show (Range name start end)) before after =
     Showed tells before after (λ s lines. ShowsDocuments s name (is_between start end) lines)
-ShowedBy tells (Keys name) before after = Showed tells before after (λ s lines. ShowsKeys s name lines)
+ShowedBy tells (Show (Keys name)) before after = Showed tells before after (λ s lines. ShowsKeys s name lines)
 ShowedBy tells _ before after = Unit {0}
 
 -- a run that was done showed what its command shows

@@ -7,11 +7,9 @@ use Rattle.cli_words.specs.declared.command.Command.{Command}
 use Rattle.cli_words.specs.declared.fault.WordsFault.{WordsFault}
 use Rattle.command_lines.specs.declared.outcome.Outcome.{Outcome}
 use Rattle.command_lines.specs.declared.outcome.Outcome.TheVariants.{DiskFault}
-use Rattle.conflicts.specs.State.{State}
 use Rattle.replica_cli.specs.Run.{Runs, RunsAs, Surroundings}
-use Rattle.replica_core.specs.Replica.{Found as Left}
+use Rattle.replica_core.specs.Replica.{Found as Left, Stored}
 use Rattle.replica_volume.specs.Volume.{moments}
-use Rattle.store_commands.specs.Answer.{changes_of}
 use Rattle.store_commands.specs.Changes.{Change, IsAfterSome, after_all}
 use Rattle.run_lists.specs.Lists.{Asked, Between, RunInTurn, with_input}
 
@@ -37,7 +35,7 @@ abbrev pub share_as : (tells : Bool) (read : Result Command WordsFault) (seed : 
     (o : Outcome)
     → RunsAs tells read seed before after o → Share
 share_as tells (Ok command) seed before after o x = record {
-  changes = changes_of x.runs.a;
+  changes = x.runs.a.changes;
   stood = x.runs.decides.does.stood;
   reached = x.runs.decides.does.reached;
   end = moments tells after.disks;
@@ -68,7 +66,7 @@ made (s ∷ more) = take s.stood s.changes ++ made more
 
 -- a crash before the end of a run leaves what one might have left at its start, or what stands after some of its
 -- changes
-abbrev pub LeavesIn : (Left State → Type 0) → Left State → Share → Left State → Type 0
+abbrev pub LeavesIn : (Left Stored → Type 0) → Left Stored → Share → Left Stored → Type 0
 LeavesIn P found s o = P o ⊎ IsAfterSome found s.changes s.reached o
 
 -- and one at its end just what stands, where the run settled the store
@@ -76,12 +74,12 @@ abbrev pub IfSettled : Bool → Type 0 → Type 0 → Type 0
 IfSettled true Stands Leaves = Stands
 IfSettled false Stands Leaves = Leaves
 
-abbrev pub LeavesBehind : (Left State → Type 0) → Left State → Share → Left State → Type 0
+abbrev pub LeavesBehind : (Left Stored → Type 0) → Left Stored → Share → Left Stored → Type 0
 LeavesBehind P found s o = IfSettled s.settled (o ≡ after_all found (take s.stood s.changes)) (LeavesIn P found s o)
 
 -- What a crash at the k-th moment may leave of a store that was found so, where P says what one might have left at the
 -- start: it comes before the end of the first run, or it is one of the later runs, over what the first one left.
-abbrev pub MayLeave : (Left State → Type 0) → ℕ → Left State → List Share → Left State → Type 0
+abbrev pub MayLeave : (Left Stored → Type 0) → ℕ → Left Stored → List Share → Left Stored → Type 0
 MayLeave P k found [] o = P o
 MayLeave P k found (s ∷ more) o =
     ((k < s.end) × LeavesIn P found s o)

@@ -1,40 +1,53 @@
 -- A store that was open, once it is closed.
-use Rattle.std.proofs.Common.{◌≡◌, ℕ, ◌≤◌, take, Option, Some, None, Result, true, true≢false, refl, ◌∙◌, inl, ⊎_elim}
-use Rattle.std.proofs.Common.{arith}
+use Rattle.std.proofs.Common.{◌≡◌, ℕ, ◌≤◌, List, [], take, Option, Some, None, Result, true, true≢false, refl, sym, ◌∙◌, ◌∷◌}
+use Rattle.std.proofs.Common.{inl, inr, ⊎_elim, arith}
+use Rattle.std.specs.Prelude.{◌≢◌, ◌⊎◌}
 use Rattle.cli_words.specs.declared.command.Command.{Command}
-use Rattle.conflicts.specs.State.{State}
+use Rattle.conflicts.specs.State.{History, Step}
 use Rattle.link.specs.Streams.{Input, Output}
-use Rattle.replica_core.specs.Replica.{Found as Left, Known}
+use Rattle.replica_core.specs.Replica.{Found as Left, Known, Stored}
+use Rattle.command_lines.specs.Endings.{ending_of}
 use Rattle.command_lines.specs.declared.outcome.Outcome.{Outcome}
-use Rattle.command_lines.specs.declared.outcome.Outcome.TheVariants.{Done, Usage, BadContent, Refused, Damaged}
-use Rattle.command_lines.specs.declared.outcome.Outcome.TheVariants.{StoreFull, DiskFault, SourceFault, SinkFault}
-use Rattle.command_lines.specs.declared.outcome.Outcome.TheVariants.{LinkFault, AcceptFault, Peer, BrokenReply}
-use Rattle.command_lines.specs.declared.outcome.Outcome.TheVariants.{LogCheck, Memory}
-use Rattle.store_commands.specs.Answer.{changes_of}
+use Rattle.command_lines.specs.declared.outcome.Outcome.TheVariants.{DiskFault}
 use Rattle.replica_state.specs.Held.{Lists}
 use Rattle.store_commands.specs.Carries.{InStore}
-use Rattle.store_commands.specs.Changes.{HasLimit, IsAfterSome, IsNow, IsSettled, Passes, after_all, limit_of}
+use Rattle.store_commands.specs.Changes.{Change, IsAfterSome, IsNeeded, IsNow, IsSettled, Made, NeedsAfter, NeedsNow}
+use Rattle.store_commands.specs.Changes.{Passes, Stepped, after_all}
 use Rattle.store_commands.specs.Compacting.{Image}
-use Rattle.store_commands.specs.Deeds.{Deed}
+use Rattle.store_commands.specs.Deeds.{Answer}
 use Rattle.store_commands.specs.Found.{Found, Blank, Damaged as DamagedStore, Stands, Store, in_short}
-use Rattle.store_commands.specs.Found.{opened_as}
+use Rattle.store_commands.specs.Found.{opened_as, standing_in}
 use Rattle.store_commands.specs.Leaves.{Does, Leaves}
 use Rattle.store_commands.specs.Store.{Closes, MayStay}
+use Rattle.command_lines.proofs.Endings.{disk_or_not}
+use Rattle.store_commands.proofs.Causes.{cause_seen}
 
-module _ (found : Found) (a : Result Deed Outcome) (unread : Type 0) (before : Store) (known : Known)
-    (crash : ℕ → Left State → Type 0) (after : Store)
-    (at_rest : IsSettled (in_short found) before) (closes : Closes known crash after)
+-- each step needs of what is told what it needed of the open store, and so what it needed behind the changes
+needs_told : (old open_ told : History → Step → ℕ) (changes : List Change) → NeedsAfter old changes open_
+    → ((xs : History) (y : Step) → told xs y ≡ open_ xs y) → NeedsAfter old changes told
+needs_told old open_ told [] first next = λ xs y. next xs y ∙ first xs y
+needs_told old open_ told (Made name uid limit ∷ changes) first next = tt
+needs_told old open_ told (Stepped x ∷ changes) first next = needs_told (λ xs. old (x ∷ xs)) open_ told changes first next
+
+needs_closed : (found : Found) (changes : List Change) (known : Known) (told : Option Found)
+    → IsNeeded found changes (Some (Stands (standing_in known))) → IsNeeded (Stands (standing_in known)) [] told
+    → IsNeeded found changes told
+needs_closed found changes known None first next = tt
+needs_closed Blank changes known (Some told) first next = tt
+needs_closed (DamagedStore disk place) changes known (Some told) first next = tt
+needs_closed (Stands x) changes known (Some Blank) first next = tt
+needs_closed (Stands x) changes known (Some (DamagedStore disk place)) first next = tt
+needs_closed (Stands x) changes known (Some (Stands y)) first next = needs_told x.need known.need y.need changes first next
+
+module _ (found : Found) (a : Answer) (unread : Type 0) (before : Store) (known : Known)
+    (crash : ℕ → Left Stored → Type 0) (is_open : Type 0) (after : Store)
+    (at_rest : IsSettled (in_short found) before) (closes : Closes known crash is_open after)
     (may : MayStay after after.found) where
-  same_limit : (limit : ℕ) (told : Found) → known.limit ≡ limit → HasLimit known.limit told → HasLimit limit told
-  same_limit limit Blank same has = tt
-  same_limit limit (DamagedStore disk place) same has = tt
-  same_limit limit (Stands x) same has = has ∙ same
-
   -- what is told is what stands after some of the changes
   told_some : (stood reached : ℕ) (told : Found)
-      → Passes found (changes_of a) stood reached before (opened_as known crash)
+      → Passes found a.changes stood reached before (opened_as known crash)
       → after.crash after.moment (in_short told)
-      → IsAfterSome (in_short found) (changes_of a) reached (in_short told)
+      → IsAfterSome (in_short found) a.changes reached (in_short told)
   told_some stood reached told passes crashed =
       let there : crash known.moment (in_short told) =
       rw closes.moment at (closes.leaves after.moment (in_short told) crashed) in
@@ -45,9 +58,9 @@ module _ (found : Found) (a : Result Deed Outcome) (unread : Type 0) (before : S
 
   -- the changes that pass, with what is told of the closed store
   pub passes_closed : (stood stood2 reached : ℕ) → stood2 ≤ reached
-      → Passes found (changes_of a) stood reached before (opened_as known crash)
-      → IsNow (after_all (in_short found) (take stood2 (changes_of a))) (limit_of found (changes_of a)) after.found
-      → Passes found (changes_of a) stood2 reached before after
+      → Passes found a.changes stood reached before (opened_as known crash)
+      → IsNow (after_all (in_short found) (take stood2 a.changes)) after.found
+      → Passes found a.changes stood2 reached before after
   passes_closed stood stood2 reached low passes now = record {
     stood_reached = low;
     within = passes.within;
@@ -59,98 +72,91 @@ module _ (found : Found) (a : Result Deed Outcome) (unread : Type 0) (before : S
   }
 
   -- where a crash leaves just what stands, that is what is told
-  now_settled : (stood reached : ℕ) (found_now : Option Found) → after.found ≡ found_now
-      → Passes found (changes_of a) stood reached before (opened_as known crash)
-      → IsSettled (after_all (in_short found) (take stood (changes_of a))) (opened_as known crash)
-      → IsNow (after_all (in_short found) (take stood (changes_of a))) (limit_of found (changes_of a)) found_now
-  now_settled stood reached None is passes settled = tt
-  now_settled stood reached (Some told) is passes settled =
+  now_settled : (stood : ℕ) (found_now : Option Found) → after.found ≡ found_now
+      → IsSettled (after_all (in_short found) (take stood a.changes)) (opened_as known crash)
+      → IsNow (after_all (in_short found) (take stood a.changes)) found_now
+  now_settled stood None is settled = tt
+  now_settled stood (Some told) is settled =
       let stays : after.crash after.moment (in_short told) = rw is at may in
-      let there : crash known.moment (in_short told) =
-      rw closes.moment at (closes.leaves after.moment (in_short told) stays) in (
-        settled (in_short told) there,
-        same_limit (limit_of found (changes_of a)) told passes.now.1
-            (rw is at closes.limit),
-      )
+      settled (in_short told) (rw closes.moment at (closes.leaves after.moment (in_short told) stays))
 
   closed_settled : (stood : ℕ)
-      → IsSettled (after_all (in_short found) (take stood (changes_of a))) (opened_as known crash)
-      → IsSettled (after_all (in_short found) (take stood (changes_of a))) after
+      → IsSettled (after_all (in_short found) (take stood a.changes)) (opened_as known crash)
+      → IsSettled (after_all (in_short found) (take stood a.changes)) after
   closed_settled stood settled o crashed = settled o (rw closes.moment at (closes.leaves after.moment o crashed))
 
   -- where a disk failed some of the changes stand
   now_some : (stood reached : ℕ) (found_now : Option Found) → after.found ≡ found_now
-      → Passes found (changes_of a) stood reached before (opened_as known crash)
-      → (stood2 : ℕ) × (stood2 ≤ reached)
-      × IsNow (after_all (in_short found) (take stood2 (changes_of a))) (limit_of found (changes_of a)) found_now
+      → Passes found a.changes stood reached before (opened_as known crash)
+      → (stood2 : ℕ) × (stood2 ≤ reached) × IsNow (after_all (in_short found) (take stood2 a.changes)) found_now
   now_some stood reached None is passes = (stood, passes.stood_reached, tt)
   now_some stood reached (Some told) is passes =
       let stays : after.crash after.moment (in_short told) = rw is at may in
-      let some = told_some stood reached told passes stays in
-      (some.0, some.1, (some.2, same_limit (limit_of found (changes_of a)) told passes.now.1 (rw is at closes.limit)))
+      told_some stood reached told passes stays
 
-  -- with this part settled
-  module _ (stood reached : ℕ) (passes : Passes found (changes_of a) stood reached before (opened_as known crash)) where
-    settled_part : (decided : Outcome)
-        → IsSettled (after_all (in_short found) (take stood (changes_of a))) (opened_as known crash)
-        → Leaves found true a unread stood reached before after decided → Does found true a unread before after decided
-    settled_part decided settled leaves = record {
-      stood = stood;
-      reached = reached;
-      passes = passes_closed stood stood reached passes.stood_reached passes
-          (now_settled stood reached after.found refl passes settled);
-      leaves = leaves;
-    }
+  module _ (stood reached : ℕ) (passes : Passes found a.changes stood reached before (opened_as known crash))
+      (decided : Outcome) (ready : decided ≢ DiskFault → is_open)
+      (leaves : Leaves found true a unread stood reached before (opened_as known crash) decided) where
+    -- no disk failed: the changes that stood are told
+    whole : decided ≢ DiskFault → Does found true a unread before after decided
+    whole other =
+        let settled = leaves.rest other (inl refl) in
+        record {
+          stood = stood;
+          reached = reached;
+          passes = passes_closed stood stood reached passes.stood_reached passes
+              (now_settled stood after.found refl settled);
+          leaves = record {
+            cause = cause_seen found true a unread unread stood reached before (opened_as known crash) before after
+                (λ rose. rw closes.faults rose) (λ read. read) decided (ending_of decided) leaves.cause;
+            fits = leaves.fits;
+            front = leaves.front;
+            rest = λ no rests. closed_settled stood settled;
+            need = λ no same. needs_closed found (take stood a.changes) known after.found (leaves.need other same)
+                (closes.need (ready other));
+            bytes = λ no shut. absurd (true≢false shut);
+          };
+        }
 
-    part : (decided : Outcome) → Leaves found true a unread stood reached before (opened_as known crash) decided
-        → Does found true a unread before after decided
-    part Done leaves = settled_part Done (leaves.3 (inl refl))
-        (leaves.0, leaves.1, leaves.2, λ rests. closed_settled stood (leaves.3 (inl refl)))
-    part (Usage kind) leaves = settled_part (Usage kind) (leaves.1 (inl refl))
-        (leaves.0, λ rests. closed_settled stood (leaves.1 (inl refl)), λ shut. absurd (true≢false shut))
-    part (BadContent fault) leaves = settled_part (BadContent fault) (leaves.1 (inl refl))
-        (leaves.0, λ rests. closed_settled stood (leaves.1 (inl refl)))
-    part (Refused refusal) leaves = settled_part (Refused refusal) (leaves.1 (inl refl))
-        (leaves.0, λ rests. closed_settled stood (leaves.1 (inl refl)), λ shut. absurd (true≢false shut))
-    part (Damaged disk place) leaves = settled_part (Damaged disk place) (leaves.1 (inl refl))
-        (leaves.0, λ rests. closed_settled stood (leaves.1 (inl refl)), λ shut. absurd (true≢false shut))
-    part (StoreFull need limit) leaves = settled_part (StoreFull need limit) (leaves.2 (inl refl))
-        (leaves.0, leaves.1, λ rests. closed_settled stood (leaves.2 (inl refl)))
-    part DiskFault leaves =
+    -- one failed: some of them are
+    broken : decided ≡ DiskFault → Does found true a unread before after decided
+    broken is =
         let now = now_some stood reached after.found refl passes in
         record {
           stood = now.0;
           reached = reached;
           passes = passes_closed stood now.0 reached now.1 passes now.2;
-          leaves = rw closes.faults leaves;
+          leaves = record {
+            cause = rw is (rw closes.faults (rw is at leaves.cause));
+            fits = leaves.fits;
+            front = λ no. absurd (no is);
+            rest = λ no. absurd (no is);
+            need = λ no. absurd (no is);
+            bytes = λ no. absurd (no is);
+          };
         }
-    part SourceFault leaves = settled_part SourceFault (leaves.2 (inl refl))
-        (leaves.0, leaves.1, λ rests. closed_settled stood (leaves.2 (inl refl)))
-    part SinkFault leaves = absurd leaves
-    part LinkFault leaves = absurd leaves
-    part AcceptFault leaves = absurd leaves
-    part (Peer status) leaves = absurd leaves
-    part (BrokenReply line) leaves = absurd leaves
-    part (LogCheck mine theirs) leaves = absurd leaves
-    part Memory leaves = settled_part Memory (leaves.1 (inl refl))
-        (leaves.0, λ rests. closed_settled stood (leaves.1 (inl refl)), λ shut. absurd (true≢false shut))
 
-  pub closed : (decided : Outcome) → Does found true a unread before (opened_as known crash) decided
+  pub closed : (decided : Outcome) → (decided ≢ DiskFault → is_open)
+      → Does found true a unread before (opened_as known crash) decided
       → Does found true a unread before after decided
-  closed decided does = part does.stood does.reached does.passes decided does.leaves
+  closed decided ready does =
+      ⊎_elim
+      (λ disk. broken does.stood does.reached does.passes decided ready does.leaves disk)
+      (λ other. whole does.stood does.reached does.passes decided ready does.leaves other)
+      (disk_or_not decided)
 
 -- a command in the store, once it is closed
 pub within_closed : (command : Command) (seed : ℕ) (found : Found) (lists : Lists)
     (image_before image_open image_after : Option Image) (before : Store) (known : Known)
-    (crash : ℕ → Left State → Type 0) (after : Store)
+    (crash : ℕ → Left Stored → Type 0) (is_open : Type 0) (after : Store)
     (input_before input_after : Input) (out_before out_after : Output) (result : Result (Unit {0}) Outcome)
-    → IsSettled (in_short found) before → Closes known crash after → MayStay after after.found
+    → IsSettled (in_short found) before → Closes known crash is_open after → MayStay after after.found
     → image_after ≡ image_open
-    → InStore command seed found lists image_before image_open before
+    → InStore command seed is_open found lists image_before image_open before
     (opened_as known crash) input_before input_after out_before out_after result
-    → InStore command seed found lists image_before image_after before after
+    → InStore command seed (Unit {0}) found lists image_before image_after before after
     input_before input_after out_before out_after result
-within_closed command seed found lists image_before image_open image_after before known crash after
+within_closed command seed found lists image_before image_open image_after before known crash is_open after
     input_before input_after out_before out_after result
     at_rest closes may same within = record {
       decided = within.decided;
@@ -162,7 +168,9 @@ within_closed command seed found lists image_before image_open image_after befor
       read = within.read;
       a = within.a;
       is = within.is;
-      store = closed found within.a _ before known crash after at_rest closes may within.decided within.store;
+      store = closed found within.a _ before known crash is_open after at_rest closes may within.decided within.ready
+          within.store;
+      ready = λ no. tt;
       input = within.input;
       is_read = within.is_read;
       answers = within.answers;

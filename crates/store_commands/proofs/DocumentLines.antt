@@ -11,7 +11,7 @@ use Rattle.replica_reads.specs.Documents.{got}
 use Rattle.command_lines.specs.Lines.{line_text}
 use Rattle.command_lines.specs.Puts.{Puts}
 use Rattle.command_lines.specs.declared.put.PrintFault.{PrintFault}
-use Rattle.store_commands.specs.Shown.{line_if}
+use Rattle.store_commands.specs.inner.Shown.{line_if}
 
 -- the line of a member that was got
 abbrev pub line_got : State → Text → Option Member → Option Line

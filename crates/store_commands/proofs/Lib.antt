@@ -1,5 +1,6 @@
 pub mod Moving
 pub mod Exits
+pub mod Causes
 pub mod Called
 pub mod Closing
 pub mod Opening
@@ -7,7 +8,7 @@ pub mod Making
 pub mod Unbuilt
 pub mod Compacted
 pub mod Taken
-pub mod Defaults
+pub mod Built
 pub mod ReadExprs
 pub mod Printing
 pub mod Listed
@@ -18,6 +19,5 @@ pub mod Answered
 pub mod InConflict
 pub mod IndexLines
 pub mod InfoLines
-pub mod Unshown
 pub mod Completing
 pub mod InMemory

@@ -9,7 +9,7 @@ use Rattle.command_lines.specs.Lines.{line_text, lines_text}
 use Rattle.command_lines.specs.Puts.{Puts}
 use Rattle.command_lines.specs.declared.put.PrintFault.{PrintFault}
 use Rattle.command_lines.proofs.Putting.{puts_as, puts_front, puts_then}
-use Rattle.store_commands.specs.Shown.{line_if}
+use Rattle.store_commands.specs.inner.Shown.{line_if}
 
 -- the lines of the items that have one
 one_if : {X : Type 0} (h : X → Option Line) (o : Option Line) (x : X) (xs : List X) → h x ≡ o

@@ -1,34 +1,36 @@
 -- A store that is made.
-use Rattle.std.proofs.Common.{◌≡◌, ℕ, ◌≤◌, List, [], Option, Result, Ok, Err, true, false, refl, sym, ap, ◌∙◌, subst}
-use Rattle.std.proofs.Common.{inl, inr}
+use Rattle.std.proofs.Common.{◌≡◌, ℕ, ◌≤◌, List, [], Option, Some, None, Result, Ok, Err, true, false, refl, sym, ap}
+use Rattle.std.proofs.Common.{◌∙◌, subst, inl, inr, true≢false, arith}
 use Rattle.std.specs.Prelude.{Bool, if◌then◌else◌, nat_le}
 use Rattle.std.proofs.lemmas.Bool.{and_parts, leb-true}
 use Rattle.u1_base.specs.Causes.{Rose}
 use Rattle.u1_base.specs.declared.limits.TheConstants.{GREATEST_IMAGE_LIMIT, LEAST_IMAGE_LIMIT}
 use Rattle.cli_words.specs.declared.command.Command.TheVariants as command
 use Rattle.conflicts.specs.State.{Text}
+use Rattle.disks.specs.declared.fault.MakeFault.{MakeFault}
+use Rattle.disks.specs.declared.fault.MakeFault.TheVariants as fault
 use Rattle.link.proofs.Taking.{took_nothing}
 use Rattle.link.specs.Streams.{Input, Output}
 use Rattle.replica_state.specs.Held.{Lists, no_lists}
 use Rattle.vector_rev.specs.Counts.{Uid}
+use Rattle.command_lines.specs.Endings.{ending_of}
 use Rattle.command_lines.specs.declared.outcome.Outcome.{Outcome}
 use Rattle.command_lines.specs.declared.outcome.Outcome.TheVariants.{Done, Refused, DiskFault, Memory, Usage}
 use Rattle.command_lines.specs.declared.outcome.Refusal.TheVariants.{DatabaseExists}
 use Rattle.command_lines.specs.declared.outcome.UsageKind.TheVariants.{Words}
 use Rattle.store_commands.specs.Answer.{Occasion, answer, built, due_of, is_limit, is_opened, most_input, opens}
-use Rattle.store_commands.specs.Answer.{opens_for, text_of}
-use Rattle.store_commands.specs.Carries.{Answers, Carried, TellsMade}
-use Rattle.store_commands.specs.Changes.{Passes}
+use Rattle.store_commands.specs.Answer.{if_built, opens_for}
+use Rattle.store_commands.specs.Carries.{Answers, Carried}
+use Rattle.store_commands.specs.inner.Carries.{TellsMade}
+use Rattle.store_commands.specs.Changes.{IsNeeded, Passes}
 use Rattle.store_commands.specs.Compacting.{Image}
-use Rattle.store_commands.specs.Deeds.{Deed, and_then, init_deed, limit_given, uid_made}
+use Rattle.store_commands.specs.Deeds.{Answer, ended, go_on, init_answer, limit_given, uid_made}
 use Rattle.store_commands.specs.Found.{Blank, Damaged as DamagedStore, Found, HasLists, IsTold, IsUntouched, Stands}
 use Rattle.store_commands.specs.Found.{Store}
-use Rattle.store_commands.specs.Leaves.{Does, IsRead}
+use Rattle.store_commands.specs.Leaves.{Cause, Does, Fit, IsRead}
 use Rattle.store_commands.specs.Run.{HasAnswer, IsAnswered, IsUnread, LeavesUntouched}
 use Rattle.store_commands.specs.Store.{Keeps, Makes, is_blank, making}
-use Rattle.store_commands.specs.declared.store.MakeFault.{MakeFault}
-use Rattle.store_commands.specs.declared.store.MakeFault.TheVariants as fault
-use Rattle.store_commands.proofs.Moving.{stays}
+use Rattle.store_commands.proofs.Moving.{none_fit, stays}
 use Rattle.store_commands.proofs.Taken.{all_read}
 
 false_not_true : {P : Type 0} → false ≡ true → P
@@ -59,7 +61,7 @@ none_due (Err outcome) given = refl
 -- ---- init
 
 opens_by : (b : Result (Unit {0}) Outcome) (found : Found) (lists : Lists) → b ≡ Ok tt
-    → and_then b (λ done. opens true found lists) ≡ opens true found lists
+    → if_built b (opens true found lists) ≡ opens true found lists
 opens_by b found lists is = rw is refl
 
 module _ (name : Text) (uid : Option Uid) (limit : Option ℕ) (seed : ℕ) (before after : Store)
@@ -77,8 +79,8 @@ module _ (name : Text) (uid : Option Uid) (limit : Option ℕ) (seed : ℕ) (bef
     given = (took_nothing most_input input).0;
   }
 
-  abbrev deed : Deed
-  deed = init_deed name (uid_made seed uid) (limit_given limit)
+  abbrev deed : Answer
+  deed = init_answer name (uid_made seed uid) (limit_given limit)
 
   -- a run of init
   abbrev Ran : Type 0
@@ -89,9 +91,9 @@ module _ (name : Text) (uid : Option Uid) (limit : Option ℕ) (seed : ℕ) (bef
       ≡ opens true found (no_lists [] [])
   opens_so found = opens_by (built (command.Init name uid limit)) found (no_lists [] []) is_built
 
-  answers_so : (found : Found) → and_then (opens true found (no_lists [] [])) (λ lists. Ok deed)
+  answers_so : (found : Found) → go_on (opens true found (no_lists [] [])) (λ lists. deed)
       ≡ answer (of_init found)
-  answers_so found = sym (ap (λ (l : Result Lists Outcome). and_then l (λ lists. Ok deed)) (opens_so found))
+  answers_so found = sym (ap (λ (l : Result Lists Outcome). go_on l (λ lists. deed)) (opens_so found))
 
   opened_so : (found : Found) → is_opened (opens true found (no_lists [] []))
       ≡ is_opened (opens_for (command.Init name uid limit) found (no_lists [] []))
@@ -99,17 +101,17 @@ module _ (name : Text) (uid : Option Uid) (limit : Option ℕ) (seed : ℕ) (bef
 
   answered : (found : Found) → (is_opened (opens true found (no_lists [] [])) ≡ true → HasLists found (no_lists [] []))
       → HasAnswer (of_init found) (is_opened (opens true found (no_lists [] [])))
-      (and_then (opens true found (no_lists [] [])) (λ lists. Ok deed))
+      (go_on (opens true found (no_lists [] [])) (λ lists. deed))
   answered found lists = record {
     lists = λ goes_on. lists (opened_so found ∙ goes_on);
     is = answers_so found;
     there = opened_so found;
   }
 
-  ran : (found : Found) (decided : Outcome) (a : Result Deed Outcome) (opened : Bool) → IsTold before.found found
+  ran : (found : Found) (decided : Outcome) (a : Answer) (opened : Bool) → IsTold before.found found
       → IsAnswered (of_init found) opened [] a decided
       → Does found opened a (IsUnread (of_init found) input input) before after decided
-      → Answers (text_of a) out_before out_after decided result → Ran
+      → Answers a.text out_before out_after decided result → Ran
   ran found decided a opened told answers does prints = record {
     decided = decided;
     a = a;
@@ -137,73 +139,108 @@ module _ (name : Text) (uid : Option Uid) (limit : Option ℕ) (seed : ℕ) (bef
           (record { store = after; image = image_after; input = input })
       untouched not = true_not_false (rw is_built at not)
 
+  -- what was only looked at is as it was
+  left : (found : Found) (decided : Outcome) → Keeps found before after → IsUntouched before after
+      → Cause found false (ended decided) (IsUnread (of_init found) input input) 0 0 before after decided
+      (ending_of decided)
+      → Does found false (ended decided) (IsUnread (of_init found) input input) before after decided
+  left found decided keeps untouched cause = record {
+    stood = 0;
+    reached = 0;
+    passes = keeps.passes;
+    leaves = record {
+      cause = cause;
+      fits = none_fit found [];
+      front = λ no. refl;
+      rest = λ no. stays found before after keeps.passes;
+      need = λ no same. keeps.need;
+      bytes = λ no shut. untouched;
+    };
+  }
+
   -- there is a store
   exists : (found : Found) → IsTold before.found found → Keeps found before after → is_blank found ≡ false
       → IsUntouched before after → (result ≡ Err (Refused DatabaseExists)) × (out_after ≡ out_before) → Ran
   exists Blank told keeps there untouched tells = true_not_false there
   exists (DamagedStore disk place) told keeps there untouched tells =
-      ran (DamagedStore disk place) (Refused DatabaseExists) (Err (Refused DatabaseExists)) false told
+      ran (DamagedStore disk place) (Refused DatabaseExists) (ended (Refused DatabaseExists)) false told
       (inl (answered (DamagedStore disk place) (λ goes_on. tt)))
-      (record {
-        stood = 0;
-        reached = 0;
-        passes = keeps;
-        leaves =
-            (refl, stays (DamagedStore disk place) before after keeps, λ shut. untouched);
-      }) tells
+      (left (DamagedStore disk place) (Refused DatabaseExists) keeps untouched (refl, refl)) tells
   exists (Stands x) told keeps there untouched tells =
-      ran (Stands x) (Refused DatabaseExists) (Err (Refused DatabaseExists)) false told
+      ran (Stands x) (Refused DatabaseExists) (ended (Refused DatabaseExists)) false told
       (inl (answered (Stands x) (λ goes_on. false_not_true goes_on)))
-      (record {
-        stood = 0;
-        reached = 0;
-        passes = keeps;
-        leaves =
-            (refl, stays (Stands x) before after keeps, λ shut. untouched);
-      }) tells
+      (left (Stands x) (Refused DatabaseExists) keeps untouched (refl, refl)) tells
+
+  -- a disk failed, and some of the changes stand
+  on_disk : (found : Found) (a : Answer) (opened : Bool) (stood reached : ℕ)
+      → Fit found a.changes reached → Passes found a.changes stood reached before after
+      → Rose before.faults after.faults
+      → Does found opened a (IsUnread (of_init found) input input) before after DiskFault
+  on_disk found a opened stood reached fits passes rose = record {
+    stood = stood;
+    reached = reached;
+    passes = passes;
+    leaves = record {
+      cause = rose;
+      fits = fits;
+      front = λ no. absurd (no refl);
+      rest = λ no. absurd (no refl);
+      need = λ no. absurd (no refl);
+      bytes = λ no. absurd (no refl);
+    };
+  }
+
+  -- there are none among no changes
+  few_fit : (found : Found) (reached : ℕ) → reached ≤ 0 → Fit found [] reached
+  few_fit found reached few n need most low over = absurd (omega (arith, few, low))
 
   -- a disk failed where there was a store
   broke_off : (found : Found) (stood reached : ℕ) → IsTold before.found found
       → Passes found [] stood reached before after → Rose before.faults after.faults
       → (result ≡ Err DiskFault) × (out_after ≡ out_before) → Ran
   broke_off found stood reached told passes rose tells =
-      ran found DiskFault (Err DiskFault) false told
+      ran found DiskFault (ended DiskFault) false told
       (inr (record { broke = tt; is = refl; closed = refl; unread = refl }))
-      (record { stood = stood; reached = reached; passes = passes; leaves = rose }) tells
+      (on_disk found (ended DiskFault) false stood reached (few_fit found reached passes.within) passes rose) tells
 
   breaks : (found : Found) (stood reached : ℕ) → IsTold before.found found
       → Passes found (making name (uid_made seed uid) (limit_given limit) found) stood reached before after
       → Rose before.faults after.faults → (result ≡ Err DiskFault) × (out_after ≡ out_before) → Ran
   breaks Blank stood reached told passes rose tells =
-      ran Blank DiskFault (Ok deed) true told (inl (answered Blank (λ goes_on. tt)))
-      (record { stood = stood; reached = reached; passes = passes; leaves = rose }) tells
+      ran Blank DiskFault deed true told (inl (answered Blank (λ goes_on. tt)))
+      (on_disk Blank deed true stood reached (λ n need most low over. over.3) passes rose) tells
   breaks (DamagedStore disk place) stood reached told passes rose tells =
       broke_off (DamagedStore disk place) stood reached told passes rose tells
   breaks (Stands x) stood reached told passes rose tells = broke_off (Stands x) stood reached told passes rose tells
+
+  -- of a store that was made nothing was needed before
+  made_needs : (told : Option Found) → IsNeeded Blank deed.changes told
+  made_needs None = tt
+  made_needs (Some told) = tt
 
   pub made_so : (made : Result (Unit {0}) MakeFault)
       → Makes name (uid_made seed uid) (limit_given limit) before after made
       → TellsMade name (uid_made seed uid) made out_before out_after result → Ran
   made_so (Ok done) makes tells =
-      ran Blank Done (Ok deed) true makes.told (inl (answered Blank (λ goes_on. tt)))
+      ran Blank Done deed true makes.told (inl (answered Blank (λ goes_on. tt)))
       (record {
         stood = 1;
         reached = 1;
         passes = makes.passes;
-        leaves =
-            ((deed, refl), refl, λ need most over. over.3, λ rests. makes.settled);
+        leaves = record {
+          cause = (refl, refl);
+          fits = λ n need most low over. over.3;
+          front = λ no. refl;
+          rest = λ no rests. makes.settled;
+          need = λ no same. made_needs after.found;
+          bytes = λ no shut. absurd (true≢false shut);
+        };
       }) tells
   made_so (Err fault.Exists) makes tells =
       exists makes.found makes.told makes.keeps makes.there makes.untouched tells
   made_so (Err fault.Disk) makes tells =
       breaks makes.found makes.stood makes.reached makes.told makes.passes makes.rose tells
   made_so (Err fault.Memory) makes tells =
-      ran makes.0.found Memory (Err Memory) false makes.0.told
+      ran makes.0.found Memory (ended Memory) false makes.0.told
       (inr (record { broke = tt; is = refl; closed = refl; unread = refl }))
-      (record {
-        stood = 0;
-        reached = 0;
-        passes = makes.0.keeps;
-        leaves =
-            (refl, stays makes.0.found before after makes.0.keeps, λ shut. makes.1);
-      }) tells
+      (left makes.0.found Memory makes.0.keeps makes.1 tt) tells

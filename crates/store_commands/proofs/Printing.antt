@@ -13,14 +13,15 @@ use Rattle.command_lines.specs.Puts.{Puts}
 use Rattle.command_lines.specs.declared.put.PrintFault.{PrintFault}
 use Rattle.command_lines.specs.declared.put.PrintFault.TheVariants as print
 use Rattle.command_lines.specs.declared.outcome.Outcome.{Outcome}
-use Rattle.command_lines.specs.declared.outcome.Outcome.TheVariants.{Done, Usage, BadContent, Refused, Damaged}
-use Rattle.command_lines.specs.declared.outcome.Outcome.TheVariants.{StoreFull, DiskFault, SourceFault, SinkFault}
-use Rattle.command_lines.specs.declared.outcome.Outcome.TheVariants.{LinkFault, AcceptFault, Peer, BrokenReply}
-use Rattle.command_lines.specs.declared.outcome.Outcome.TheVariants.{LogCheck, Memory}
-use Rattle.store_commands.specs.Answer.{text_of}
-use Rattle.store_commands.specs.Carries.{Answers}
-use Rattle.store_commands.specs.Deeds.{Deed}
-use Rattle.store_commands.specs.Prints.{Prints, PrintsFront, PutsPart, PutsWhole, broken_end, outcome_of, printed}
+use Rattle.command_lines.specs.Endings.{Ending, Finished, Answered, TooLong, DiskFailed, InputFailed, OutputFailed}
+use Rattle.command_lines.specs.Endings.{LinkFailed, DoorFailed, OutOfMemory, ending_of}
+use Rattle.command_lines.proofs.Endings.{IsOf, of_kind, other_kind}
+use Rattle.command_lines.specs.declared.outcome.Outcome.TheVariants.{Done, Memory, SinkFault}
+use Rattle.store_commands.specs.Carries.{Answers, AnswersBy}
+use Rattle.store_commands.specs.Deeds.{Answer}
+use Rattle.store_commands.specs.Prints.{Prints, PrintsFront, PutsFront, PutsPart, done_text, outcome_of}
+use Rattle.store_commands.specs.inner.Prints.{PutsWhole}
+use Rattle.store_commands.specs.Prints.{printed}
 use Rattle.store_commands.proofs.Moving.{Rose-since}
 
 -- ---- fronts and wholes
@@ -64,24 +65,34 @@ broke : (text : List ℕ) (a b : Output) (decided : Outcome) (fault : PrintFault
 broke text a b decided print.Sink other puts = inr (inl (refl, puts.0, puts.1, other))
 broke text a b decided print.Memory other puts = inr (inr (refl, puts))
 
-pub ended_badly : (text : List ℕ) (a b : Output) (decided : Outcome) (fault : PrintFault)
-    → PutsWhole text a b (Err fault) → Prints text a b decided (broken_end decided fault)
-ended_badly text a b Memory print.Sink puts = inr (inr (refl, puts.0))
-ended_badly text a b Memory print.Memory puts = inr (inr (refl, puts))
-ended_badly text a b Done fault puts = broke _ _ _ _ fault (λ is. cc is) puts
-ended_badly text a b (Usage kind) fault puts = broke _ _ _ _ fault (λ is. cc is) puts
-ended_badly text a b (BadContent why) fault puts = broke _ _ _ _ fault (λ is. cc is) puts
-ended_badly text a b (Refused refusal) fault puts = broke _ _ _ _ fault (λ is. cc is) puts
-ended_badly text a b (Damaged disk place) fault puts = broke _ _ _ _ fault (λ is. cc is) puts
-ended_badly text a b (StoreFull need limit) fault puts = broke _ _ _ _ fault (λ is. cc is) puts
-ended_badly text a b DiskFault fault puts = broke _ _ _ _ fault (λ is. cc is) puts
-ended_badly text a b SourceFault fault puts = broke _ _ _ _ fault (λ is. cc is) puts
-ended_badly text a b SinkFault fault puts = broke _ _ _ _ fault (λ is. cc is) puts
-ended_badly text a b LinkFault fault puts = broke _ _ _ _ fault (λ is. cc is) puts
-ended_badly text a b AcceptFault fault puts = broke _ _ _ _ fault (λ is. cc is) puts
-ended_badly text a b (Peer status) fault puts = broke _ _ _ _ fault (λ is. cc is) puts
-ended_badly text a b (BrokenReply line) fault puts = broke _ _ _ _ fault (λ is. cc is) puts
-ended_badly text a b (LogCheck mine theirs) fault puts = broke _ _ _ _ fault (λ is. cc is) puts
+ended_by : (text : List ℕ) (a b : Output) (decided result : Outcome) (fault : PrintFault) (kind : Ending)
+    → ending_of decided ≡ kind → IsOf kind decided
+    → (decided ≡ Memory → result ≡ Memory) → (decided ≢ Memory → result ≡ print_end fault)
+    → PutsWhole text a b (Err fault) → Prints text a b decided result
+ended_by text a b decided result print.Sink OutOfMemory is of memory other puts = inr (inr (memory of, puts.0))
+ended_by text a b decided result print.Memory OutOfMemory is of memory other puts = inr (inr (memory of, puts))
+ended_by text a b decided result fault Finished is of memory other puts =
+    let no = other_kind decided Memory _ is (λ h. cc h) in rw (other no) (broke _ _ _ _ fault no puts)
+ended_by text a b decided result fault Answered is of memory other puts =
+    let no = other_kind decided Memory _ is (λ h. cc h) in rw (other no) (broke _ _ _ _ fault no puts)
+ended_by text a b decided result fault (TooLong need limit) is of memory other puts =
+    let no = other_kind decided Memory _ is (λ h. cc h) in rw (other no) (broke _ _ _ _ fault no puts)
+ended_by text a b decided result fault DiskFailed is of memory other puts =
+    let no = other_kind decided Memory _ is (λ h. cc h) in rw (other no) (broke _ _ _ _ fault no puts)
+ended_by text a b decided result fault InputFailed is of memory other puts =
+    let no = other_kind decided Memory _ is (λ h. cc h) in rw (other no) (broke _ _ _ _ fault no puts)
+ended_by text a b decided result fault OutputFailed is of memory other puts =
+    let no = other_kind decided Memory _ is (λ h. cc h) in rw (other no) (broke _ _ _ _ fault no puts)
+ended_by text a b decided result fault LinkFailed is of memory other puts =
+    let no = other_kind decided Memory _ is (λ h. cc h) in rw (other no) (broke _ _ _ _ fault no puts)
+ended_by text a b decided result fault DoorFailed is of memory other puts =
+    let no = other_kind decided Memory _ is (λ h. cc h) in rw (other no) (broke _ _ _ _ fault no puts)
+
+pub ended_badly : (text : List ℕ) (a b : Output) (decided result : Outcome) (fault : PrintFault)
+    → (decided ≡ Memory → result ≡ Memory) → (decided ≢ Memory → result ≡ print_end fault)
+    → PutsWhole text a b (Err fault) → Prints text a b decided result
+ended_badly text a b decided result fault memory other puts =
+    ended_by text a b decided result fault (ending_of decided) refl (of_kind decided) memory other puts
 
 -- ---- the last line of a printing call
 
@@ -107,17 +118,17 @@ module _ (text : List ℕ) (a b c : Output) (puts : Puts text a b (Ok tt)) (keep
 
 -- ---- a command's text, and then its last line
 
-module _ (a : Result Deed Outcome) (o p q : Output) (result : Outcome) where
+module _ (a : Answer) (o p q : Output) (result : Outcome) where
   rose_on : Rose o.faults p.faults → p.faults ≤ q.faults → Rose o.faults q.faults
   rose_on rose later = omega (arith, rose, later)
 
   -- the text was printed whole
-  printed_whole : Puts (text_of a) o p (Ok tt) → Prints [] p q Done result → Prints (text_of a ++ []) o q Done result
+  printed_whole : Puts a.text o p (Ok tt) → Prints [] p q Done result → Prints (a.text ++ []) o q Done result
   printed_whole puts (inl whole) =
       inl (
         whole.0,
         record {
-          taken = Appends-trans o.taken p.taken q.taken (text_of a) [] puts.0 whole.1.taken;
+          taken = Appends-trans o.taken p.taken q.taken a.text [] puts.0 whole.1.taken;
           handed_on = whole.1.handed_on;
           later = omega (arith, puts.1, whole.1.later);
         },
@@ -125,32 +136,32 @@ module _ (a : Result Deed Outcome) (o p q : Output) (result : Outcome) where
   printed_whole puts (inr (inl failed)) =
       inr (inl (failed.0, front failed.1, Rose-since o.faults p.faults q.faults puts.1 failed.2, failed.3))
     where
-      front : PrintsFront [] p q → PrintsFront (text_of a ++ []) o q
+      front : PrintsFront [] p q → PrintsFront (a.text ++ []) o q
       front f = record {
-        taken = front_whole o.taken q.taken (text_of a ++ [])
-            (Appends-trans o.taken p.taken q.taken (text_of a) [] puts.0 (nothing_more p.taken q.taken f.taken));
+        taken = front_whole o.taken q.taken (a.text ++ [])
+            (Appends-trans o.taken p.taken q.taken a.text [] puts.0 (nothing_more p.taken q.taken f.taken));
         later = omega (arith, puts.1, f.later);
       }
   printed_whole puts (inr (inr starved)) = inr (inr (starved.0, front starved.1))
     where
-      front : PrintsFront [] p q → PrintsFront (text_of a ++ []) o q
+      front : PrintsFront [] p q → PrintsFront (a.text ++ []) o q
       front f = record {
-        taken = front_whole o.taken q.taken (text_of a ++ [])
-            (Appends-trans o.taken p.taken q.taken (text_of a) [] puts.0 (nothing_more p.taken q.taken f.taken));
+        taken = front_whole o.taken q.taken (a.text ++ [])
+            (Appends-trans o.taken p.taken q.taken a.text [] puts.0 (nothing_more p.taken q.taken f.taken));
         later = omega (arith, puts.1, f.later);
       }
 
   -- a front of it was printed
-  front_on : AppendsFront o.taken p.taken (text_of a) → o.faults ≤ p.faults → Appends p.taken q.taken []
-      → p.faults ≤ q.faults → PrintsFront (text_of a ++ []) o q
+  front_on : AppendsFront o.taken p.taken a.text → o.faults ≤ p.faults → Appends p.taken q.taken []
+      → p.faults ≤ q.faults → PrintsFront (a.text ++ []) o q
   front_on front later none more = record {
-    taken = rw (append-nil (text_of a)) (front_then o.taken p.taken q.taken (text_of a) front none);
+    taken = rw (append-nil a.text) (front_then o.taken p.taken q.taken a.text front none);
     later = omega (arith, later, more);
   }
 
-  printed_broken : (decided : Outcome) → AppendsFront o.taken p.taken (text_of a) → o.faults ≤ p.faults
+  printed_broken : (decided : Outcome) → AppendsFront o.taken p.taken a.text → o.faults ≤ p.faults
       → (decided ≡ SinkFault) × Rose o.faults p.faults ⊎ (decided ≡ Memory) → Prints [] p q decided result
-      → Prints (text_of a ++ []) o q Done result
+      → Prints (a.text ++ []) o q Done result
   printed_broken decided front later (inl sink) (inl whole) =
       inr (inl (
         whole.0 ∙ sink.0,
@@ -173,24 +184,24 @@ module _ (a : Result Deed Outcome) (o p q : Output) (result : Outcome) where
   printed_broken decided front later (inr memory) (inr (inr starved)) =
       inr (inr (starved.0, front_on front later (nothing_more p.taken q.taken starved.1.taken) starved.1.later))
 
-  of_done : (ended : Result (Unit {0}) Outcome) → PutsPart (text_of a) o p ended
-      → Prints (last_line (outcome_of ended)) p q (outcome_of ended) result → Prints (text_of a ++ []) o q Done result
+  -- a front of it was printed, and that ended the run
+  of_broken : (end : Outcome) (kind : Ending) → IsOf kind end → PutsFront a.text o p kind
+      → Prints (last_line end) p q end result → Prints (a.text ++ []) o q Done result
+  of_broken end OutputFailed is puts prints =
+      printed_broken SinkFault puts.0 puts.1 (inl (refl, puts.2)) (rw is at prints)
+  of_broken end OutOfMemory is puts prints = printed_broken Memory puts.0 puts.1 (inr refl) (rw is at prints)
+  of_broken end Finished is puts prints = absurd puts
+  of_broken end Answered is puts prints = absurd puts
+  of_broken end (TooLong need limit) is puts prints = absurd puts
+  of_broken end DiskFailed is puts prints = absurd puts
+  of_broken end InputFailed is puts prints = absurd puts
+  of_broken end LinkFailed is puts prints = absurd puts
+  of_broken end DoorFailed is puts prints = absurd puts
+
+  of_done : (ended : Result (Unit {0}) Outcome) → PutsPart a.text o p ended
+      → Prints (last_line (outcome_of ended)) p q (outcome_of ended) result → Prints (a.text ++ []) o q Done result
   of_done (Ok done) puts prints = printed_whole puts prints
-  of_done (Err SinkFault) puts prints = printed_broken SinkFault puts.0 puts.1 (inl (refl, puts.2)) prints
-  of_done (Err Memory) puts prints = printed_broken Memory puts.0 puts.1 (inr refl) prints
-  of_done (Err Done) puts prints = absurd puts
-  of_done (Err (Usage kind)) puts prints = absurd puts
-  of_done (Err (BadContent fault)) puts prints = absurd puts
-  of_done (Err (Refused refusal)) puts prints = absurd puts
-  of_done (Err (Damaged disk place)) puts prints = absurd puts
-  of_done (Err (StoreFull need limit)) puts prints = absurd puts
-  of_done (Err DiskFault) puts prints = absurd puts
-  of_done (Err SourceFault) puts prints = absurd puts
-  of_done (Err LinkFault) puts prints = absurd puts
-  of_done (Err AcceptFault) puts prints = absurd puts
-  of_done (Err (Peer status)) puts prints = absurd puts
-  of_done (Err (BrokenReply line)) puts prints = absurd puts
-  of_done (Err (LogCheck mine theirs)) puts prints = absurd puts
+  of_done (Err end) puts prints = of_broken end (ending_of end) (of_kind end) puts prints
 
   -- nothing was printed before the last line
   plain : (decided : Outcome) (ended : Result (Unit {0}) Outcome) → (ended ≡ Err decided) × (p ≡ o)
@@ -198,21 +209,22 @@ module _ (a : Result Deed Outcome) (o p q : Output) (result : Outcome) where
       → Prints (last_line decided) o q decided result
   plain decided ended none prints = rw (none.0, none.1) at prints
 
-  pub answered_then : (decided : Outcome) (ended : Result (Unit {0}) Outcome) → Answers (text_of a) o p decided ended
+  answered_by : (decided : Outcome) (kind : Ending) (ended : Result (Unit {0}) Outcome) → IsOf kind decided
+      → AnswersBy a.text o p decided kind ended
+      → Prints (last_line (outcome_of ended)) p q (outcome_of ended) result
+      → Prints (done_text a kind ++ last_line decided) o q decided result
+  answered_by decided Finished ended is answers prints = rw is (of_done ended answers prints)
+  answered_by decided Answered ended is answers prints = plain _ ended answers prints
+  answered_by decided (TooLong need limit) ended is answers prints = plain _ ended answers prints
+  answered_by decided DiskFailed ended is answers prints = plain _ ended answers prints
+  answered_by decided InputFailed ended is answers prints = plain _ ended answers prints
+  answered_by decided OutputFailed ended is answers prints = plain _ ended answers prints
+  answered_by decided LinkFailed ended is answers prints = plain _ ended answers prints
+  answered_by decided DoorFailed ended is answers prints = plain _ ended answers prints
+  answered_by decided OutOfMemory ended is answers prints = plain _ ended answers prints
+
+  pub answered_then : (decided : Outcome) (ended : Result (Unit {0}) Outcome) → Answers a.text o p decided ended
       → Prints (last_line (outcome_of ended)) p q (outcome_of ended) result
       → Prints (printed a decided) o q decided result
-  answered_then Done ended answers prints = of_done ended answers prints
-  answered_then (Usage kind) ended answers prints = plain _ ended answers prints
-  answered_then (BadContent fault) ended answers prints = plain _ ended answers prints
-  answered_then (Refused refusal) ended answers prints = plain _ ended answers prints
-  answered_then (Damaged disk place) ended answers prints = plain _ ended answers prints
-  answered_then (StoreFull need limit) ended answers prints = plain _ ended answers prints
-  answered_then DiskFault ended answers prints = plain _ ended answers prints
-  answered_then SourceFault ended answers prints = plain _ ended answers prints
-  answered_then SinkFault ended answers prints = plain _ ended answers prints
-  answered_then LinkFault ended answers prints = plain _ ended answers prints
-  answered_then AcceptFault ended answers prints = plain _ ended answers prints
-  answered_then (Peer status) ended answers prints = plain _ ended answers prints
-  answered_then (BrokenReply line) ended answers prints = plain _ ended answers prints
-  answered_then (LogCheck mine theirs) ended answers prints = plain _ ended answers prints
-  answered_then Memory ended answers prints = plain _ ended answers prints
+  answered_then decided ended answers prints =
+      answered_by decided (ending_of decided) ended (of_kind decided) answers prints

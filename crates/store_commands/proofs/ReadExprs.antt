@@ -5,21 +5,22 @@ use Rattle.std.specs.Option.{option_map}
 use Rattle.std.proofs.lemmas.List.{length-map, length-take, take_all, take_more}
 use Rattle.std.proofs.lemmas.Option.{slice_get-get_or}
 use Rattle.std.proofs.lemmas.List.Elements.{All-append, All-cons, All-nil}
-use Rattle.conflicts.specs.State.{State, Text}
+use Rattle.conflicts.specs.State.{Text}
 use Rattle.link.specs.Streams.{Output}
-use Rattle.replica_core.specs.Replica.{Found as Left, Known, state_in, Stands as LeftStands}
+use Rattle.replica_core.specs.Replica.{Found as Left, Known, Stands as LeftStands, Stored, stored_in}
 use Rattle.expr_parser.specs.Canonical.{canonical}
 use Rattle.expr_parser.specs.Forms.{Form}
 use Rattle.expr_parser.specs.Reading.{IsExpr, expr_in}
 use Rattle.command_lines.specs.declared.outcome.Outcome.{Outcome}
-use Rattle.command_lines.specs.declared.outcome.Outcome.TheVariants.{Done, Usage, BadContent, Refused, Damaged}
-use Rattle.command_lines.specs.declared.outcome.Outcome.TheVariants.{StoreFull, DiskFault, SourceFault, SinkFault}
-use Rattle.command_lines.specs.declared.outcome.Outcome.TheVariants.{LinkFault, AcceptFault, Peer, BrokenReply}
-use Rattle.command_lines.specs.declared.outcome.Outcome.TheVariants.{LogCheck, Memory}
+use Rattle.command_lines.specs.Endings.{Ending, Finished, Answered, TooLong, DiskFailed, InputFailed, OutputFailed}
+use Rattle.command_lines.specs.Endings.{LinkFailed, DoorFailed, OutOfMemory, ending_of}
+use Rattle.command_lines.proofs.Endings.{IsOf, of_kind}
+use Rattle.command_lines.specs.declared.outcome.Outcome.TheVariants.{Memory}
 use Rattle.store_commands.specs.Carries.{Carries}
-use Rattle.store_commands.specs.Deeds.{Deed, and_then}
-use Rattle.store_commands.specs.Expressions.{AreRead, EndsFor, HaveRead, before_others, canonicals_in}
-use Rattle.store_commands.proofs.Exits.{refused, starved}
+use Rattle.store_commands.specs.Deeds.{Answer, ended, go_on}
+use Rattle.store_commands.specs.Expressions.{AreUnread, HaveRead, before_others, canonicals_in}
+use Rattle.store_commands.specs.inner.Expressions.{AreRead, EndsBy, EndsFor}
+use Rattle.store_commands.proofs.Exits.{declined, starved}
 
 -- one text more
 one_more : (o : Option Text) (p q : Option (List Text)) (cs : List Text) (c : Text) → before_others o p ≡ Some cs
@@ -58,8 +59,8 @@ module _ (texts : List Text) (n : ℕ) (d : Text) (within : n < length texts) (f
             (behind (take n texts) (map canonical fs) (get_or texts n d) f so_far.canonicals reads);
       }
 
-  pub refused_at : (end : Outcome) → EndsFor n (get_or texts n d) end → HaveRead texts (Err end)
-  refused_at (Refused refusal) ends = record {
+  refused_by : (end : Outcome) (kind : Ending) → EndsBy n (get_or texts n d) end kind → AreUnread texts end kind
+  refused_by end Answered ends = record {
     place = n;
     text = get_or texts n d;
     fault = ends.0;
@@ -68,20 +69,17 @@ module _ (texts : List Text) (n : ℕ) (d : Text) (within : n < length texts) (f
     refused = ends.1;
     is = ends.2;
   }
-  refused_at Memory ends = tt
-  refused_at Done ends = absurd ends
-  refused_at (Usage kind) ends = absurd ends
-  refused_at (BadContent fault) ends = absurd ends
-  refused_at (Damaged disk place) ends = absurd ends
-  refused_at (StoreFull need limit) ends = absurd ends
-  refused_at DiskFault ends = absurd ends
-  refused_at SourceFault ends = absurd ends
-  refused_at SinkFault ends = absurd ends
-  refused_at LinkFault ends = absurd ends
-  refused_at AcceptFault ends = absurd ends
-  refused_at (Peer status) ends = absurd ends
-  refused_at (BrokenReply line) ends = absurd ends
-  refused_at (LogCheck mine theirs) ends = absurd ends
+  refused_by end OutOfMemory ends = tt
+  refused_by end Finished ends = absurd ends
+  refused_by end (TooLong need limit) ends = absurd ends
+  refused_by end DiskFailed ends = absurd ends
+  refused_by end InputFailed ends = absurd ends
+  refused_by end OutputFailed ends = absurd ends
+  refused_by end LinkFailed ends = absurd ends
+  refused_by end DoorFailed ends = absurd ends
+
+  pub refused_at : (end : Outcome) → EndsFor n (get_or texts n d) end → HaveRead texts (Err end)
+  refused_at end ends = refused_by end (ending_of end) ends
 
   -- its place is told
   pub refused_so : (k : ℕ) (text : Text) → k ≡ n → text ≡ get_or texts n d → (end : Outcome) → EndsFor k text end
@@ -99,27 +97,22 @@ all_read texts n fs past so_far = rw (take_all n texts past) at so_far
 
 -- ---- an index whose expressions were not read
 
-module _ {R : Type 0} (known : R → Known) (is_open : R → Type 0) (crash : R → ℕ → Left State → Type 0)
-    (settled : (r : R) (o : Left State) → is_open r → crash r (known r).moment o → o ≡ LeftStands (state_in (known r)))
-    (texts : List Text) (next : List Text → Result Deed Outcome) (r : R) (out : Output) (ready : is_open r) where
-  unread : (end : Outcome) → HaveRead texts (Err end) → Carries known crash (Err end) r r out out (Err end)
-  unread (Refused refusal) first = refused known is_open crash settled _ refusal r out ready refl
-  unread Memory first = starved known is_open crash settled _ r out ready
-  unread Done first = absurd first
-  unread (Usage kind) first = absurd first
-  unread (BadContent fault) first = absurd first
-  unread (Damaged disk place) first = absurd first
-  unread (StoreFull need limit) first = absurd first
-  unread DiskFault first = absurd first
-  unread SourceFault first = absurd first
-  unread SinkFault first = absurd first
-  unread LinkFault first = absurd first
-  unread AcceptFault first = absurd first
-  unread (Peer status) first = absurd first
-  unread (BrokenReply line) first = absurd first
-  unread (LogCheck mine theirs) first = absurd first
+module _ {R : Type 0} (known : R → Known) (is_open : R → Type 0) (crash : R → ℕ → Left Stored → Type 0)
+    (settled : (r : R) (o : Left Stored) → is_open r → crash r (known r).moment o → o ≡ LeftStands (stored_in (known r)))
+    (texts : List Text) (next : List Text → Answer) (r : R) (out : Output) (ready : is_open r) where
+  unread : (end : Outcome) (kind : Ending) → ending_of end ≡ kind → IsOf kind end → AreUnread texts end kind
+      → Carries known is_open crash (ended end) r r out out (Err end)
+  unread end Answered is of first = declined known is_open crash settled (ended end) end r out ready is refl
+  unread end OutOfMemory is of first = rw of (starved known is_open crash settled (ended Memory) r out ready)
+  unread end Finished is of first = absurd first
+  unread end (TooLong need limit) is of first = absurd first
+  unread end DiskFailed is of first = absurd first
+  unread end InputFailed is of first = absurd first
+  unread end OutputFailed is of first = absurd first
+  unread end LinkFailed is of first = absurd first
+  unread end DoorFailed is of first = absurd first
 
   pub not_read : (end : Outcome) → HaveRead texts (Err end)
       → (exprs : Result (List Text) Outcome) × HaveRead texts exprs
-      × Carries known crash (and_then exprs next) r r out out (Err end)
-  not_read end first = (Err end, first, unread end first)
+      × Carries known is_open crash (go_on exprs next) r r out out (Err end)
+  not_read end first = (Err end, first, unread end (ending_of end) refl (of_kind end) first)

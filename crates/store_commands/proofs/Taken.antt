@@ -1,38 +1,40 @@
 -- A command with its input.
 use Rattle.std.proofs.Common.{◌≡◌, ◌≢◌, ℕ, List, [], Some, None, Result, Ok, Err, true, false, refl, sym, ap}
-use Rattle.std.proofs.Common.{append-nil, true≢false}
+use Rattle.std.proofs.Common.{append-nil}
 use Rattle.std.specs.Prelude.{Bool, Option}
 use Rattle.std.specs.Result.{IsErrOf}
 use Rattle.u1_base.specs.Causes.{Rose}
 use Rattle.cli_words.specs.declared.command.Command.{Command}
 use Rattle.cli_words.specs.declared.command.Command.TheVariants.{Compact}
-use Rattle.conflicts.specs.State.{State, Text}
+use Rattle.conflicts.specs.State.{Text}
 use Rattle.content.specs.Faults.{fault_of}
 use Rattle.content.specs.Reading.{content_in}
 use Rattle.content.specs.Tree.{Tree, null}
 use Rattle.content.specs.declared.fault.ContentFault.{ContentFault}
 use Rattle.content.specs.declared.fault.ContentFault.TheVariants as content
 use Rattle.link.proofs.Taking.{took_nothing}
-use Rattle.link.specs.Streams.{Input, Output, Reads}
+use Rattle.link.specs.Streams.{Input, Output, Reads, Takes}
 use Rattle.link.specs.declared.input.InputFault.{InputFault}
 use Rattle.link.specs.declared.input.InputFault.TheVariants as input
-use Rattle.replica_core.specs.Replica.{Found as Left, Known, state_in, Stands as LeftStands}
+use Rattle.replica_core.specs.Replica.{Found as Left, Known, Stands as LeftStands, Stored, stored_in}
 use Rattle.replica_state.specs.Held.{Lists}
 use Rattle.command_lines.specs.Outcomes.{content_end, input_end}
 use Rattle.command_lines.specs.declared.outcome.Outcome.{Outcome}
-use Rattle.command_lines.specs.declared.outcome.Outcome.TheVariants.{Done, Usage, BadContent, Refused, Damaged}
-use Rattle.command_lines.specs.declared.outcome.Outcome.TheVariants.{StoreFull, DiskFault, SourceFault, SinkFault}
-use Rattle.command_lines.specs.declared.outcome.Outcome.TheVariants.{LinkFault, AcceptFault, Peer, BrokenReply}
-use Rattle.command_lines.specs.declared.outcome.Outcome.TheVariants.{LogCheck, Memory}
-use Rattle.store_commands.specs.Answer.{changes_of, exprs_given, most_input, reads_input, takes}
-use Rattle.store_commands.specs.Carries.{Carries, CarriesCompacting, InStore, TakesFor, found_open}
+use Rattle.command_lines.specs.Endings.{Ending, Finished, Answered, TooLong, DiskFailed, InputFailed, OutputFailed}
+use Rattle.command_lines.specs.Endings.{LinkFailed, DoorFailed, OutOfMemory, ending_of}
+use Rattle.command_lines.proofs.Endings.{IsOf, of_kind, other_kind}
+use Rattle.command_lines.specs.declared.outcome.Outcome.TheVariants.{DiskFault, Memory, SourceFault}
+use Rattle.store_commands.specs.Answer.{exprs_given, most_input, reads_input, takes}
+use Rattle.store_commands.specs.Carries.{Answers, Carries, CarriesCompacting, InStore, found_open}
+use Rattle.store_commands.specs.inner.Carries.{TakesFor, TakesNone}
 use Rattle.store_commands.specs.Compacting.{Image}
-use Rattle.store_commands.specs.Deeds.{Deed, and_then, compacts_as, does}
+use Rattle.store_commands.specs.Deeds.{Answer, compacts_as, does, ended, go_on}
 use Rattle.store_commands.specs.Expressions.{HaveRead}
 use Rattle.store_commands.specs.Found.{Found, Store, opened_as}
-use Rattle.store_commands.specs.Leaves.{Does, IsRead, Leaves}
-use Rattle.store_commands.specs.declared.store.Sizes.{Sizes}
-use Rattle.store_commands.proofs.Exits.{at_rest}
+use Rattle.store_commands.specs.Leaves.{Cause, Does, IsRead, IsReadBy}
+use Rattle.disks.specs.declared.fault.Sizes.{Sizes}
+use Rattle.store_commands.proofs.Causes.{cause_seen}
+use Rattle.store_commands.proofs.Exits.{resting}
 use Rattle.store_commands.proofs.Moving.{open_now, unmoved}
 
 -- ---- reading a content
@@ -72,57 +74,42 @@ no_content before after bytes content.Memory reads why none = (bytes, bytes, rea
 
 -- ---- what was read of what was due
 
+all_read_by : (given : List ℕ) (kind : Ending) → IsReadBy kind given given
+all_read_by given Finished = refl
+all_read_by given Answered = refl
+all_read_by given (TooLong need limit) = refl
+all_read_by given DiskFailed = ([], sym (append-nil given))
+all_read_by given InputFailed = ([], sym (append-nil given))
+all_read_by given OutputFailed = refl
+all_read_by given LinkFailed = refl
+all_read_by given DoorFailed = refl
+all_read_by given OutOfMemory = ([], sym (append-nil given))
+
 pub all_read : (given : List ℕ) (decided : Outcome) → IsRead given given decided
-all_read given Done = refl
-all_read given (Usage kind) = refl
-all_read given (BadContent fault) = refl
-all_read given (Refused refusal) = refl
-all_read given (Damaged disk place) = refl
-all_read given (StoreFull need limit) = refl
-all_read given DiskFault = ([], sym (append-nil given))
-all_read given SourceFault = ([], sym (append-nil given))
-all_read given SinkFault = refl
-all_read given LinkFault = refl
-all_read given AcceptFault = refl
-all_read given (Peer status) = refl
-all_read given (BrokenReply line) = refl
-all_read given (LogCheck mine theirs) = refl
-all_read given Memory = ([], sym (append-nil given))
+all_read given decided = all_read_by given (ending_of decided)
 
 -- who reads nothing has no fault of the input
-module _ (found : Found) (opened : Bool) (a : Result Deed Outcome) (other : Type 0) (before after : Store) where
-  free : (stood reached : ℕ) (decided : Outcome) → Leaves found opened a ⊥ stood reached before after decided
-      → Leaves found opened a other stood reached before after decided
-  free stood reached Done leaves = leaves
-  free stood reached (Usage kind) leaves = leaves
-  free stood reached (BadContent fault) leaves = leaves
-  free stood reached (Refused refusal) leaves = leaves
-  free stood reached (Damaged disk place) leaves = leaves
-  free stood reached (StoreFull need limit) leaves = leaves
-  free stood reached DiskFault leaves = leaves
-  free stood reached SourceFault leaves = absurd leaves.0
-  free stood reached SinkFault leaves = absurd leaves
-  free stood reached LinkFault leaves = absurd leaves
-  free stood reached AcceptFault leaves = absurd leaves
-  free stood reached (Peer status) leaves = absurd leaves
-  free stood reached (BrokenReply line) leaves = absurd leaves
-  free stood reached (LogCheck mine theirs) leaves = absurd leaves
-  free stood reached Memory leaves = leaves
-
-  pub reads_free : (decided : Outcome) → Does found opened a ⊥ before after decided
-      → Does found opened a other before after decided
-  reads_free decided d = record {
-    stood = d.stood;
-    reached = d.reached;
-    passes = d.passes;
-    leaves =
-        free d.stood d.reached decided d.leaves;
-  }
+pub reads_free : (found : Found) (opened : Bool) (a : Answer) (other : Type 0) (before after : Store)
+    (decided : Outcome) → Does found opened a ⊥ before after decided → Does found opened a other before after decided
+reads_free found opened a other before after decided d = record {
+  stood = d.stood;
+  reached = d.reached;
+  passes = d.passes;
+  leaves = record {
+    cause = cause_seen found opened a ⊥ other d.stood d.reached before after before after (λ rose. rose)
+        (λ read. absurd read) decided (ending_of decided) d.leaves.cause;
+    fits = d.leaves.fits;
+    front = d.leaves.front;
+    rest = d.leaves.rest;
+    need = d.leaves.need;
+    bytes = d.leaves.bytes;
+  };
+}
 
 -- ---- over an open replica
 
-module _ {R : Type 0} (known : R → Known) (is_open : R → Type 0) (crash : R → ℕ → Left State → Type 0)
-    (settled : (r : R) (o : Left State) → is_open r → crash r (known r).moment o → o ≡ LeftStands (state_in (known r)))
+module _ {R : Type 0} (known : R → Known) (is_open : R → Type 0) (crash : R → ℕ → Left Stored → Type 0)
+    (settled : (r : R) (o : Left Stored) → is_open r → crash r (known r).moment o → o ≡ LeftStands (stored_in (known r)))
     (command : Command) (seed : ℕ) (exprs : Result (List Text) Outcome)
     (exprs_read : HaveRead (exprs_given command) exprs) (other : command ≢ Compact) (lists : Lists)
     (image_before image_after : Option Image) where
@@ -131,11 +118,11 @@ module _ {R : Type 0} (known : R → Known) (is_open : R → Type 0) (crash : R 
   sizes = Err Memory
 
   -- a command that reads no input
-  pub without_input : (a : Result Deed Outcome) (old new : R) (given : Input) (out_before out_after : Output)
+  pub without_input : (a : Answer) (old new : R) (given : Input) (out_before out_after : Output)
       (result : Result (Unit {0}) Outcome)
       → reads_input command ≡ false → a ≡ does seed exprs sizes command lists null
-      → Carries known crash a old new out_before out_after result
-      → InStore command seed (found_open (known old)) lists image_before image_after (opened_as (known old) (crash old))
+      → Carries known is_open crash a old new out_before out_after result
+      → InStore command seed (is_open new) (found_open (known old)) lists image_before image_after (opened_as (known old) (crash old))
       (opened_as (known new) (crash new)) given given out_before out_after result
   without_input a old new given out_before out_after result reads is carries = record {
     decided = carries.decided;
@@ -149,17 +136,18 @@ module _ {R : Type 0} (known : R → Known) (is_open : R → Type 0) (crash : R 
     is = rw reads is;
     store = reads_free (found_open (known old)) true a _ (opened_as (known old) (crash old))
         (opened_as (known new) (crash new)) carries.decided carries.does;
+    ready = carries.ready;
     input = (took_nothing most_input given).1;
     is_read = rw reads (all_read [] carries.decided);
     answers = carries.answers;
   }
 
   -- a command whose content was read
-  pub with_input : (tree : Tree) (a : Result Deed Outcome) (old new : R) (before after : Input)
+  pub with_input : (tree : Tree) (a : Answer) (old new : R) (before after : Input)
       (out_before out_after : Output) (result : Result (Unit {0}) Outcome)
       → reads_input command ≡ true → TakesFor before after (Ok tree) → a ≡ does seed exprs sizes command lists tree
-      → Carries known crash a old new out_before out_after result
-      → InStore command seed (found_open (known old)) lists image_before image_after (opened_as (known old) (crash old))
+      → Carries known is_open crash a old new out_before out_after result
+      → InStore command seed (is_open new) (found_open (known old)) lists image_before image_after (opened_as (known old) (crash old))
       (opened_as (known new) (crash new)) before after out_before out_after result
   with_input tree a old new before after out_before out_after result reads taken is carries = record {
     decided = carries.decided;
@@ -173,6 +161,7 @@ module _ {R : Type 0} (known : R → Known) (is_open : R → Type 0) (crash : R 
     is = rw (reads, taken.2) is;
     store = reads_free (found_open (known old)) true a _ (opened_as (known old) (crash old))
         (opened_as (known new) (crash new)) carries.decided carries.does;
+    ready = carries.ready;
     input = taken.1;
     is_read = rw reads (all_read taken.0 carries.decided);
     answers = carries.answers;
@@ -180,101 +169,92 @@ module _ {R : Type 0} (known : R → Known) (is_open : R → Type 0) (crash : R 
 
   -- the input gave no content
   module _ (r : R) (before after : Input) (out : Output) (ready : is_open r) (reads : reads_input command ≡ true) where
-    pub untaken : (outcome : Outcome) → TakesFor before after (Err outcome)
-        → InStore command seed (found_open (known r)) lists image_before image_after (opened_as (known r) (crash r))
-        (opened_as (known r) (crash r)) before after out out (Err outcome)
-    untaken (BadContent fault) taken = record {
-      decided = BadContent fault;
+    abbrev Ends : Outcome → Type 0
+    Ends outcome = InStore command seed (is_open r) (found_open (known r)) lists image_before image_after
+        (opened_as (known r) (crash r)) (opened_as (known r) (crash r)) before after out out (Err outcome)
+
+    abbrev by_content : List ℕ → Answer
+    by_content given = go_on (takes (reads_input command) given)
+        (λ content. does seed exprs sizes command lists content)
+
+    -- it is no content
+    no_content_in : (outcome : Outcome) → ending_of outcome ≡ Answered → (given : List ℕ)
+        → Takes most_input given given before after → takes true given ≡ Err outcome → Ends outcome
+    no_content_in outcome kind given taken why = record {
+      decided = outcome;
       exprs = exprs;
       exprs_read = exprs_read;
       sizes = sizes;
       compacted = λ is. absurd (other is);
-      given = taken.0;
-      read = taken.0;
-      a = Err (BadContent fault);
-      is = rw (reads, taken.2) refl;
+      given = given;
+      read = given;
+      a = ended outcome;
+      is = rw (reads, why) refl;
       store = record {
         stood = 0;
         reached = 0;
-        passes = unmoved (found_open (known r)) [] (opened_as (known r) (crash r)) (open_now (known r) []);
-        leaves = (refl, λ rests. at_rest known is_open crash settled r ready);
+        passes = unmoved (found_open (known r)) [] (opened_as (known r) (crash r)) (open_now (known r));
+        leaves = resting known is_open crash settled (ended outcome) _ r outcome ready (rw kind (refl, refl));
       };
-      input = taken.1;
-      is_read = rw reads refl;
-      answers = (refl, refl);
+      ready = λ no. ready;
+      input = taken;
+      is_read = rw reads (all_read given outcome);
+      answers = rw kind (refl, refl);
     }
-    untaken SourceFault taken =
-        let a : Result Deed Outcome = and_then (takes (reads_input command) taken.0)
-        (λ content. does seed exprs sizes command lists content) in
-        record {
-          decided = SourceFault;
-          exprs = exprs;
-          exprs_read = exprs_read;
-          sizes = sizes;
-          compacted = λ is. absurd (other is);
-          given = taken.0;
-          read = taken.1;
-          a = a;
-          is = refl;
-          store = record {
-            stood = 0;
-            reached = 0;
-            passes = unmoved (found_open (known r)) (changes_of a) (opened_as (known r) (crash r))
-                (open_now (known r) (changes_of a));
-            leaves = ((reads, taken.3), refl, λ rests. at_rest known is_open crash settled r ready);
-          };
-          input = taken.2;
-          is_read = rw reads taken.2.front;
-          answers = (refl, refl);
-        }
-    untaken Memory taken =
-        let a : Result Deed Outcome = and_then (takes (reads_input command) taken.0)
-        (λ content. does seed exprs sizes command lists content) in
-        record {
-          decided = Memory;
-          exprs = exprs;
-          exprs_read = exprs_read;
-          sizes = sizes;
-          compacted = λ is. absurd (other is);
-          given = taken.0;
-          read = taken.1;
-          a = a;
-          is = refl;
-          store = record {
-            stood = 0;
-            reached = 0;
-            passes = unmoved (found_open (known r)) (changes_of a) (opened_as (known r) (crash r))
-                (open_now (known r) (changes_of a));
-            leaves = (
-              refl,
-              λ rests. at_rest known is_open crash settled r ready,
-              λ shut. absurd (true≢false shut),
-            );
-          };
-          input = taken.2;
-          is_read = rw reads taken.2.front;
-          answers = (refl, refl);
-        }
-    untaken Done taken = absurd taken
-    untaken (Usage kind) taken = absurd taken
-    untaken (Refused refusal) taken = absurd taken
-    untaken (Damaged disk place) taken = absurd taken
-    untaken (StoreFull need limit) taken = absurd taken
-    untaken DiskFault taken = absurd taken
-    untaken SinkFault taken = absurd taken
-    untaken LinkFault taken = absurd taken
-    untaken AcceptFault taken = absurd taken
-    untaken (Peer status) taken = absurd taken
-    untaken (BrokenReply line) taken = absurd taken
-    untaken (LogCheck mine theirs) taken = absurd taken
+
+    -- it was not read to its end
+    broke_off : (outcome : Outcome) (given read : List ℕ) → (taken : Takes most_input given read before after)
+        → Cause (found_open (known r)) true (by_content given)
+        ((reads_input command ≡ true) × Rose before.faults after.faults) 0 0
+        (opened_as (known r) (crash r)) (opened_as (known r) (crash r)) outcome (ending_of outcome)
+        → IsRead given read outcome → Answers (by_content given).text out out outcome (Err outcome) → Ends outcome
+    broke_off outcome given read taken cause front answers = record {
+      decided = outcome;
+      exprs = exprs;
+      exprs_read = exprs_read;
+      sizes = sizes;
+      compacted = λ is. absurd (other is);
+      given = given;
+      read = read;
+      a = by_content given;
+      is = refl;
+      store = record {
+        stood = 0;
+        reached = 0;
+        passes = unmoved (found_open (known r)) (by_content given).changes (opened_as (known r) (crash r))
+            (open_now (known r));
+        leaves = resting known is_open crash settled (by_content given) _ r outcome ready cause;
+      };
+      ready = λ no. ready;
+      input = taken;
+      is_read = rw reads front;
+      answers = answers;
+    }
+
+    untaken_by : (outcome : Outcome) (kind : Ending) → ending_of outcome ≡ kind → IsOf kind outcome
+        → TakesNone before after outcome kind → Ends outcome
+    untaken_by outcome Answered is of taken = no_content_in outcome is taken.0 taken.1 taken.2
+    untaken_by outcome InputFailed is of taken =
+        rw of (broke_off SourceFault taken.0 taken.1 taken.2 ((reads, taken.3), refl) taken.2.front (refl, refl))
+    untaken_by outcome OutOfMemory is of taken =
+        rw of (broke_off Memory taken.0 taken.1 taken.2 tt taken.2.front (refl, refl))
+    untaken_by outcome Finished is of taken = absurd taken
+    untaken_by outcome (TooLong need limit) is of taken = absurd taken
+    untaken_by outcome DiskFailed is of taken = absurd taken
+    untaken_by outcome OutputFailed is of taken = absurd taken
+    untaken_by outcome LinkFailed is of taken = absurd taken
+    untaken_by outcome DoorFailed is of taken = absurd taken
+
+    pub untaken : (outcome : Outcome) → TakesFor before after (Err outcome) → Ends outcome
+    untaken outcome taken = untaken_by outcome (ending_of outcome) refl (of_kind outcome) taken
 
 -- ---- compact reads no input
 
-module _ {O : Type 0} (known : O → Known) (crash : O → ℕ → Left State → Type 0) (image : O → Option Image)
-    (seed : ℕ) (lists : Lists) where
+module _ {O : Type 0} (known : O → Known) (is_open : O → Type 0) (crash : O → ℕ → Left Stored → Type 0)
+    (image : O → Option Image) (seed : ℕ) (lists : Lists) where
   pub compacting : (old new : O) (given : Input) (out_before out_after : Output) (result : Result (Unit {0}) Outcome)
-      → CarriesCompacting known crash image old new out_before out_after result
-      → InStore Compact seed (found_open (known old)) lists (image old) (image new)
+      → CarriesCompacting known is_open crash image old new out_before out_after result
+      → InStore Compact seed (is_open new) (found_open (known old)) lists (image old) (image new)
       (opened_as (known old) (crash old)) (opened_as (known new) (crash new)) given given out_before out_after result
   compacting old new given out_before out_after result done = record {
     decided = done.carries.decided;
@@ -288,6 +268,7 @@ module _ {O : Type 0} (known : O → Known) (crash : O → ℕ → Left State �
     is = refl;
     store = reads_free (found_open (known old)) true (compacts_as done.sizes) _ (opened_as (known old) (crash old))
         (opened_as (known new) (crash new)) done.carries.decided done.carries.does;
+    ready = done.carries.ready;
     input = (took_nothing most_input given).1;
     is_read = all_read [] done.carries.decided;
     answers = done.carries.answers;

@@ -3,23 +3,26 @@ use Rattle.std.proofs.Common.{◌≡◌, ◌⊎◌, ℕ, [], Option, Some, None,
 use Rattle.std.specs.Prelude.{Bool, if◌then◌else◌}
 use Rattle.cli_words.specs.declared.command.Command.{Command}
 use Rattle.cli_words.specs.declared.command.Command.TheVariants as command
+use Rattle.cli_words.specs.declared.command.Edit.{Edit}
+use Rattle.cli_words.specs.declared.command.Edit.TheVariants as edit
 use Rattle.link.proofs.Taking.{took_nothing}
 use Rattle.link.specs.Streams.{Input, Output}
 use Rattle.replica_state.specs.Held.{no_lists}
+use Rattle.command_lines.specs.Endings.{Answered, ending_of}
 use Rattle.command_lines.specs.declared.outcome.Outcome.{Outcome}
 use Rattle.command_lines.specs.declared.outcome.Outcome.TheVariants.{Memory, Refused, Usage}
 use Rattle.command_lines.specs.declared.outcome.Refusal.TheVariants.{NotBuilt}
 use Rattle.command_lines.specs.declared.outcome.UsageKind.TheVariants.{Words}
-use Rattle.store_commands.specs.Answer.{Occasion, built, has_exprs, is_limit, most_input, opens_for}
+use Rattle.store_commands.specs.Answer.{Occasion, built, built_edit, has_exprs, is_limit, most_input, opens_for}
 use Rattle.store_commands.specs.Carries.{Answers, Carried}
-use Rattle.store_commands.specs.Changes.{HasLimit, IsNow, IsSettled, limit_of}
+use Rattle.store_commands.specs.Changes.{IsNeeded, IsNow, IsSettled}
 use Rattle.store_commands.specs.Compacting.{Image}
-use Rattle.store_commands.specs.Deeds.{limit_given}
+use Rattle.store_commands.specs.Deeds.{ended, limit_given}
 use Rattle.store_commands.specs.Found.{Blank, Damaged as DamagedStore, Found, IsTold, Stands, Store, in_short}
-use Rattle.store_commands.specs.Leaves.{IsRead, Leaves}
-use Rattle.store_commands.specs.Run.{IsUnread, LeavesUntouched}
+use Rattle.store_commands.specs.Leaves.{IsRead}
+use Rattle.store_commands.specs.Run.{LeavesUntouched}
 use Rattle.store_commands.specs.Store.{FindsSome}
-use Rattle.store_commands.proofs.Moving.{stays, unmoved}
+use Rattle.store_commands.proofs.Moving.{needs_itself, none_fit, stays, unmoved}
 
 false_not_true : {P : Type 0} → false ≡ true → P
 false_not_true h = cc
@@ -34,20 +37,22 @@ told_so : (told : Option Found) → IsTold told (found_or told)
 told_so None = tt
 told_so (Some found) = refl
 
-own_limit : (found : Found) → HasLimit (limit_of found []) found
-own_limit Blank = tt
-own_limit (DamagedStore disk place) = tt
-own_limit (Stands x) = refl
-
-now_so : (told : Option Found) → IsNow (in_short (found_or told)) (limit_of (found_or told) []) told
+now_so : (told : Option Found) → IsNow (in_short (found_or told)) told
 now_so None = tt
-now_so (Some found) = (refl, own_limit found)
+now_so (Some found) = refl
+
+needs_so : (told : Option Found) → IsNeeded (found_or told) [] told
+needs_so None = tt
+needs_so (Some found) = needs_itself found
 
 pub left_alone : (store : Store) → FindsSome store store
 left_alone store = record {
   found = found_or store.found;
   told = told_so store.found;
-  keeps = unmoved (found_or store.found) [] store (now_so store.found);
+  keeps = record {
+    passes = unmoved (found_or store.found) [] store (now_so store.found);
+    need = needs_so store.found;
+  };
 }
 
 -- ---- how a run ends for a command that is not built
@@ -60,40 +65,30 @@ if_usage false outcome is = cc
 abbrev EndsUnbuilt : Outcome → Type 0
 EndsUnbuilt outcome = (outcome ≡ Refused NotBuilt) ⊎ (outcome ≡ Usage Words)
 
-is_built : {P : Type 0} (outcome : Outcome) → ◌≡◌ {A = Result (Unit {0}) Outcome} (Ok tt) (Err outcome) → P
-is_built outcome is = cc
+built_so : {P : Type 0} (outcome : Outcome) → ◌≡◌ {A = Result (Unit {0}) Outcome} (Ok tt) (Err outcome) → P
+built_so outcome is = cc
 
 not_yet : (outcome : Outcome) → ◌≡◌ {A = Result (Unit {0}) Outcome} (Err (Refused NotBuilt)) (Err outcome)
     → EndsUnbuilt outcome
 not_yet outcome is = let e : outcome ≡ Refused NotBuilt = cc in inl e
 
+edit_ends : (given : Edit) (outcome : Outcome) → built_edit given ≡ Err outcome → EndsUnbuilt outcome
+edit_ends (edit.Create id) outcome is = built_so outcome is
+edit_ends (edit.Put id rev) outcome is = built_so outcome is
+edit_ends (edit.Delete id rev) outcome is = built_so outcome is
+edit_ends (edit.Resolve id revs) outcome is = built_so outcome is
+edit_ends (edit.ResolveDeleted id revs) outcome is = built_so outcome is
+edit_ends (edit.IndexCreate name exprs) outcome is = inr (if_usage (has_exprs exprs) outcome is)
+edit_ends (edit.IndexDelete name) outcome is = built_so outcome is
+
 built_ends : (given : Command) (outcome : Outcome) → built given ≡ Err outcome → EndsUnbuilt outcome
 built_ends (command.Init name uid limit) outcome is = inr (if_usage (is_limit (limit_given limit)) outcome is)
-built_ends (command.Create id) outcome is = is_built outcome is
-built_ends (command.Get id deleted) outcome is = is_built outcome is
-built_ends (command.Put id rev) outcome is = is_built outcome is
-built_ends (command.Delete id rev) outcome is = is_built outcome is
-built_ends (command.Conflicts id) outcome is = is_built outcome is
-built_ends (command.Resolve id revs) outcome is = is_built outcome is
-built_ends (command.ResolveDeleted id revs) outcome is = is_built outcome is
-built_ends (command.IndexCreate name exprs) outcome is = inr (if_usage (has_exprs exprs) outcome is)
-built_ends (command.IndexDelete name) outcome is = is_built outcome is
-built_ends command.IndexList outcome is = is_built outcome is
-built_ends (command.Query name values) outcome is = is_built outcome is
-built_ends (command.Range name start end) outcome is = is_built outcome is
-built_ends (command.Keys name) outcome is = is_built outcome is
-built_ends (command.All deleted) outcome is = is_built outcome is
-built_ends (command.Changes after) outcome is = is_built outcome is
-built_ends command.Info outcome is = is_built outcome is
-built_ends command.Compact outcome is = is_built outcome is
-built_ends (command.Sync with) outcome is = not_yet outcome is
-built_ends (command.Serve port count) outcome is = not_yet outcome is
-built_ends (command.ServeDocs port count) outcome is = not_yet outcome is
-built_ends (command.Node port with rounds between) outcome is = not_yet outcome is
+built_ends (command.Show show) outcome is = built_so outcome is
+built_ends (command.Edit edit) outcome is = edit_ends edit outcome is
+built_ends command.Compact outcome is = built_so outcome is
+built_ends (command.Online online) outcome is = not_yet outcome is
 built_ends (command.Work seed count) outcome is = not_yet outcome is
-built_ends (command.ViewCreate name index values) outcome is = not_yet outcome is
-built_ends (command.ViewShow name) outcome is = not_yet outcome is
-built_ends (command.ViewDelete name) outcome is = not_yet outcome is
+built_ends (command.View view) outcome is = not_yet outcome is
 
 -- ---- the run
 
@@ -118,16 +113,16 @@ module _ (given : Command) (seed : ℕ) (store : Store) (image : Option Image) (
   at_rest = stays (found_or store.found) store store (unmoved (found_or store.found) [] store (now_so store.found))
 
   not_built : (outcome : Outcome) → built given ≡ Err outcome → IsRead [] [] outcome
-      → Leaves (found_or store.found) false (Err outcome) (IsUnread met input input) 0 0 store store outcome
+      → ending_of outcome ≡ Answered
       → Answers [] out out outcome (Err outcome)
       → Carried given seed (record { store = store; image = image; input = input })
       (record { store = store; image = image; input = input }) out out (Err outcome)
   unfolding left_alone
-  not_built outcome is read leaves prints =
+  not_built outcome is read kind prints =
       let none : opens_for given (found_or store.found) (no_lists [] []) ≡ Err outcome = rw is refl in
       record {
         decided = outcome;
-        a = Err outcome;
+        a = ended outcome;
         decides = record {
           o = met;
           is_command = refl;
@@ -143,7 +138,19 @@ module _ (given : Command) (seed : ℕ) (store : Store) (image : Option Image) (
             there =
                 rw none refl;
           });
-          does = record { stood = 0; reached = 0; passes = (left_alone store).keeps; leaves = leaves };
+          does = record {
+            stood = 0;
+            reached = 0;
+            passes = (left_alone store).keeps.passes;
+            leaves = record {
+              cause = rw kind (refl, refl);
+              fits = none_fit (found_or store.found) [];
+              front = λ no. refl;
+              rest = λ no. at_rest;
+              need = λ no same. needs_so store.found;
+              bytes = λ no shut. refl;
+            };
+          };
           takes = (took_nothing most_input input).1;
           is_read = rw none read;
         };
@@ -156,6 +163,6 @@ module _ (given : Command) (seed : ℕ) (store : Store) (image : Option Image) (
       (record { store = store; image = image; input = input }) out out (Err outcome)
   unbuilt outcome is =
       ⊎_elim
-      (λ refused. rw refused (not_built (Refused NotBuilt) (rw refused at is) refl (refl, at_rest, λ shut. refl) (refl, refl)))
-      (λ usage. rw usage (not_built (Usage Words) (rw usage at is) refl (refl, at_rest, λ shut. refl) (refl, refl)))
+      (λ refused. rw refused (not_built (Refused NotBuilt) (rw refused at is) refl refl (refl, refl)))
+      (λ usage. rw usage (not_built (Usage Words) (rw usage at is) refl refl (refl, refl)))
       (built_ends given outcome is)

@@ -4,6 +4,8 @@ use Rattle.std.specs.Prelude.{ℕ, ◌+◌, Bool, true, false, ◌&&◌, nat_le,
 use Rattle.std.specs.Prelude.{None, Result, Ok, Err, unwrap_or}
 use Rattle.cli_words.specs.declared.command.Command.{Command}
 use Rattle.cli_words.specs.declared.command.Command.TheVariants as command
+use Rattle.cli_words.specs.declared.command.Edit.{Edit}
+use Rattle.cli_words.specs.declared.command.Edit.TheVariants as edit
 use Rattle.conflicts.specs.State.{Text}
 use Rattle.content.specs.Contents.{most_bytes}
 use Rattle.content.specs.Faults.{fault_of}
@@ -11,6 +13,7 @@ use Rattle.content.specs.Reading.{content_in}
 use Rattle.content.specs.Tree.{Tree, null}
 use Rattle.content.specs.declared.fault.ContentFault.{ContentFault}
 use Rattle.content.specs.declared.fault.ContentFault.TheVariants.{NotJson}
+use Rattle.disks.specs.declared.fault.Sizes.{Sizes}
 use Rattle.expr_parser.specs.Limits.{most_exprs}
 use Rattle.replica_state.specs.Held.{Lists, no_lists}
 use Rattle.u1_base.specs.declared.limits.TheConstants.{GREATEST_IMAGE_LIMIT, LEAST_IMAGE_LIMIT}
@@ -19,9 +22,7 @@ use Rattle.command_lines.specs.declared.outcome.Outcome.{Outcome}
 use Rattle.command_lines.specs.declared.outcome.Outcome.TheVariants as outcome
 use Rattle.command_lines.specs.declared.outcome.Refusal.TheVariants as refusal
 use Rattle.command_lines.specs.declared.outcome.UsageKind.TheVariants as usage
-use Rattle.store_commands.specs.Changes.{Change}
-use Rattle.store_commands.specs.Deeds.{Deed, and_then, does, limit_given}
-use Rattle.store_commands.specs.declared.store.Sizes.{Sizes}
+use Rattle.store_commands.specs.Deeds.{Answer, does, go_on, limit_given}
 use Rattle.store_commands.specs.Found.{Found, Blank, Damaged, Stands}
 
 -- What a run meets: its command, what that one's index expressions read as, what compacting comes to, its seed, what
@@ -48,22 +49,22 @@ has_exprs exprs = nat_le 1 (length exprs) && nat_le (length exprs) most_exprs
 abbrev pub is_limit : ℕ → Bool
 is_limit limit = nat_le LEAST_IMAGE_LIMIT limit && nat_le limit GREATEST_IMAGE_LIMIT
 
+abbrev pub built_edit : Edit → Result (Unit {0}) Outcome
+built_edit (edit.IndexCreate name exprs) = if has_exprs exprs then Ok tt else Err (outcome.Usage usage.Words)
+built_edit _ = Ok tt
+
 abbrev pub built : Command → Result (Unit {0}) Outcome
 built (command.Init name uid limit) = if is_limit (limit_given limit) then Ok tt else Err (outcome.Usage usage.Words)
-built (command.IndexCreate name exprs) = if has_exprs exprs then Ok tt else Err (outcome.Usage usage.Words)
-built (command.Sync with) = Err (outcome.Refused refusal.NotBuilt)
-built (command.Serve port count) = Err (outcome.Refused refusal.NotBuilt)
-built (command.ServeDocs port count) = Err (outcome.Refused refusal.NotBuilt)
-built (command.Node port with rounds between) = Err (outcome.Refused refusal.NotBuilt)
+built (command.Show show) = Ok tt
+built (command.Edit edit) = built_edit edit
+built command.Compact = Ok tt
+built (command.Online online) = Err (outcome.Refused refusal.NotBuilt)
 built (command.Work seed count) = Err (outcome.Refused refusal.NotBuilt)
-built (command.ViewCreate name index values) = Err (outcome.Refused refusal.NotBuilt)
-built (command.ViewShow name) = Err (outcome.Refused refusal.NotBuilt)
-built (command.ViewDelete name) = Err (outcome.Refused refusal.NotBuilt)
-built _ = Ok tt
+built (command.View view) = Err (outcome.Refused refusal.NotBuilt)
 
 -- the texts of a command's index expressions
 abbrev pub exprs_given : Command → List Text
-exprs_given (command.IndexCreate name texts) = texts
+exprs_given (command.Edit (edit.IndexCreate name texts)) = texts
 exprs_given _ = []
 
 -- ---- OPENS: a command makes a store where there is none, or opens the one that is there
@@ -81,8 +82,12 @@ opens false Blank lists = Err (outcome.Refused refusal.NoDatabase)
 opens false (Damaged disk place) lists = Err (outcome.Damaged disk place)
 opens false (Stands x) lists = Ok lists
 
+abbrev pub if_built : Result (Unit {0}) Outcome → Result Lists Outcome → Result Lists Outcome
+if_built (Ok done) opened = opened
+if_built (Err outcome) opened = Err outcome
+
 abbrev pub opens_for : Command → Found → Lists → Result Lists Outcome
-opens_for command found lists = and_then (built command) (λ done. opens (makes_store command) found lists)
+opens_for command found lists = if_built (built command) (opens (makes_store command) found lists)
 
 -- the command goes on: there is the store that it wants
 abbrev pub is_opened : Result Lists Outcome → Bool
@@ -91,10 +96,17 @@ is_opened (Err outcome) = false
 
 -- ---- TAKES: a command reads a content, or nothing
 
+abbrev pub takes_content : Edit → Bool
+takes_content (edit.Create id) = true
+takes_content (edit.Put id rev) = true
+takes_content (edit.Delete id rev) = false
+takes_content (edit.Resolve id revs) = true
+takes_content (edit.ResolveDeleted id revs) = false
+takes_content (edit.IndexCreate name exprs) = false
+takes_content (edit.IndexDelete name) = false
+
 abbrev pub reads_input : Command → Bool
-reads_input (command.Create id) = true
-reads_input (command.Put id rev) = true
-reads_input (command.Resolve id revs) = true
+reads_input (command.Edit edit) = takes_content edit
 reads_input _ = false
 
 -- a text without a fault reads as a content, so the fault is always there where it is asked for
@@ -108,10 +120,10 @@ takes false given = Ok null
 
 -- ---- THE ANSWER: the three, one after the other; the first that refuses counts
 
-abbrev pub answer : Occasion → Result Deed Outcome
+abbrev pub answer : Occasion → Answer
 answer o =
-    and_then (opens_for o.command o.found o.lists)
-    (λ lists. and_then (takes (reads_input o.command) o.given)
+    go_on (opens_for o.command o.found o.lists)
+    (λ lists. go_on (takes (reads_input o.command) o.given)
     (λ content. does o.seed o.exprs o.sizes o.command lists content))
 
 -- the bytes of the input that are read: none where the store is not what the command wants
@@ -122,11 +134,3 @@ due_of (Err outcome) reads given = []
 
 abbrev pub due : Occasion → List ℕ
 due o = due_of (opens_for o.command o.found o.lists) (reads_input o.command) o.given
-
-abbrev pub changes_of : Result Deed Outcome → List Change
-changes_of (Ok deed) = deed.changes
-changes_of (Err outcome) = []
-
-abbrev pub text_of : Result Deed Outcome → List ℕ
-text_of (Ok deed) = deed.text
-text_of (Err outcome) = []

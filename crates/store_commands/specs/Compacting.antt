@@ -1,14 +1,15 @@
 -- Compacting a store that is open: its image is written anew, with what a compaction leaves of its steps.
-use Rattle.std.specs.Prelude.{◌≡◌, ℕ, ◌≤◌, Option, Some, None, Result, Ok, Err}
+use Rattle.std.specs.Prelude.{◌≡◌, ℕ, ◌≤◌, [], Option, Some, None, Result, Ok, Err}
 use Rattle.u1_base.specs.Causes.{Rose}
 use Rattle.compaction.specs.Compaction.{compaction}
-use Rattle.conflicts.specs.State.{History, State}
-use Rattle.replica_core.specs.Replica.{AddsOnly, Found as Left, Known, Stands as LeftStands, state_in}
+use Rattle.conflicts.specs.State.{History}
+use Rattle.disks.specs.declared.fault.CompactFault.{CompactFault}
+use Rattle.disks.specs.declared.fault.CompactFault.TheVariants as fault
+use Rattle.disks.specs.declared.fault.Sizes.{Sizes}
+use Rattle.replica_core.specs.Replica.{AddsOnly, Found as Left, Known, NeedsBehind, Stands as LeftStands, Stored}
+use Rattle.replica_core.specs.Replica.{stored_in}
 use Rattle.command_lines.specs.declared.outcome.Outcome.{Outcome}
 use Rattle.command_lines.specs.declared.outcome.Outcome.TheVariants as outcome
-use Rattle.store_commands.specs.declared.store.CompactFault.{CompactFault}
-use Rattle.store_commands.specs.declared.store.CompactFault.TheVariants as fault
-use Rattle.store_commands.specs.declared.store.Sizes.{Sizes}
 
 -- the image of a store, as opening it leaves it: its length in bytes, up to and with its closed gate, and the steps
 -- that it reads as
@@ -43,20 +44,25 @@ ComesTo (Err _) before after = ⊥
 -- ---- the call
 
 -- of an open store: what is known of it as a replica, when it is open, what a crash leaves, and its image
-module _ {O : Type 0} (known : O → Known) (is_open : O → Type 0) (crash : O → ℕ → Left State → Type 0)
+module _ {O : Type 0} (known : O → Known) (is_open : O → Type 0) (crash : O → ℕ → Left Stored → Type 0)
     (image : O → Option Image) where
+  -- the image is the one that was there, and each step needs what it needed
+  pub record Stays (old new : O) : Type 0 where
+    pub ready : is_open new
+    pub same : image new ≡ image old
+    pub need : NeedsBehind (known old) (known new) []
+
   -- Only a failed disk closes the store. Damage is found only where contracts cannot see the image; after it, and where
-  -- memory ran out, the image is the one that was there.
+  -- memory ran out, the image stays.
   abbrev pub Ends : O → O → Result Sizes CompactFault → Type 0
   Ends old new (Ok sizes) = is_open new × AreCompacted sizes (image old) (image new)
-  Ends old new (Err (fault.Damaged disk place)) = is_open new × (image old ≡ None) × (image new ≡ image old)
+  Ends old new (Err (fault.Damaged disk place)) = Stays old new × (image old ≡ None)
   Ends old new (Err fault.Disk) = Rose (known old).faults (known new).faults
-  Ends old new (Err fault.Memory) = is_open new × (image new ≡ image old)
+  Ends old new (Err fault.Memory) = Stays old new
 
-  -- at every moment and at the end the state is the one that stood, and so is the limit
+  -- at every moment and at the end the state and the limit are those that stood
   pub record Compacts (old new : O) (result : Result Sizes CompactFault) : Type 0 where
-    pub state : state_in (known new) ≡ state_in (known old)
-    pub limit : (known new).limit ≡ (known old).limit
+    pub stored : stored_in (known new) ≡ stored_in (known old)
     pub later : (known old).faults ≤ (known new).faults
-    pub any_moment : AddsOnly known crash old new (λ found. found ≡ LeftStands (state_in (known old)))
+    pub any_moment : AddsOnly known crash old new (λ found. found ≡ LeftStands (stored_in (known old)))
     pub ends : Ends old new result

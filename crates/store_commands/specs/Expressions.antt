@@ -1,20 +1,17 @@
 -- What the texts of index expressions read as.
-use Rattle.std.specs.Prelude.{◌≡◌, ℕ, ◌<◌, List, [], ◌∷◌, length, map, take, slice_get, is_some, true, Option, Some}
+use Rattle.std.specs.Prelude.{◌≡◌, ℕ, ◌<◌, List, [], ◌∷◌, length, take, slice_get, is_some, true, Option, Some}
 use Rattle.std.specs.Prelude.{None, Result, Ok, Err}
-use Rattle.std.specs.List.{All}
 use Rattle.std.specs.Option.{option_map}
 use Rattle.conflicts.specs.State.{Text}
 use Rattle.expr_parser.specs.Canonical.{canonical}
 use Rattle.expr_parser.specs.Faults.{IsWrongAt}
 use Rattle.expr_parser.specs.Limits.{longest}
-use Rattle.expr_parser.specs.Forms.{Form}
-use Rattle.expr_parser.specs.Reading.{IsExpr, expr_in}
+use Rattle.expr_parser.specs.Reading.{expr_in}
 use Rattle.expr_parser.specs.declared.fault.ParseFault.{ParseFault}
 use Rattle.expr_parser.specs.declared.fault.ParseFault.TheVariants.{TooLong, At, Memory}
-use Rattle.replica_state.specs.Exprs.{IndexTexts}
+use Rattle.command_lines.specs.Endings.{Ending, Answered, OutOfMemory, ending_of}
 use Rattle.command_lines.specs.Outcomes.{expression_end}
 use Rattle.command_lines.specs.declared.outcome.Outcome.{Outcome}
-use Rattle.command_lines.specs.declared.outcome.Outcome.TheVariants as outcome
 
 -- a first item before the others, if there are both
 abbrev pub before_others : Option Text → Option (List Text) → Option (List Text)
@@ -43,27 +40,12 @@ pub record IsFirstRefused (texts : List Text) (end : Outcome) : Type 0 where
   pub refused : IsRefusedFor text fault
   pub is : end ≡ expression_end place fault
 
--- how a run ends for the expression at a place that was not read
-abbrev pub EndsFor : ℕ → Text → Outcome → Type 0
-EndsFor place text outcome.Memory = Unit {0}
-EndsFor place text (outcome.Refused refusal) =
-    (fault : ParseFault) × IsRefusedFor text fault × (outcome.Refused refusal ≡ expression_end place fault)
-EndsFor place text _ = ⊥
-
 -- the expressions were read: as their canonical texts, or to the first that is refused, unless memory ran out
+abbrev pub AreUnread : List Text → Outcome → Ending → Type 0
+AreUnread texts end OutOfMemory = Unit {0}
+AreUnread texts end Answered = IsFirstRefused texts end
+AreUnread texts end _ = ⊥
+
 abbrev pub HaveRead : List Text → Result (List Text) Outcome → Type 0
 HaveRead texts (Ok canonicals) = canonicals_in texts ≡ Some canonicals
-HaveRead texts (Err outcome.Memory) = Unit {0}
-HaveRead texts (Err (outcome.Refused refusal)) = IsFirstRefused texts (outcome.Refused refusal)
-HaveRead texts (Err _) = ⊥
-
--- each of the texts was read, as these forms
-pub record AreRead (texts : List Text) (forms : List Form) : Type 0 where
-  pub count : length forms ≡ length texts
-  pub exprs : All IsExpr forms
-  pub canonicals : canonicals_in texts ≡ Some (map canonical forms)
-
--- the canonical texts of expressions that were read
-abbrev pub texts_read : Result IndexTexts Outcome → Result (List Text) Outcome
-texts_read (Ok exprs) = Ok exprs.texts
-texts_read (Err end) = Err end
+HaveRead texts (Err end) = AreUnread texts end (ending_of end)

@@ -2,7 +2,6 @@ pub mod Found
 pub mod Changes
 pub mod Compacting
 pub mod Store
-pub mod Faults
 pub mod Deeds
 pub mod Expressions
 pub mod Answer
@@ -11,6 +10,5 @@ pub mod Prints
 pub mod Run
 pub mod Complete
 pub mod Carries
-pub mod Calls
-pub mod Shown
 pub mod Memory
+pub mod inner

@@ -3,24 +3,22 @@ use Rattle.std.specs.Prelude.{◌≡◌, ◌≢◌, ◌⊎◌, ℕ, ◌≤◌, f
 use Rattle.std.specs.Io.KnownBytes.{Appends}
 use Rattle.u1_base.specs.Causes.{Rose}
 use Rattle.link.specs.Streams.{AppendsFront, Output}
+use Rattle.command_lines.specs.Endings.{Ending, Finished, OutputFailed, OutOfMemory, ending_of}
 use Rattle.command_lines.specs.LastLines.{last_line}
-use Rattle.command_lines.specs.Outcomes.{print_end}
 use Rattle.command_lines.specs.Puts.{Puts}
-use Rattle.command_lines.specs.declared.put.PrintFault.{PrintFault}
 use Rattle.command_lines.specs.declared.put.PrintFault.TheVariants as print
 use Rattle.command_lines.specs.declared.outcome.Outcome.{Outcome}
 use Rattle.command_lines.specs.declared.outcome.Outcome.TheVariants.{Done, SinkFault, Memory}
-use Rattle.store_commands.specs.Answer.{text_of}
-use Rattle.store_commands.specs.Deeds.{Deed}
+use Rattle.store_commands.specs.Deeds.{Answer}
 
 -- the command's text, where it is done
-abbrev pub done_text : Result Deed Outcome → Outcome → List ℕ
-done_text a Done = text_of a
+abbrev pub done_text : Answer → Ending → List ℕ
+done_text a Finished = a.text
 done_text a _ = []
 
 -- the command's text and the last line
-abbrev pub printed : Result Deed Outcome → Outcome → List ℕ
-printed a decided = done_text a decided ++ last_line decided
+abbrev pub printed : Answer → Outcome → List ℕ
+printed a decided = done_text a (ending_of decided) ++ last_line decided
 
 -- the output took the whole text, and holds nothing back any more
 pub record PrintsWhole (text : List ℕ) (before after : Output) : Type 0 where
@@ -41,25 +39,18 @@ Prints text before after decided result =
     ⊎ ((result ≡ SinkFault) × PrintsFront text before after × Rose before.faults after.faults × (decided ≢ Memory))
     ⊎ ((result ≡ Memory) × PrintsFront text before after)
 
--- how a run ends whose output broke
-abbrev pub broken_end : Outcome → PrintFault → Outcome
-broken_end Memory fault = Memory
-broken_end decided fault = print_end fault
+-- a front of the text was printed, and why not all
+abbrev pub PutsFront : List ℕ → Output → Output → Ending → Type 0
+PutsFront text before after OutputFailed = Puts text before after (Err print.Sink)
+PutsFront text before after OutOfMemory = Puts text before after (Err print.Memory)
+PutsFront text before after _ = ⊥
 
 -- printing a part of the text, as a call ends that may go on
 abbrev pub PutsPart : List ℕ → Output → Output → Result (Unit {0}) Outcome → Type 0
 PutsPart text before after (Ok done) = Puts text before after (Ok tt)
-PutsPart text before after (Err SinkFault) = Puts text before after (Err print.Sink)
-PutsPart text before after (Err Memory) = Puts text before after (Err print.Memory)
-PutsPart text before after (Err _) = ⊥
+PutsPart text before after (Err outcome) = PutsFront text before after (ending_of outcome)
 
 -- how a run ends that came so far
 abbrev pub outcome_of : Result (Unit {0}) Outcome → Outcome
 outcome_of (Ok done) = Done
 outcome_of (Err outcome) = outcome
-
--- the text was printed, and the output holds nothing back any more
-abbrev pub PutsWhole : List ℕ → Output → Output → Result (Unit {0}) PrintFault → Type 0
-PutsWhole text before after (Ok done) = PrintsWhole text before after
-PutsWhole text before after (Err print.Sink) = PrintsFront text before after × Rose before.faults after.faults
-PutsWhole text before after (Err print.Memory) = PrintsFront text before after

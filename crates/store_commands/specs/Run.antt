@@ -1,18 +1,17 @@
 -- What the top call promises.
-use Rattle.std.specs.Prelude.{◌≡◌, ◌⊎◌, ℕ, Bool, true, false, is_ok, List, [], Option, Result, Ok, Err}
+use Rattle.std.specs.Prelude.{◌≡◌, ◌⊎◌, ℕ, Bool, true, false, is_ok, List, [], Option, Ok}
 use Rattle.u1_base.specs.Causes.{Rose}
 use Rattle.cli_words.specs.declared.command.Command.{Command}
 use Rattle.cli_words.specs.declared.command.Command.TheVariants.{Compact}
-use Rattle.conflicts.specs.State.{State}
 use Rattle.link.specs.Streams.{Input, Output, Takes}
-use Rattle.replica_core.specs.Replica.{Found as Left}
+use Rattle.replica_core.specs.Replica.{Found as Left, Stored}
 use Rattle.replica_state.specs.Held.{Lists}
+use Rattle.command_lines.specs.Endings.{Ending, DiskFailed, OutOfMemory, ending_of}
 use Rattle.command_lines.specs.declared.outcome.Outcome.{Outcome}
-use Rattle.command_lines.specs.declared.outcome.Outcome.TheVariants.{DiskFault, Memory}
 use Rattle.store_commands.specs.Answer.{Occasion, answer, built, due, exprs_given, is_opened, most_input, opens_for}
 use Rattle.store_commands.specs.Answer.{reads_input}
 use Rattle.store_commands.specs.Compacting.{ComesTo, Image}
-use Rattle.store_commands.specs.Deeds.{Deed}
+use Rattle.store_commands.specs.Deeds.{Answer, ended}
 use Rattle.store_commands.specs.Expressions.{HaveRead}
 use Rattle.store_commands.specs.Found.{HasLists, IsTold, IsUntouched, Store}
 use Rattle.store_commands.specs.Leaves.{Does, IsRead}
@@ -35,31 +34,30 @@ abbrev pub IsListed : Occasion → Type 0
 IsListed o = is_opened (opens_for o.command o.found o.lists) ≡ true → HasLists o.found o.lists
 
 -- a run may end before it has an answer where a disk failed or memory ran out
-abbrev pub BreaksOff : Outcome → Type 0
-BreaksOff DiskFault = Unit {0}
-BreaksOff Memory = Unit {0}
+abbrev pub BreaksOff : Ending → Type 0
+BreaksOff DiskFailed = Unit {0}
+BreaksOff OutOfMemory = Unit {0}
 BreaksOff _ = ⊥
 
 -- Either the run has its answer, over what stands; then the store was opened or made where there is the one that the
 -- command wants. Or it ended before, with nothing changed and nothing read.
-pub record HasAnswer (o : Occasion) (opened : Bool) (a : Result Deed Outcome) : Type 0 where
+pub record HasAnswer (o : Occasion) (opened : Bool) (a : Answer) : Type 0 where
   pub lists : IsListed o
   pub is : a ≡ answer o
   pub there : opened ≡ is_opened (opens_for o.command o.found o.lists)
 
-pub record HasNone (opened : Bool) (read : List ℕ) (a : Result Deed Outcome) (decided : Outcome) : Type 0 where
-  pub broke : BreaksOff decided
-  pub is : a ≡ Err decided
+pub record HasNone (opened : Bool) (read : List ℕ) (a : Answer) (decided : Outcome) : Type 0 where
+  pub broke : BreaksOff (ending_of decided)
+  pub is : a ≡ ended decided
   pub closed : opened ≡ false
   pub unread : read ≡ []
 
-abbrev pub IsAnswered : Occasion → Bool → List ℕ → Result Deed Outcome → Outcome → Type 0
+abbrev pub IsAnswered : Occasion → Bool → List ℕ → Answer → Outcome → Type 0
 IsAnswered o opened read a decided = HasAnswer o opened a ⊎ HasNone opened read a decided
 
 -- How a run is decided: the store was found as something and the input gave some bytes, which are those that are told,
 -- where they are told; what a compaction comes to is told of the image before and after; for these this is the answer.
-pub record Decides (command : Command) (seed : ℕ) (before after : Seen) (a : Result Deed Outcome) (decided : Outcome)
-    : Type 0 where
+pub record Decides (command : Command) (seed : ℕ) (before after : Seen) (a : Answer) (decided : Outcome) : Type 0 where
   pub o : Occasion
   pub is_command : o.command ≡ command
   pub is_seed : o.seed ≡ seed
@@ -76,7 +74,7 @@ pub record Decides (command : Command) (seed : ℕ) (before after : Seen) (a : R
 -- the store is as it was
 pub record IsSame (before after : Store) : Type 0 where
   pub found : after.found ≡ before.found
-  pub crash : (k : ℕ) (o : Left State) → after.crash k o → before.crash k o
+  pub crash : (k : ℕ) (o : Left Stored) → after.crash k o → before.crash k o
   pub moment : after.moment ≡ before.moment
   pub faults : after.faults ≡ before.faults
   pub bytes : IsUntouched before after
@@ -91,7 +89,7 @@ LeavesUntouched command before after =
 pub record Runs (command : Command) (seed : ℕ) (before after : Seen) (out_before out_after : Output)
     (result : Outcome) : Type 0 where
   pub decided : Outcome
-  pub a : Result Deed Outcome
+  pub a : Answer
   pub decides : Decides command seed before after a decided
   pub untouched : LeavesUntouched command before after
   pub prints : Prints (printed a decided) out_before out_after decided result

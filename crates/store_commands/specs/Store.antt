@@ -1,31 +1,32 @@
 -- The calls of a store that is not open: opening it, making it, and closing it.
-use Rattle.std.specs.Prelude.{◌≡◌, ℕ, Bool, true, false, List, [], ◌∷◌, Option, Some, None, IfSome, Result, Ok, Err}
+use Rattle.std.specs.Prelude.{◌≡◌, ℕ, Bool, true, false, List, [], ◌∷◌, Option, Some, None, Result, Ok, Err}
 use Rattle.u1_base.specs.Causes.{Rose}
-use Rattle.conflicts.specs.State.{State, Text, state_of}
+use Rattle.conflicts.specs.State.{Text, state_of}
+use Rattle.disks.specs.declared.fault.MakeFault.{MakeFault}
+use Rattle.disks.specs.declared.fault.MakeFault.TheVariants as make_fault
+use Rattle.disks.specs.declared.fault.OpenFault.{OpenFault}
+use Rattle.disks.specs.declared.fault.OpenFault.TheVariants as open_fault
 use Rattle.vector_rev.specs.Counts.{Uid}
-use Rattle.replica_core.specs.Replica.{Found as Left, Known, Stands as LeftStands}
-use Rattle.store_commands.specs.Changes.{Change, HasLimit, IsSettled, Made, Passes}
+use Rattle.replica_core.specs.Replica.{Found as Left, Known, Stands as LeftStands, Stored}
+use Rattle.store_commands.specs.Changes.{Change, IsNeeded, IsSettled, Made, Passes}
 use Rattle.store_commands.specs.Found.{Blank, Damaged, Found, IsTold, IsUntouched, Stands, Store, in_short}
 use Rattle.store_commands.specs.Found.{opened_as, standing_in}
-use Rattle.store_commands.specs.declared.store.OpenFault.{OpenFault}
-use Rattle.store_commands.specs.declared.store.OpenFault.TheVariants as open_fault
-use Rattle.store_commands.specs.declared.store.MakeFault.{MakeFault}
-use Rattle.store_commands.specs.declared.store.MakeFault.TheVariants as make_fault
 
 -- what is told of the store is one of what a crash now may leave
 abbrev pub MayStay : Store → Option Found → Type 0
 MayStay store None = Unit {0}
 MayStay store (Some told) = store.crash store.moment (in_short told)
 
--- What stands is what stood, and a crash on the way leaves what one might have left before, or just that. The bytes may
--- be others: opening writes an image of an earlier format anew.
-abbrev pub Keeps : Found → Store → Store → Type 0
-Keeps found before after = Passes found [] 0 0 before after
+-- What stands is what stood, each step needs what it needed, and a crash on the way leaves what one might have left
+-- before, or just that. The bytes may be others: opening writes an image of an earlier format anew.
+pub record Keeps (found : Found) (before after : Store) : Type 0 where
+  pub passes : Passes found [] 0 0 before after
+  pub need : IsNeeded found [] after.found
 
 -- ---- opening
 
 -- it stands, and is open now
-pub record Opens (before : Store) (known : Known) (crash : ℕ → Left State → Type 0) (is_open : Type 0) : Type 0 where
+pub record Opens (before : Store) (known : Known) (crash : ℕ → Left Stored → Type 0) (is_open : Type 0) : Type 0 where
   pub told : IsTold before.found (Stands (standing_in known))
   pub keeps : Keeps (Stands (standing_in known)) before (opened_as known crash)
   pub opened : is_open
@@ -82,7 +83,7 @@ pub record Exists (before after : Store) : Type 0 where
 pub record MadeAnew (name : Text) (uid : Uid) (limit : ℕ) (before after : Store) : Type 0 where
   pub told : IsTold before.found Blank
   pub passes : Passes Blank (Made name uid limit ∷ []) 1 1 before after
-  pub settled : IsSettled (LeftStands (state_of name uid [])) after
+  pub settled : IsSettled (LeftStands (record { state = state_of name uid []; limit = limit })) after
 
 abbrev pub Makes : Text → Uid → ℕ → Store → Store → Result (Unit {0}) MakeFault → Type 0
 Makes name uid limit before after (Ok done) = MadeAnew name uid limit before after
@@ -92,9 +93,10 @@ Makes name uid limit before after (Err make_fault.Memory) = FindsSome before aft
 
 -- ---- closing
 
--- what was known of the open store is known of the closed one
-pub record Closes (known : Known) (crash : ℕ → Left State → Type 0) (after : Store) : Type 0 where
-  pub leaves : (k : ℕ) (o : Left State) → after.crash k o → crash k o
-  pub moment : after.moment ≡ known.moment
-  pub faults : after.faults ≡ known.faults
-  pub limit : IfSome after.found (HasLimit known.limit)
+-- What was known of the store is known of the closed one. Of one that was still open each step needs what it needed.
+pub record Closes (known : Known) (crash : ℕ → Left Stored → Type 0) (is_open : Type 0) (after : Store) : Type 0
+  where
+    pub leaves : (k : ℕ) (o : Left Stored) → after.crash k o → crash k o
+    pub moment : after.moment ≡ known.moment
+    pub faults : after.faults ≡ known.faults
+    pub need : is_open → IsNeeded (Stands (standing_in known)) [] after.found

@@ -20,7 +20,7 @@ use u1_base::DocId;
 /// Shows the generation, and then the documents by their ids; deleted ones too, if that is asked.
 pub fn all<R: Replica, K: Sink>(alloc: Global, deleted: bool, replica: &R, out: &mut K) -> Ended
     requires { R.is_open replica.now }
-    ensures { Carries R.known R.crash
+    ensures { Carries R.known R.is_open R.crash
         (over_replica (all_effect (lists_of (R.known replica.now).state) deleted))
         replica.now replica.now (K.known out.old) (K.known out.new) result }
 {

@@ -1,16 +1,17 @@
 //! A command from the opening of its store on, but for its last line.
 ghost use Rattle.std.specs.Prelude.{◌≡◌, Err, Ok, true, false, if◌then◌else◌};
 ghost use Rattle.replica_state.specs.Held.{lists_of};
-ghost use Rattle.store_commands.specs.Answer.{built, has_exprs, is_limit, makes_store};
+ghost use Rattle.store_commands.specs.Answer.{built, built_edit, has_exprs, is_limit};
+ghost use Rattle.store_commands.specs.Answer.{makes_store};
 ghost use Rattle.store_commands.specs.Deeds.{limit_given};
 ghost use Rattle.store_commands.specs.Carries.{Carried, InStore, found_open};
 ghost use Rattle.store_commands.specs.Found.{opened_as};
 
 use crate::compacting::compact;
-use crate::doing::do_command;
+use crate::doing::{edit_in, show_in};
 use crate::init::init;
 use crate::{Ended, Store};
-use cli_words::Command;
+use cli_words::{Command, Edit};
 use command_lines::{Outcome, Refusal, UsageKind};
 use link::{Sink, Source};
 use std::alloc::Global;
@@ -43,19 +44,28 @@ fn check_built(command: &Command) -> Ended
     ensures { result ≡ built command.now }
 {
     match command {
-        Command::Sync { .. }
-        | Command::Serve { .. }
-        | Command::ServeDocs { .. }
-        | Command::Node { .. }
-        | Command::ViewCreate { .. }
-        | Command::ViewShow { .. }
-        | Command::ViewDelete { .. }
-        | Command::Work { .. } => Err(Outcome::Refused(Refusal::NotBuilt)),
         Command::Init { limit, .. } => {
             usage_unless(is_limit(limit.unwrap_or(GREATEST_IMAGE_LIMIT)))
         }
-        Command::IndexCreate { exprs, .. } => usage_unless(has_exprs(exprs.as_slice())),
-        _ => Ok(()),
+        Command::Edit(edit) => check_edit(edit),
+        Command::Show(_) | Command::Compact => Ok(()),
+        Command::Online(_) | Command::Work { .. } | Command::View(_) => {
+            Err(Outcome::Refused(Refusal::NotBuilt))
+        }
+    }
+}
+
+fn check_edit(edit: &Edit) -> Ended
+    ensures { result ≡ built_edit edit.now }
+{
+    match edit {
+        Edit::IndexCreate { exprs, .. } => usage_unless(has_exprs(exprs.as_slice())),
+        Edit::Create { .. }
+        | Edit::Put { .. }
+        | Edit::Delete { .. }
+        | Edit::Resolve { .. }
+        | Edit::ResolveDeleted { .. }
+        | Edit::IndexDelete { .. } => Ok(()),
     }
 }
 
@@ -98,7 +108,12 @@ fn carry_out_built<T: Store, S: Source, K: Sink>(
 {
     match command {
         Command::Init { name, uid, limit } => init(alloc, seed, name, uid, *limit, store, out),
-        _ => open_and_do(alloc, command, seed, store, input, out),
+        Command::Show(_)
+        | Command::Edit(_)
+        | Command::Compact
+        | Command::Online(_)
+        | Command::Work { .. }
+        | Command::View(_) => open_and_do(alloc, command, seed, store, input, out),
     }
 }
 
@@ -136,7 +151,7 @@ fn do_in_opened<T: Store, S: Source, K: Sink>(
     requires built { built command.now ≡ Ok tt }
     requires opens { makes_store command.now ≡ false }
     requires open { T.Opened.Replica.is_open opened }
-    ensures { InStore command.now seed
+    ensures { InStore command.now seed (Unit {0})
         (found_open (T.Opened.Replica.known opened))
         (lists_of (T.Opened.Replica.known opened).state)
         (T.image_in opened) (T.image result.1)
@@ -161,7 +176,7 @@ fn do_in_open<T: Store, S: Source, K: Sink>(
     requires built { built command.now ≡ Ok tt }
     requires opens { makes_store command.now ≡ false }
     requires open { T.Opened.Replica.is_open opened.old }
-    ensures { InStore command.now seed
+    ensures { InStore command.now seed (T.Opened.Replica.is_open opened.new)
         (found_open (T.Opened.Replica.known opened.old))
         (lists_of (T.Opened.Replica.known opened.old).state)
         (T.image_in opened.old) (T.image_in opened.new)
@@ -170,7 +185,12 @@ fn do_in_open<T: Store, S: Source, K: Sink>(
         (S.known input.old) (S.known input.new) (K.known out.old) (K.known out.new) result }
 {
     match command {
+        Command::Show(show) => show_in(alloc, show, opened, out),
+        Command::Edit(edit) => edit_in(alloc, edit, seed, opened, input, out),
         Command::Compact => compact::<T, K>(opened, out),
-        _ => do_command(alloc, command, seed, opened, input, out),
+        // built and makes_store say that it is none of these
+        Command::Init { .. } | Command::Online(_) | Command::Work { .. } | Command::View(_) => {
+            Err(Outcome::Refused(Refusal::NotBuilt))
+        }
     }
 }

@@ -18,7 +18,7 @@ use translog::Change;
 /// its last entry.
 pub fn changes<R: Replica, K: Sink>(generation: u64, replica: &R, out: &mut K) -> Ended
     requires { R.is_open replica.now }
-    ensures { Carries R.known R.crash
+    ensures { Carries R.known R.is_open R.crash
         (over_replica (changes_effect (state_in (R.known replica.now)) generation))
         replica.now replica.now (K.known out.old) (K.known out.new) result }
 {

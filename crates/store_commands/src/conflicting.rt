@@ -19,7 +19,7 @@ use u1_base::DocId;
 /// Shows the members, the current one first; nothing for a document that has fewer than two.
 pub fn conflicts<R: Replica, K: Sink>(id: &DocId, replica: &R, out: &mut K) -> Ended
     requires { R.is_open replica.now }
-    ensures { Carries R.known R.crash
+    ensures { Carries R.known R.is_open R.crash
         (over_replica (conflicts_effect (state_in (R.known replica.now)) id.now))
         replica.now replica.now (K.known out.old) (K.known out.new) result }
 {

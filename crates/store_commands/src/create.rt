@@ -26,7 +26,7 @@ pub fn create<R: Replica, K: Sink>(
     out: &mut K,
 ) -> Ended
     requires { R.is_open replica.old }
-    ensures { Carries R.known R.crash
+    ensures { Carries R.known R.is_open R.crash
         (over_replica (create_effect (state_in (R.known replica.old)) seed id.now content.now))
         replica.old replica.new (K.known out.old) (K.known out.new) result }
 {

@@ -22,7 +22,7 @@ pub fn delete<R: Replica, K: Sink>(
     out: &mut K,
 ) -> Ended
     requires { R.is_open replica.old }
-    ensures { Carries R.known R.crash
+    ensures { Carries R.known R.is_open R.crash
         (over_replica (delete_effect (state_in (R.known replica.old)) seed id.now rev.now))
         replica.old replica.new (K.known out.old) (K.known out.new) result }
 {

@@ -1,9 +1,10 @@
 //! A command in a store that is what it wants.
-ghost use Rattle.std.specs.Prelude.{◌≡◌, ◌≢◌, Ok, Option, false};
-ghost use Rattle.cli_words.specs.declared.command.Command.TheVariants.{Compact};
+ghost use Rattle.std.specs.Prelude.{◌≡◌, Ok, Option};
+ghost use Rattle.cli_words.specs.declared.command.Command.TheVariants as command;
 ghost use Rattle.replica_state.specs.Held.{lists_of};
-ghost use Rattle.store_commands.specs.Answer.{built, makes_store};
-ghost use Rattle.store_commands.specs.Carries.{Carries, InStore, TakesFor, found_open};
+ghost use Rattle.store_commands.specs.Answer.{built_edit};
+ghost use Rattle.store_commands.specs.Carries.{Carries, InStore, found_open};
+ghost use Rattle.store_commands.specs.inner.Carries.{TakesFor};
 ghost use Rattle.store_commands.specs.Compacting.{Image};
 ghost use Rattle.store_commands.specs.Deeds.{shows};
 ghost use Rattle.store_commands.specs.Found.{opened_as};
@@ -24,78 +25,73 @@ use crate::put::put;
 use crate::query::query;
 use crate::range::range;
 use crate::resolve::{resolve, resolve_deleted};
-use cli_words::Command;
-use command_lines::{Outcome, Refusal};
+use cli_words::{Edit, Show};
+use command_lines::Outcome;
 use content::Content;
 use link::{Sink, Source, read_at_most};
 use replica_core::Replica;
 use std::alloc::Global;
 use u1_base::limits::MOST_CONTENT_BYTES;
 
-/// Does the command over an open replica. It is not `compact`, which wants the store.
-pub fn do_command<R: Replica, S: Source, K: Sink>(
+/// Does a command that makes a step over an open replica.
+pub fn edit_in<R: Replica, S: Source, K: Sink>(
     alloc: Global,
-    command: &Command,
+    edit: &Edit,
     seed: u128,
     replica: &mut R,
     input: &mut S,
     out: &mut K,
 ) -> Ended
-    requires built { built command.now ≡ Ok tt }
-    requires opens { makes_store command.now ≡ false }
-    requires other { command.now ≢ Compact }
+    requires built { built_edit edit.now ≡ Ok tt }
     requires open { R.is_open replica.old }
     // whatever the image is: nothing is said of it
-    ensures { (before after : Option Image) → InStore command.now seed
+    ensures { (before after : Option Image) → InStore (command.Edit edit.now) seed
+        (R.is_open replica.new)
         (found_open (R.known replica.old)) (lists_of (R.known replica.old).state)
         before after
         (opened_as (R.known replica.old) (R.crash replica.old))
         (opened_as (R.known replica.new) (R.crash replica.new))
         (S.known input.old) (S.known input.new) (K.known out.old) (K.known out.new) result }
 {
-    match command {
-        Command::Create { id } => {
+    match edit {
+        Edit::Create { id } => {
             let content = take(alloc, input)?;
             create(alloc, seed, id, &content, replica, out)
         }
-        Command::Put { id, rev } => {
+        Edit::Put { id, rev } => {
             let content = take(alloc, input)?;
             put(alloc, seed, id, rev.as_ref(), &content, replica, out)
         }
-        Command::Delete { id, rev } => delete(alloc, seed, id, rev, replica, out),
-        Command::Resolve { id, revs } => {
+        Edit::Delete { id, rev } => delete(alloc, seed, id, rev, replica, out),
+        Edit::Resolve { id, revs } => {
             let content = take(alloc, input)?;
             resolve(alloc, seed, id, revs, &content, replica, out)
         }
-        Command::ResolveDeleted { id, revs } => {
-            resolve_deleted(alloc, seed, id, revs, replica, out)
-        }
-        Command::IndexCreate { name, exprs } => {
+        Edit::ResolveDeleted { id, revs } => resolve_deleted(alloc, seed, id, revs, replica, out),
+        Edit::IndexCreate { name, exprs } => {
             index_create(alloc, name, exprs.as_slice(), replica, out)
         }
-        Command::IndexDelete { name } => index_delete(name, replica, out),
-        _ => show(alloc, command, replica, out),
+        Edit::IndexDelete { name } => index_delete(name, replica, out),
     }
 }
 
-// Does a command that only shows something.
-fn show<R: Replica, K: Sink>(alloc: Global, command: &Command, replica: &R, out: &mut K) -> Ended
+/// Does a command that only shows something.
+pub fn show_in<R: Replica, K: Sink>(alloc: Global, show: &Show, replica: &R, out: &mut K) -> Ended
     requires { R.is_open replica.now }
-    ensures { Carries R.known R.crash
-        (shows command.now (lists_of (R.known replica.now).state))
+    ensures { Carries R.known R.is_open R.crash
+        (shows show.now (lists_of (R.known replica.now).state))
         replica.now replica.now (K.known out.old) (K.known out.new) result }
 {
-    match command {
-        Command::Get { id, deleted } => get(id, *deleted, replica, out),
-        Command::Conflicts { id } => conflicts(id, replica, out),
-        Command::IndexList => index_list(alloc, replica, out),
-        Command::Query { name, values } => query(alloc, name, values.as_slice(), replica, out),
-        Command::Range { name, start, end } => range(alloc, name, start, end, replica, out),
-        Command::Keys { name } => keys(alloc, name, replica, out),
-        Command::All { deleted } => all(alloc, *deleted, replica, out),
-        Command::Changes { after } => changes(*after, replica, out),
-        Command::Info => info(replica, out),
-        _ => Err(Outcome::Refused(Refusal::NotBuilt)),
+    match show {
+        Show::Get { id, deleted } => get(id, *deleted, replica, out),
+        Show::Conflicts { id } => conflicts(id, replica, out),
+        Show::IndexList => index_list(alloc, replica, out),
+        Show::Query { name, values } => query(alloc, name, values.as_slice(), replica, out),
+        Show::Range { name, start, end } => range(alloc, name, start, end, replica, out),
+        Show::Keys { name } => keys(alloc, name, replica, out),
+        Show::All { deleted } => all(alloc, *deleted, replica, out),
+        Show::Changes { after } => changes(*after, replica, out),
+        Show::Info => info(replica, out),
     }
 }
 

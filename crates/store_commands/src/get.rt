@@ -13,7 +13,7 @@ use u1_base::DocId;
 /// Shows the document with its current member; a deleted one too, if that is asked.
 pub fn get<R: Replica, K: Sink>(id: &DocId, deleted: bool, replica: &R, out: &mut K) -> Ended
     requires { R.is_open replica.now }
-    ensures { Carries R.known R.crash
+    ensures { Carries R.known R.is_open R.crash
         (over_replica (get_effect (state_in (R.known replica.now)) id.now deleted))
         replica.now replica.now (K.known out.old) (K.known out.new) result }
 {

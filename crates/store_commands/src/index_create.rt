@@ -8,8 +8,9 @@ ghost use Rattle.expr_parser.specs.Reading.{IsExpr, expr_in};
 ghost use Rattle.replica_core.specs.Commands.Indexes.{index_create_effect};
 ghost use Rattle.replica_state.specs.Held.{lists_of};
 ghost use Rattle.store_commands.specs.Carries.{Carries};
-ghost use Rattle.store_commands.specs.Deeds.{and_then, over_replica};
-ghost use Rattle.store_commands.specs.Expressions.{AreRead, EndsFor, HaveRead, texts_read};
+ghost use Rattle.store_commands.specs.Deeds.{go_on, over_replica};
+ghost use Rattle.store_commands.specs.Expressions.{HaveRead};
+ghost use Rattle.store_commands.specs.inner.Expressions.{AreRead, EndsFor, texts_read};
 
 use crate::Ended;
 use command_lines::{Outcome, expression_end, print_index_made};
@@ -32,8 +33,8 @@ pub fn index_create<R: Replica, K: Sink>(
     requires some { 1 ≤ length texts.now }
     requires few { length texts.now ≤ most_exprs }
     ensures { (exprs : Result (List Text) Outcome) × HaveRead texts.now exprs
-        × Carries R.known R.crash
-        (and_then exprs (λ canonicals. over_replica
+        × Carries R.known R.is_open R.crash
+        (go_on exprs (λ canonicals. over_replica
         (index_create_effect (lists_of (R.known replica.old).state) name.now canonicals)))
         replica.old replica.new (K.known out.old) (K.known out.new) result }
 {

@@ -13,7 +13,7 @@ use u1_base::IndexName;
 /// Deletes the index of the name.
 pub fn index_delete<R: Replica, K: Sink>(name: &IndexName, replica: &mut R, out: &mut K) -> Ended
     requires { R.is_open replica.old }
-    ensures { Carries R.known R.crash
+    ensures { Carries R.known R.is_open R.crash
         (over_replica (index_delete_effect (lists_of (R.known replica.old).state) name.now))
         replica.old replica.new (K.known out.old) (K.known out.new) result }
 {

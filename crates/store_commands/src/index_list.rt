@@ -18,7 +18,7 @@ use std::alloc::Global;
 /// Shows the indexes by their names.
 pub fn index_list<R: Replica, K: Sink>(alloc: Global, replica: &R, out: &mut K) -> Ended
     requires { R.is_open replica.now }
-    ensures { Carries R.known R.crash
+    ensures { Carries R.known R.is_open R.crash
         (over_replica (index_list_effect (lists_of (R.known replica.now).state)))
         replica.now replica.now (K.known out.old) (K.known out.new) result }
 {

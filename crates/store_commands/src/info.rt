@@ -23,7 +23,7 @@ use u1_base::{Position, Replica as ReplicaKind};
 /// kept of peers.
 pub fn info<R: Replica, K: Sink>(replica: &R, out: &mut K) -> Ended
     requires { R.is_open replica.now }
-    ensures { Carries R.known R.crash
+    ensures { Carries R.known R.is_open R.crash
         (over_replica (info_effect (lists_of (R.known replica.now).state)))
         replica.now replica.now (K.known out.old) (K.known out.new) result }
 {

@@ -2,14 +2,16 @@
 ghost use Rattle.std.specs.Prelude.{◌≡◌, ◌≤◌, IfOk, Ok};
 ghost use Rattle.cli_words.specs.declared.command.Command.TheVariants as command;
 ghost use Rattle.link.specs.Streams.{Input};
-ghost use Rattle.store_commands.specs.Carries.{Carried, CarriesMaking, TellsMade};
+ghost use Rattle.store_commands.specs.Carries.{Carried};
+ghost use Rattle.store_commands.specs.inner.Carries.{CarriesMaking, TellsMade};
 ghost use Rattle.store_commands.specs.Answer.{built};
 ghost use Rattle.store_commands.specs.Deeds.{uid_made};
 ghost use Rattle.u1_base.specs.declared.limits.TheConstants.{GREATEST_IMAGE_LIMIT};
 ghost use Rattle.u1_base.specs.declared.limits.TheConstants.{LEAST_IMAGE_LIMIT};
 
-use crate::{Ended, MakeFault, Store};
+use crate::{Ended, Store};
 use command_lines::{Outcome, print_init};
+use disks::MakeFault;
 use link::Sink;
 use std::alloc::Global;
 use u1_base::limits::GREATEST_IMAGE_LIMIT;

@@ -19,7 +19,7 @@ use u1_base::{IndexName, Key};
 /// Shows the keys of the live documents, in order, each once.
 pub fn keys<R: Replica, K: Sink>(alloc: Global, name: &IndexName, replica: &R, out: &mut K) -> Ended
     requires { R.is_open replica.now }
-    ensures { Carries R.known R.crash
+    ensures { Carries R.known R.is_open R.crash
         (over_replica (keys_effect (lists_of (R.known replica.now).state) name.now))
         replica.now replica.now (K.known out.old) (K.known out.new) result }
 {

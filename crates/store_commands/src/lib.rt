@@ -32,7 +32,7 @@ mod uncounted;
 
 use command_lines::Outcome;
 pub use memory::{MemOpened, MemStore};
-pub use store::{CompactFault, MakeFault, OpenFault, Sizes, Store};
+pub use store::Store;
 pub use top::{finish, run_over};
 
 /// How far a command came: Ok where its text was printed, else how the run ends.

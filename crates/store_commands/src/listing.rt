@@ -6,7 +6,7 @@ ghost use Rattle.conflicts.specs.Document.{is_conflicted};
 ghost use Rattle.replica_core.specs.Commands.Documents.{document_line, document_lines};
 ghost use Rattle.replica_core.specs.Commands.Documents.{line_or_none};
 ghost use Rattle.replica_state.specs.Held.{meaning};
-ghost use Rattle.store_commands.specs.Shown.{line_if};
+ghost use Rattle.store_commands.specs.inner.Shown.{line_if};
 
 use command_lines::{PrintFault, print_document, print_no_document, put_all};
 use link::Sink;

@@ -1,12 +1,16 @@
 //! A store in memory.
-use crate::{CompactFault, MakeFault, OpenFault, Sizes, Store};
+ghost use Rattle.std.specs.Prelude.{◌≡◌, false};
+
+use crate::Store;
+use disks::{CompactFault, MakeFault, OpenFault, Sizes};
 use replica_core::{CommitFault, MemReplica, Replica};
 use replica_state::{State, Step};
 use std::alloc::Global;
 use u1_base::{DbName, ReplicaUid};
 
 /// A store in memory: there is none, or it stands with its limit. No disk fails, no entry is too
-/// long, and a crash leaves what stands. It keeps a state and no image: what stands for an image
+/// long, and a crash leaves what stands (contracts say nothing of one that comes while steps are
+/// staged). It keeps a state and no image: what stands for an image
 /// has no bytes and says no step. So a compaction leaves it as it is, and both lengths are 0.
 #[derive(Drop)]
 pub struct MemStore {
@@ -18,6 +22,7 @@ pub struct MemStore {
 pub struct MemOpened {
     replica: MemReplica,
     limit: u64,
+    staged: bool,
 }
 
 impl MemStore {
@@ -35,11 +40,14 @@ impl MemStore {
 
 impl Replica for MemOpened {
     ghost use Rattle.std.specs.Prelude.{refl};
-    ghost use Rattle.store_commands.specs.Memory.{always, known_open, left_open};
+    ghost use Rattle.store_commands.specs.Memory.{is_flushed, known_open, left_open};
+    ghost use Rattle.store_commands.specs.Memory.{none_staged, settled_open, staged_leaves, stages_open};
 
     ghost known = { known_open };
 
-    ghost is_open = { λ r. always };
+    ghost is_open = { is_flushed };
+
+    ghost stages = { stages_open };
 
     ghost crash = { left_open };
 
@@ -55,9 +63,26 @@ impl Replica for MemOpened {
         self.replica.commit(step)
     }
 
+    fn stage(&mut self, step: Step) -> Result<(), CommitFault> {
+        self.replica.stage(step)?;
+        self.staged = true;
+        Ok(())
+    }
+
+    fn flush(&mut self) -> Result<(), CommitFault> {
+        self.staged = false;
+        Ok(())
+    }
+
     ghost opened = { λ r ready. refl };
 
-    ghost settled = { λ r found ready is. is };
+    ghost settled = { settled_open };
+
+    ghost none_staged = { none_staged };
+
+    ghost staged_leaves = { staged_leaves };
+
+    ghost opened_staged = { λ r kept staged. refl };
 }
 
 impl Store for MemStore {
@@ -74,7 +99,7 @@ impl Store for MemStore {
 
     fn open(self, alloc: Global) -> Result<MemOpened, (OpenFault, MemStore)> {
         match self.opened {
-            Some(opened) => Ok(opened),
+            Some(opened) => Ok(with_nothing_staged(opened)),
             None => Err((OpenFault::Blank, MemStore { opened: None })),
         }
     }
@@ -93,7 +118,11 @@ impl Store for MemStore {
             return (Err(MakeFault::Memory), self);
         };
         let replica = MemReplica::new(alloc, name, uid);
-        let opened = Some(MemOpened { replica, limit });
+        let opened = Some(MemOpened {
+            replica,
+            limit,
+            staged: false,
+        });
         (Ok(()), MemStore { opened })
     }
 
@@ -111,4 +140,13 @@ impl Store for MemStore {
     }
 
     ghost told = { may_stay };
+}
+
+// All that was staged is kept now.
+fn with_nothing_staged(opened: MemOpened) -> MemOpened
+    ensures { result ≡ record opened { staged = false } }
+{
+    let mut opened = opened;
+    opened.staged = false;
+    opened
 }

@@ -24,7 +24,7 @@ pub fn range<R: Replica, K: Sink>(
     out: &mut K,
 ) -> Ended
     requires { R.is_open replica.now }
-    ensures { Carries R.known R.crash
+    ensures { Carries R.known R.is_open R.crash
         (over_replica
         (range_effect (lists_of (R.known replica.now).state) name.now start.now end.now))
         replica.now replica.now (K.known out.old) (K.known out.new) result }

@@ -24,7 +24,7 @@ pub fn resolve<R: Replica, K: Sink>(
     out: &mut K,
 ) -> Ended
     requires { R.is_open replica.old }
-    ensures { Carries R.known R.crash
+    ensures { Carries R.known R.is_open R.crash
         (over_replica
         (resolve_effect (state_in (R.known replica.old)) seed id.now named.now content.now))
         replica.old replica.new (K.known out.old) (K.known out.new) result }
@@ -43,7 +43,7 @@ pub fn resolve_deleted<R: Replica, K: Sink>(
     out: &mut K,
 ) -> Ended
     requires { R.is_open replica.old }
-    ensures { Carries R.known R.crash
+    ensures { Carries R.known R.is_open R.crash
         (over_replica
         (resolve_deleted_effect (state_in (R.known replica.old)) seed id.now named.now))
         replica.old replica.new (K.known out.old) (K.known out.new) result }

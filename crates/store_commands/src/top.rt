@@ -1,8 +1,11 @@
 //! The top call.
-ghost use Rattle.std.specs.Prelude.{◌≡◌};
+ghost use Rattle.std.specs.Prelude.{◌≡◌, ◌≢◌};
 ghost use Rattle.command_lines.specs.LastLines.{last_line};
 ghost use Rattle.store_commands.specs.Complete.{RunsWhole};
-ghost use Rattle.store_commands.specs.Prints.{Prints, PutsWhole, broken_end, outcome_of};
+ghost use Rattle.command_lines.specs.Outcomes.{print_end};
+ghost use Rattle.command_lines.specs.declared.outcome.Outcome.TheVariants.{Memory};
+ghost use Rattle.store_commands.specs.Prints.{Prints, outcome_of};
+ghost use Rattle.store_commands.specs.inner.Prints.{PutsWhole};
 
 use crate::carrying::carry_out;
 use crate::{Ended, Store};
@@ -47,7 +50,8 @@ pub fn finish<K: Sink>(ended: Ended, out: &mut K) -> Outcome
 // Where memory had run out before, that is told also of an output that failed: an output is blamed
 // only where all was done that was decided.
 fn broken_end(decided: Outcome, fault: PrintFault) -> Outcome
-    ensures { result ≡ broken_end decided fault }
+    ensures memory { decided ≡ Memory → result ≡ Memory }
+    ensures other { decided ≢ Memory → result ≡ print_end fault }
 {
     match decided {
         Outcome::Memory => Outcome::Memory,

@@ -1,5 +1,5 @@
 -- A body that was written is read as what it was written for.
-use Rattle.std.proofs.Common.{◌≡◌, List, ℕ, codes, Some, IsUtf8, refl, ap, ◌∙◌, arith}
+use Rattle.std.proofs.Common.{◌≡◌, codes, Some, refl, ap, ◌∙◌, arith}
 use Rattle.json.proofs.Printed.Utf8.{IsUtf8-are_ascii}
 use Rattle.content.specs.Canonical.{data_of}
 use Rattle.content.specs.Contents.{IsFormed}

@@ -1,17 +1,14 @@
 -- The bytes of the heads that are written, and what is read of them.
-use Rattle.std.proofs.Common.{◌≡◌, ℕ, suc, ◌+◌, ◌^◌, ◌<◌, ◌≤◌, Bool, true, false, not, cond, eqb, leb, ◌&&◌, List, []}
-use Rattle.std.proofs.Common.{◌∷◌, ◌++◌, length, reverse, Some, IsUtf8, refl, sym, ap, ap₂, ◌∙◌, arith, decimal, take}
+use Rattle.std.proofs.Common.{◌≡◌, ℕ, suc, ◌+◌, ◌^◌, ◌<◌, ◌≤◌, Bool, true, false, not, cond, eqb, leb, List, []}
+use Rattle.std.proofs.Common.{◌∷◌, ◌++◌, length, reverse, Some, refl, sym, ap, ◌∙◌, arith, decimal, take}
 use Rattle.std.proofs.Common.{drop, append_assoc}
-use Rattle.std.specs.Prelude.{All}
-use Rattle.std.specs.List.{list_all, before_first, after_first, position_or_len, prefix_len}
+use Rattle.std.specs.List.{list_all, position_or_len, prefix_len}
 use Rattle.std.specs.Char.{is_ascii_digit}
-use Rattle.std.specs.Str.Parse.{digits_value}
-use Rattle.std.proofs.lemmas.Bool.{and_parts, and_from, le-leb, ltb-true, not-true}
+use Rattle.std.proofs.lemmas.Bool.{and_parts, and_from, le-leb, ltb-true}
 use Rattle.std.proofs.lemmas.Bool.Decides.{nat_tests}
 use Rattle.std.proofs.lemmas.Fmt.{decimal_nonempty, digits_decimal, digits_value-decimal, length-decimal-le}
 use Rattle.std.proofs.lemmas.List.{take_at, drop_at, length_push}
 use Rattle.std.proofs.lemmas.List.Elements.{All-nil, All-cons, All-head}
-use Rattle.std.proofs.lemmas.List.Folds.{list_all-append}
 use Rattle.httparse.specs.Grammar.{AllPass, IsField, IsToken, is_ows, is_token, is_token_byte, is_uri_byte}
 use Rattle.httparse.specs.Grammar.{is_value_byte, skip_ows, trim_ows}
 use Rattle.httparse.proofs.TrimLemmas.{AllPass-reverse, trim_ows_space}

@@ -1,26 +1,24 @@
 -- A head that was written is read as what it was written for.
 use Rattle.std.proofs.Common.{◌≡◌, ℕ, zero, suc, ◌+◌, ◌-◌, ◌/◌, ◌%◌, ◌^◌, ◌<◌, ◌≤◌, Bool, true, false, List, [], ◌∷◌}
-use Rattle.std.proofs.Common.{◌++◌, length, take, map, codes, Option, Some, None, IsSome, Result, Ok, Err, IsUtf8, refl}
-use Rattle.std.proofs.Common.{sym, ap, ap₂, ◌∙◌, subst, arith, decimal, unwrap_or, append_assoc}
+use Rattle.std.proofs.Common.{◌++◌, length, take, codes, Some, Result, Ok, IsUtf8, refl}
+use Rattle.std.proofs.Common.{sym, ap, ap₂, ◌∙◌, arith, decimal, unwrap_or, append_assoc}
 use Rattle.std.specs.Prelude.{All}
 use Rattle.std.specs.List.{list_all}
 use Rattle.std.specs.Char.{is_ascii_digit}
-use Rattle.std.specs.Str.Parse.{digits_value}
 use Rattle.std.proofs.lemmas.Fmt.{digits_value-decimal, decimal_step, decimal_nonempty, length-decimal-le}
 use Rattle.std.proofs.lemmas.List.{length-append}
 use Rattle.std.proofs.lemmas.List.Elements.{All-nil, All-cons}
 use Rattle.std.proofs.lemmas.Str.{IsUtf8-append}
 use Rattle.json.proofs.Printed.Utf8.{IsUtf8-are_ascii}
-use Rattle.http.specs.StatusCode.{IsStatusCode, reason_phrase}
+use Rattle.http.specs.StatusCode.{reason_phrase}
 use Rattle.httparse.specs.Grammar as grammar
 use Rattle.u1_base.specs.Ids.{IsId, is_allowed, id_in}
 use Rattle.u1_base.specs.declared.limits.TheConstants.{GREATEST_COUNT}
 use Rattle.u1_base.specs.declared.ids.Form.TheVariants.{Name, Replica}
 use Rattle.u1_base.proofs.IdFacts.{id_facts, in_id}
-use Rattle.sync_http.specs.Heads.{target_in, target_with, request_of, reply_of}
+use Rattle.sync_http.specs.Heads.{target_in, target_with, request_of}
 use Rattle.sync_http.specs.Hearing.{front, most_bytes, most_fields, SaysRequest, SaysReply}
 use Rattle.sync_http.specs.Laws.{CanAsk, CanReply}
-use Rattle.sync_http.specs.Slashes.{part_of, rest_of}
 use Rattle.sync_http.specs.Written.{field, host_text, json_type, length_field, reply_written, request_body_fields}
 use Rattle.sync_http.specs.Written.{request_written, stream_type, target_text, type_field, type_of, verb_text}
 use Rattle.sync_http.specs.declared.address.Address.{Address}
@@ -29,7 +27,6 @@ use Rattle.sync_http.specs.declared.heads.Verb.{Verb}
 use Rattle.sync_http.specs.declared.heads.Verb.TheVariants.{Get, Put, Post}
 use Rattle.sync_http.specs.declared.heads.RequestHead.{RequestHead}
 use Rattle.sync_http.specs.declared.heads.ReplyHead.{ReplyHead}
-use Rattle.sync_http.specs.declared.target.Target.{Target}
 use Rattle.sync_http.proofs.HeadBytes.{AllPass-test, IsToken-test, IsField-field, both_pass, weaker, uri_byte}
 use Rattle.sync_http.proofs.HeadBytes.{value_byte, no_slash, digits_pass, trim_decimal, number_in-decimal, part_before}
 use Rattle.sync_http.proofs.HeadBytes.{rest_behind}
@@ -39,7 +36,7 @@ use Rattle.sync_http.proofs.PositionsBack.{IsUtf8-id}
 
 -- ---- the front of a head and more
 
-take_behind : (xs ys : List ℕ) (n : ℕ) → length xs ≤ n → take n (xs ++ ys) ≡ xs ++ take (n - length xs) ys
+pub take_behind : (xs ys : List ℕ) (n : ℕ) → length xs ≤ n → take n (xs ++ ys) ≡ xs ++ take (n - length xs) ys
 take_behind [] ys n short = let same : n - 0 ≡ n = omega arith in ap (λ k. take k ys) (sym same)
 take_behind (x ∷ xs) ys zero short = absurd (omega (arith, short))
 take_behind (x ∷ xs) ys (suc n) short =

@@ -1,5 +1,5 @@
 -- What the parts of a head say of the bytes that it was found in.
-use Rattle.std.proofs.Common.{◌≡◌, ◌⊎◌, ℕ, ◌+◌, ◌<◌, ◌≤◌, Bool, true, false, nat_lt, if◌then◌else◌, List, length, take}
+use Rattle.std.proofs.Common.{◌≡◌, ◌⊎◌, ℕ, ◌<◌, ◌≤◌, Bool, true, false, nat_lt, if◌then◌else◌, List, length, take}
 use Rattle.std.proofs.Common.{drop, map, min, Result, Ok, Err, IfErr, refl, sym, ◌∙◌, ap, ap₂, subst, arith, inl, inr}
 use Rattle.std.proofs.lemmas.List.{length-map, length-take, take_all}
 use Rattle.std.proofs.lemmas.Bool.{cases_lt, ltb-true, ltb-false}
@@ -7,13 +7,13 @@ use Rattle.httparse.specs.Grammar as grammar
 use Rattle.httparse.specs.declared.spans.HeaderSpan.{HeaderSpan}
 use Rattle.httparse.specs.declared.spans.RequestSpans.{RequestSpans}
 use Rattle.httparse.specs.declared.spans.ResponseSpans.{ResponseSpans}
-use Rattle.httparse.specs.Spans.{IsRequestWithin, IsResponseWithin, IsRequestOf, IsResponseOf, RequestExceeds}
-use Rattle.httparse.specs.Spans.{ResponseExceeds, header_bytes, name_and_value, span_bytes, AreFieldsAt}
+use Rattle.httparse.specs.Spans.{IsRequestOf, IsResponseOf}
+use Rattle.httparse.specs.Spans.{header_bytes, name_and_value, span_bytes, AreFieldsAt}
 use Rattle.httparse.proofs.GrammarLemmas.{request_unique, response_unique}
 use Rattle.sync_http.specs.Heads.{request_of, request_said, reply_of, reply_said}
 use Rattle.sync_http.specs.Hearing.{front, most_bytes, most_fields, SaysRequest, SaysReply, Hears, IsReplyFault, heard}
-use Rattle.sync_http.specs.Hearing.{unfinished}
-use Rattle.sync_http.specs.Parts.{Answers}
+use Rattle.sync_http.specs.inner.Hearing.{unfinished}
+use Rattle.sync_http.specs.inner.Parts.{Answers}
 use Rattle.sync_http.specs.declared.heads.Heard.{Heard}
 use Rattle.sync_http.specs.declared.heads.Heard.TheVariants.{NotYet}
 use Rattle.sync_http.specs.declared.heads.RequestHead.{RequestHead}

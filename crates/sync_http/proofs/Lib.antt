@@ -8,3 +8,4 @@ pub mod BodiesBack
 pub mod Phrases
 pub mod HeadBytes
 pub mod HeadsBack
+pub mod MoreBytes

@@ -7,7 +7,7 @@ use Rattle.httparse.specs.declared.spans.Span.{Span}
 use Rattle.httparse.specs.declared.spans.HeaderSpan.{HeaderSpan}
 use Rattle.httparse.specs.Spans.{IsWithin, span_bytes, header_bytes}
 use Rattle.sync_http.specs.Fields.{Pair, values_named}
-use Rattle.sync_http.specs.Occurrence.{AreFound, one_more}
+use Rattle.sync_http.specs.inner.Occurrence.{AreFound, one_more}
 use Rattle.sync_http.specs.declared.fields.Occurrence.{Occurrence}
 use Rattle.sync_http.specs.declared.fields.Occurrence.TheVariants.{Missing, Once, Often}
 

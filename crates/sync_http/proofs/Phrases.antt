@@ -1,5 +1,5 @@
 -- Each phrase that the `http` crate gives to a status is one of a reply's head.
-use Rattle.std.proofs.Common.{◌≡◌, ◌≤◌, ◌==◌, ◌&&◌, ℕ, Bool, nat_le, length, true, false, List, [], Option, Some, None}
+use Rattle.std.proofs.Common.{◌≡◌, ◌≤◌, ◌==◌, ◌&&◌, ℕ, Bool, nat_le, length, true, false, List, [], Option, Some}
 use Rattle.std.proofs.Common.{if◌then◌else◌, codes, unwrap_or, refl}
 use Rattle.std.specs.List.{list_all}
 use Rattle.std.proofs.lemmas.Bool.{and_parts, leb-true}

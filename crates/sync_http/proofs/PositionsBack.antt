@@ -1,6 +1,6 @@
 -- Ids are ASCII, and a position that was written is read as itself.
 use Rattle.std.proofs.Common.{◌≡◌, ◌↔◌, ℕ, ◌<◌, ◌≤◌, pos, eqb, true, false, List, [], ◌∷◌, Option, Some}
-use Rattle.std.proofs.Common.{None, IsNone, IfSome, IsUtf8, FitsSigned, unwrap_or, true≢false, refl, sym, ap, ◌∙◌}
+use Rattle.std.proofs.Common.{None, IsNone, IfSome, IsUtf8, FitsSigned, unwrap_or, true≢false, refl, sym}
 use Rattle.std.proofs.Common.{subst, arith}
 use Rattle.std.specs.List.{list_all}
 use Rattle.std.specs.Int.{w64}

@@ -1,15 +1,15 @@
 -- The small bodies: what a target knows, and the position that a source tells. Each is one JSON object, whose members
 -- come in any order; members of other names are ignored, and of a repeated name the last one counts.
-use Rattle.std.specs.Prelude.{ℕ, pos, List, codes, Option, Some, None}
+use Rattle.std.specs.Prelude.{ℕ, pos, List, codes, is_some, Option, Some}
 use Rattle.serde_json.specs.Data.{Data}
-use Rattle.serde_json.specs.Find.{get}
+use Rattle.serde_json.specs.Find.{as_object, get}
 use Rattle.content.specs.Tree.{Tree, whole, text, field, no_fields, object}
 use Rattle.content.specs.Canonical.{canonical}
 use Rattle.content.specs.Faults.{value_of}
 use Rattle.u1_base.specs.Ids.{IsId}
 use Rattle.u1_base.specs.Places.{Place}
 use Rattle.u1_base.specs.declared.ids.Form.TheVariants.{Replica}
-use Rattle.sync_http.specs.Chained.{◌>>=◌}
+use Rattle.sync_http.specs.Chained.{◌>>=◌, only_if}
 use Rattle.sync_http.specs.Positions.{IsPosition, position_in, text_id_in, trans_text}
 use Rattle.sync_http.specs.declared.info.Info.{Info}
 
@@ -32,6 +32,14 @@ told_tree p =
 
 unfoldable pub told_text : Place → List ℕ
 told_text p = canonical (told_tree p)
+
+-- ---- the reply to it
+
+-- an object says that the told position is kept, whatever its members are
+abbrev pub kept_in : List ℕ → Option (Unit {0})
+kept_in body = do
+  d ← value_of body
+  only_if (is_some (as_object d)) tt
 
 -- ---- what a target knows
 

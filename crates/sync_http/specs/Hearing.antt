@@ -1,5 +1,5 @@
 -- What the first bytes of a connection are.
-use Rattle.std.specs.Prelude.{◌≡◌, ℕ, ◌<◌, ◌≤◌, ◌⊎◌, nat_lt, if◌then◌else◌, List, length, take, Result, Ok, Err}
+use Rattle.std.specs.Prelude.{◌≡◌, ℕ, ◌<◌, ◌≤◌, ◌⊎◌, List, length, take, Result, Ok, Err}
 use Rattle.httparse.specs.Grammar as grammar
 use Rattle.httparse.specs.Spans.{RequestExceeds, ResponseExceeds}
 use Rattle.u1_base.specs.declared.limits.TheConstants.{MOST_HEAD_BYTES, MOST_HEADERS}
@@ -43,9 +43,11 @@ pub record IsOpenRequest (bytes : List ℕ) : Type 0 where
   pub none : grammar.HasNoRequest bytes
   pub may : grammar.MayBecomeRequest bytes
 
--- no head can come of the bytes, or it has too many fields
-abbrev pub IsNoRequest : List ℕ → Type 0
-IsNoRequest bytes = grammar.NeverHasRequest bytes ⊎ RequestExceeds most_fields bytes
+-- the bytes begin with no whole head of so few fields. No head can come of them, or it has too many
+pub record IsNoRequest (bytes : List ℕ) : Type 0 where
+  pub none : (h : grammar.RequestHead) (rest : List ℕ) → grammar.ReadsRequest bytes h rest
+      → ¬ (length h.fields ≤ most_fields)
+  pub never : grammar.NeverHasRequest bytes ⊎ RequestExceeds most_fields bytes
 
 -- ---- replies
 
@@ -61,8 +63,10 @@ pub record IsOpenReply (bytes : List ℕ) : Type 0 where
   pub none : grammar.HasNoResponse bytes
   pub may : grammar.MayBecomeResponse bytes
 
-abbrev pub IsNoReply : List ℕ → Type 0
-IsNoReply bytes = grammar.NeverHasResponse bytes ⊎ ResponseExceeds most_fields bytes
+pub record IsNoReply (bytes : List ℕ) : Type 0 where
+  pub none : (h : grammar.ResponseHead) (rest : List ℕ) → grammar.ReadsResponse bytes h rest
+      → ¬ (length h.fields ≤ most_fields)
+  pub never : grammar.NeverHasResponse bytes ⊎ ResponseExceeds most_fields bytes
 
 -- ---- the answer
 
@@ -70,10 +74,6 @@ IsNoReply bytes = grammar.NeverHasResponse bytes ⊎ ResponseExceeds most_fields
 abbrev pub heard : {T : Type 0} → Result T WireFault → ℕ → Result (Heard T) WireFault
 heard (Ok head) n = Ok (Head head n)
 heard (Err fault) n = Err fault
-
--- what is answered where more bytes may make a head
-abbrev pub unfinished : {T : Type 0} → List ℕ → Result (Heard T) WireFault
-unfinished bytes = if nat_lt (length bytes) most_bytes then Ok NotYet else Err TooLarge
 
 -- what is answered to bytes of which this is known: what a whole head at their front says (with its length), that it is
 -- still open, or that there is none. The cases exclude each other, but in two places: where a target is still

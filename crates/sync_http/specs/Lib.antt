@@ -1,12 +1,11 @@
 pub mod Slashes
 pub mod Addresses
 pub mod Fields
-pub mod Occurrence
 pub mod Heads
 pub mod Hearing
-pub mod Parts
 pub mod Written
 pub mod Chained
 pub mod Positions
 pub mod Bodies
 pub mod Laws
+pub mod inner

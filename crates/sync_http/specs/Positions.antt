@@ -1,6 +1,6 @@
 -- Positions in messages: two members of a JSON object, a generation and the id of the transaction that made it.
 use Rattle.std.specs.Prelude.{◌≡◌, ◌↔◌, ℕ, ◌≤◌, ◌==◌, nat_le, Bool, true, false, if◌then◌else◌, List, [], Option}
-use Rattle.std.specs.Prelude.{Some, None, IsNone, IfSome, option_map, unwrap_or}
+use Rattle.std.specs.Prelude.{Some, IsNone, IfSome, option_map, unwrap_or}
 use Rattle.serde_json.specs.Data.{Data, null, boolean, number, string, array, object}
 use Rattle.serde_json.specs.Find.{get, as_str, as_number, as_u64}
 use Rattle.u1_base.specs.Ids.{IsId, id_in}

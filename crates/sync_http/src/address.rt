@@ -16,7 +16,7 @@ use url::{ParseError, Url};
 
 /// The address of a database: an `http` URL (URL Standard) with a host and one path segment, the
 /// database's name.
-#[derive(Debug, Drop)]
+#[derive(Drop)]
 pub struct Address {
     /// As the URL Standard writes it: a domain in lower case, or an IP address; of version 6 in
     /// brackets.

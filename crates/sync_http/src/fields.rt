@@ -7,7 +7,7 @@ ghost use Rattle.std.specs.Str.Parse.{digits_value};
 ghost use Rattle.httparse.specs.Spans.{IsHeaderWithin, header_bytes, span_bytes};
 ghost use Rattle.sync_http.specs.Fields.{content_length, is_encoded, is_length, is_numeral};
 ghost use Rattle.sync_http.specs.Fields.{length_of, number_in, values_named};
-ghost use Rattle.sync_http.specs.Occurrence.{AreFound, one_more};
+ghost use Rattle.sync_http.specs.inner.Occurrence.{AreFound, one_more};
 
 use httparse::spans::{HeaderSpan, Span};
 use std::str;
@@ -17,7 +17,7 @@ use u1_base::limits::GREATEST_COUNT;
 const MOST_DIGITS: usize = 19;
 
 /// The fields of one name: where the value of a single one lies.
-#[derive(Clone, Copy, Debug, PartialEq, Eq)]
+#[derive(Clone, Copy, PartialEq, Eq)]
 pub enum Occurrence {
     Missing,
     Once(Span),

@@ -2,7 +2,7 @@
 use u1_base::{DbName, ReplicaUid};
 
 /// What a request asks for.
-#[derive(Clone, Copy, Debug, PartialEq, Eq)]
+#[derive(Clone, Copy, PartialEq, Eq)]
 pub enum Verb {
     /// The target's positions.
     Get,
@@ -13,7 +13,7 @@ pub enum Verb {
 }
 
 /// A request of the replica `source` to the database `db`.
-#[derive(Debug, Drop)]
+#[derive(Drop)]
 pub struct RequestHead {
     pub verb: Verb,
     pub db: DbName,
@@ -23,7 +23,7 @@ pub struct RequestHead {
 }
 
 /// The head of a reply.
-#[derive(Clone, Copy, Debug, PartialEq, Eq)]
+#[derive(Clone, Copy, PartialEq, Eq)]
 pub struct ReplyHead {
     /// As RFC 9110 numbers them.
     pub status: u16,
@@ -32,7 +32,7 @@ pub struct ReplyHead {
 }
 
 /// What the first bytes of a connection are.
-#[derive(Debug, Drop)]
+#[derive(Drop)]
 pub enum Heard<T> {
     /// More bytes are needed.
     NotYet,

@@ -16,7 +16,7 @@ use std::alloc::Global;
 use u1_base::{Bytes, Memory, Position, ReplicaUid};
 
 /// What a target says of itself, and of the source that asks.
-#[derive(Debug, Drop)]
+#[derive(Drop)]
 pub struct Info {
     pub target: ReplicaUid,
     /// Where the target's log ends.

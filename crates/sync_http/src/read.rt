@@ -3,8 +3,9 @@ ghost use Rattle.std.specs.Prelude.{◌≡◌, ◌⊎◌, ℕ, Err, IfErr, IsUtf
 ghost use Rattle.httparse.specs.Spans.{IsRequestWithin, IsResponseWithin, header_bytes, span_bytes};
 ghost use Rattle.sync_http.specs.Heads.{body_after, reply_said, request_said, verb_in};
 ghost use Rattle.sync_http.specs.Hearing.{HearsReply, HearsRequest, IsReplyFault, Said, SaysReply};
-ghost use Rattle.sync_http.specs.Hearing.{SaysRequest, front, heard, unfinished};
-ghost use Rattle.sync_http.specs.Parts.{Answers};
+ghost use Rattle.sync_http.specs.Hearing.{SaysRequest, front, heard};
+ghost use Rattle.sync_http.specs.inner.Hearing.{unfinished};
+ghost use Rattle.sync_http.specs.inner.Parts.{Answers};
 ghost use Rattle.sync_http.specs.declared.fault.WireFault.TheVariants.{Memory};
 ghost use Rattle.sync_http.specs.declared.heads.ReplyHead.{ReplyHead as ReplyHeadValue};
 ghost use Rattle.sync_http.specs.declared.heads.RequestHead.{RequestHead as RequestHeadValue};

@@ -1,10 +1,10 @@
-//! The body by which a source tells its position.
+//! The body by which a source tells its position, and the reply to it.
 ghost use Rattle.std.specs.Prelude.{◌≡◌, ◌++◌, Err, None, Some, IfOk, OnOk};
 ghost use Rattle.json.specs.Tree.{json_tokens};
 ghost use Rattle.serde_json.specs.View.{view};
 ghost use Rattle.serde_json.specs.Written.{outline};
 ghost use Rattle.content.specs.Canonical.{data_of};
-ghost use Rattle.sync_http.specs.Bodies.{told_in, told_of, told_text, told_tree};
+ghost use Rattle.sync_http.specs.Bodies.{kept_in, told_in, told_of, told_text, told_tree};
 ghost use Rattle.sync_http.specs.declared.fault.BodyFault.TheVariants.{Bad};
 
 use crate::BodyFault;
@@ -49,6 +49,21 @@ pub fn read_told(alloc: Global, body: &[u8]) -> Result<Position, BodyFault>
     match told_of(alloc, &value)? {
         Some(at) => Ok(at),
         None => Err(BodyFault::Bad),
+    }
+}
+
+/// Reads the reply that the position is kept: an object, whatever its members are.
+pub fn read_kept(alloc: Global, body: &[u8]) -> Result<(), BodyFault>
+    ensures ok { OnOk result (kept_in body.now ≡ Some tt) }
+    ensures bad { result ≡ Err Bad → kept_in body.now ≡ None }
+{
+    let Some(value) = value_in(alloc, body)? else {
+        return Err(BodyFault::Bad);
+    };
+    if value.is_object() {
+        Ok(())
+    } else {
+        Err(BodyFault::Bad)
     }
 }
 

@@ -27,9 +27,10 @@ took_back conn k = record k {
 abbrev pub IsFirst : {C : Type 0} → C → Option (List C) → Type 0
 IsFirst conn to_come = IfSome to_come (λ conns. conns ≡ conn ∷ drop 1 conns)
 
--- the first connection to come, and only that, went out; or none came, with waiting only where none is to come; or the
--- door failed, and only its count changed
+-- the first connection to come, and only that, went out; or none came, which a door that tells its list answers only
+-- where the list is empty, and with waiting no other door does; or the door failed, and only its count changed
 abbrev pub LetsOut : {C E : Type 0} → Bool → DoorKnown C → DoorKnown C → Result (Option C) E → Type 0
 LetsOut wait before after (Ok (Some conn)) = IsFirst conn before.to_come × (after ≡ let_out before)
-LetsOut wait before after (Ok None) = (after ≡ before) × (IsTrue wait → before.to_come ≡ Some [])
+LetsOut wait before after (Ok None) =
+    (after ≡ before) × IfSome before.to_come (λ conns. conns ≡ []) × (IsTrue wait → before.to_come ≡ Some [])
 LetsOut wait before after (Err failed) = after ≡ record before { faults = after.faults }

@@ -16,6 +16,15 @@ pub record Ask : Type 0 where
   pub sent : List ℕ
   pub given : List ℕ
 
+-- the asks that were carried: those before the last one, in order, and the last one
+pub record CarriedAsks : Type 0 where
+  pub earlier : List Ask
+  pub last : Option Ask
+
+-- all of them, in order
+abbrev pub carried : CarriedAsks → List Ask
+carried asks = asks.earlier ++ option_to_list asks.last
+
 pub record LinkKnown : Type 0 where
   -- the asks before the last one, in order, and the last one
   pub earlier : List Ask
@@ -34,8 +43,8 @@ abbrev pub asks : LinkKnown → List Ask
 asks k = k.earlier ++ option_to_list k.ask
 
 -- what the last ask sent
-abbrev pub request : LinkKnown → List ℕ
-request k = unwrap_or (option_map (λ (ask : Ask). ask.sent) k.ask) []
+abbrev pub last_sent : LinkKnown → List ℕ
+last_sent k = unwrap_or (option_map (λ (ask : Ask). ask.sent) k.ask) []
 
 -- ---- what calls make of it
 
@@ -104,9 +113,9 @@ abbrev pub PeerServes : {T : Type 0} → (ℕ → State → List ℕ → List �
     → (ℕ → State → List ℕ → State → Type 0) → LinkKnown → LinkKnown → Result T AskFault → Type 0
 PeerServes serves stops before after (Ok done) =
     BothTold before.peer after.peer
-    (λ p q. IsSomeAnd after.coming (λ reply. serves before.seed p (request before) reply q))
+    (λ p q. IsSomeAnd after.coming (λ reply. serves before.seed p (last_sent before) reply q))
 PeerServes serves stops before after (Err fault) =
-    BothTold before.peer after.peer (λ p q. (q ≡ p) ⊎ stops before.seed p (request before) q)
+    BothTold before.peer after.peer (λ p q. (q ≡ p) ⊎ stops before.seed p (last_sent before) q)
 
 -- the next n bytes of the reply stand at the front of the room; after them the room is as it was
 pub record GivesNext (before after : LinkKnown) (old new : List ℕ) (n : ℕ) : Type 0 where

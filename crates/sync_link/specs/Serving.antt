@@ -5,15 +5,18 @@ use Rattle.conflicts.specs.State.{State, Step, after_all}
 use Rattle.sync_stream.specs.Early.{BreaksOff, ends_early}
 use Rattle.sync_stream.specs.Messages.{Request, ReadsRequest}
 use Rattle.sync_stream.specs.Replies.{BadRequest, Refuses}
-use Rattle.sync_stream.specs.Serving.{ServesBytes}
+use Rattle.sync_stream.specs.Serving.{ServesBytes, Stop}
 
 -- a peer that makes its ids by this seed reads the bytes that were sent, or a front of them that it answers already,
--- gives this reply and makes its steps. It refuses bytes because they end early only if it has read all of them
-pub record ServesAsDefined (seed : ℕ) (before : State) (sent reply : List ℕ) (after : State) : Type 0 where
+-- gives this reply, makes its steps and applies so many documents, unless it is stopped in a way that may come. It
+-- refuses bytes because they end early only if it has read all of them
+pub record ServesAsDefined (may_stop : Stop → Type 0) (seed : ℕ) (before : State) (sent reply : List ℕ)
+    (after : State) : Type 0 where
   pub read : List ℕ
   pub made : List Step
+  pub applied : ℕ
   pub front : IsFront read sent
-  pub serves : ServesBytes before seed read reply made
+  pub serves : ServesBytes may_stop before seed read reply made applied
   pub whole : ends_early serves.request ≡ true → serves.reply ≡ Refuses BadRequest → read ≡ sent
   pub stepped : after ≡ after_all before made
 

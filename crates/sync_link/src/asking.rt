@@ -9,7 +9,7 @@ use thiserror::Error;
 use u1_base::Memory;
 
 /// How far the ask under way has come.
-#[derive(Clone, Copy, Debug, PartialEq, Eq)]
+#[derive(Clone, Copy, PartialEq, Eq)]
 pub enum Phase {
     /// No ask is under way.
     Idle,

@@ -1,7 +1,7 @@
 //! What a link in memory is doing.
 use crate::rest::Rest;
 
-#[derive(Debug, Drop)]
+#[derive(Drop)]
 pub(crate) enum Doing {
     Idle,
     Sending,

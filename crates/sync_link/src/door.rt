@@ -19,8 +19,8 @@ pub trait Acceptor {
     /// how many calls failed. That number never falls.
     ghost known: { Self → DoorKnown Self.Conn };
 
-    /// Gives the next connection to this port. Without `wait` it may give none where none has come
-    /// yet; with `wait` only where none will come.
+    /// Gives the next connection to this port. A door that tells its list gives none only where the
+    /// list is empty. Any other one may give none without `wait` where none has come yet.
     fn next(&mut self, port: u16, wait: bool) -> Result<Option<Self::Conn>, AcceptFailed>
         ensures lets_out { LetsOut wait (known self.old) (known self.new) result }
         ensures cause { HasCause (known self.old).faults (known self.new).faults result };

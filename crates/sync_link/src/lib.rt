@@ -16,7 +16,7 @@ mod rest;
 
 pub use asking::{AskFault, Link, Phase};
 pub use door::{AcceptFailed, Acceptor};
-pub use laws::{law_lost_replies, law_refusals};
-pub use memory_ask::MemAsk;
+pub use laws::{law_lost_replies, law_memory_peers, law_refusals};
+pub use memory_ask::{Carried, MemAsk};
 pub use memory_door::{Conns, MemAcceptor};
 pub use memory_link::{MemLink, Replies};

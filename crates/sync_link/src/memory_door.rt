@@ -1,6 +1,6 @@
 //! A door in memory: its connections are given beforehand, and it fails where a test wants it.
 ghost use Rattle.std.specs.Prelude.{◌≡◌, ◌-◌, ◌≤◌, ◌↔◌, [], ◌∷◌, ◌++◌, option_copied, slice_get};
-ghost use Rattle.std.specs.Prelude.{None, Ok, IfOk, IsErr, Contains};
+ghost use Rattle.std.specs.Prelude.{IfOk, IsErr, Contains};
 ghost use Rattle.u1_base.specs.Causes.{HasCause};
 ghost use Rattle.sync_link.specs.Doors.{LetsOut};
 ghost use Rattle.sync_link.specs.Memory.{CountsCall, door_known};
@@ -15,7 +15,7 @@ use u1_base::{Items, Memory, Numbers};
 pub type Conns = Items<MemConn>;
 
 /// A door whose connections are given beforehand. It keeps those that are given back.
-#[derive(Debug, Drop)]
+#[derive(Drop)]
 pub struct MemAcceptor {
     to_come: IntoIter<MemConn>,
     given_back: Vec<MemConn>,
@@ -93,7 +93,6 @@ impl Acceptor for MemAcceptor {
         ensures lets_out { LetsOut wait (door_known self.old) (door_known self.new) result }
         ensures cause { HasCause self.old.faults self.new.faults result }
         ensures fails { IsErr result ↔ Contains self.old.failing self.old.calls }
-        ensures none { result ≡ Ok None → self.old.to_come ≡ [] }
         ensures counts { CountsCall self.old self.new result }
     {
         let fails = self.failing.as_slice().contains(&self.calls);

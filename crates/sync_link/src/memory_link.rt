@@ -1,25 +1,24 @@
 //! A link in memory: its replies are given beforehand, and it fails where a test wants it.
-ghost use Rattle.std.specs.Prelude.{◌≡◌, ◌≢◌, ◌⊎◌, ◌↔◌, ◌≤◌, ◌<◌, [], ◌∷◌, ◌++◌, min, length, take};
+ghost use Rattle.std.specs.Prelude.{◌≡◌, ◌≢◌, ◌⊎◌, ◌↔◌, ◌≤◌, ◌<◌, [], ◌∷◌, min, length, take};
 ghost use Rattle.std.specs.Prelude.{None, Some, IsSomeAnd, Err, IfOk, OnOk, OnErr, Contains};
 ghost use Rattle.std.specs.Prelude.{option_copied, slice_get};
-ghost use Rattle.std.specs.Option.{option_to_list};
 ghost use Rattle.u1_base.specs.Causes.{HasCauseOf, Rose};
 ghost use Rattle.link.specs.Memory.{one_more};
 ghost use Rattle.sync_link.specs.Doing.{GivesFront};
 ghost use Rattle.sync_link.specs.Links.{Begins, Finishes, Gives, PeerServes, Sends};
-ghost use Rattle.sync_link.specs.Links.{and_given, and_sent, asks};
+ghost use Rattle.sync_link.specs.Links.{and_given, asks};
 ghost use Rattle.sync_link.specs.Memory.{Counts, link_known};
 ghost use Rattle.sync_link.specs.Serving.{ServesAsDefined, StopsAsDefined};
+ghost use Rattle.sync_stream.specs.Serving.{AnyStop};
 
 use crate::doing::Doing;
-use crate::memory_ask::MemAsk;
 use crate::rest::Rest;
-use crate::{AskFault, Link, Phase};
+use crate::{AskFault, Carried, Link, MemAsk, Phase};
 use std::alloc::Global;
 use std::marker::Model;
 use std::vec::IntoIter;
 use sync_http::Address;
-use u1_base::{Bytes, Items, Memory, Numbers};
+use u1_base::{Bytes, Items, Numbers};
 
 /// The replies to the asks of a `MemLink`, in order.
 pub type Replies = Items<Bytes>;
@@ -27,10 +26,9 @@ pub type Replies = Items<Bytes>;
 /// A link whose replies are given beforehand. It keeps the asks that it carried, and tells no peer.
 ///
 /// Asks are numbered from 0 as they are begun, those included that failed later.
-#[derive(Debug, Drop)]
+#[derive(Drop)]
 pub struct MemLink {
-    earlier: Vec<MemAsk>,
-    ask: Option<MemAsk>,
+    carried: Carried,
     doing: Doing,
     replies: IntoIter<Bytes>,
     piece: u64,
@@ -47,8 +45,8 @@ impl Model for MemLink {
     ghost Value = { Script };
 
     ghost view = { λ l. record {
-      earlier = l.earlier.items;
-      ask = l.ask;
+      earlier = l.carried.earlier;
+      ask = l.carried.last;
       phase = phase_of l.doing;
       coming = coming_of l.doing;
       replies = into_iter_items l.replies;
@@ -79,8 +77,7 @@ impl MemLink {
     {
         let replies = replies.into_vec();
         MemLink {
-            earlier: Vec::new(*replies.allocator()),
-            ask: None,
+            carried: Carried::new(*replies.allocator()),
             doing: Doing::Idle,
             replies: replies.into_iter(),
             piece,
@@ -93,11 +90,7 @@ impl MemLink {
     pub fn asked(&self, number: u64) -> Option<&MemAsk>
         ensures { option_copied result ≡ slice_get (asks (link_known self.now)) number }
     {
-        let place = number as usize;
-        if place == self.earlier.len() {
-            return self.ask.as_ref();
-        }
-        self.earlier.as_slice().get(place)
+        self.carried.asked(number)
     }
 
     // Counts a fault, and gives the ask up.
@@ -117,10 +110,11 @@ impl MemLink {
 impl Link for MemLink {
     ghost use Rattle.sync_link.specs.Memory.{link_known};
     ghost use Rattle.sync_link.specs.Serving.{ServesAsDefined, StopsAsDefined};
+    ghost use Rattle.sync_stream.specs.Serving.{AnyStop};
 
     ghost known = { link_known };
 
-    ghost serves = { ServesAsDefined };
+    ghost serves = { ServesAsDefined AnyStop };
 
     ghost stops = { StopsAsDefined };
 
@@ -132,8 +126,7 @@ impl Link for MemLink {
         ensures replies { self.new.replies ≡ self.old.replies }
     {
         self.doing = Doing::Idle;
-        let ask = MemAsk::new(*self.earlier.allocator(), to)?;
-        put_last(&mut self.earlier, &mut self.ask, ask)?;
+        self.carried.begin(to)?;
         self.doing = Doing::Sending;
         Ok(())
     }
@@ -147,7 +140,7 @@ impl Link for MemLink {
         ensures counts { Counts self.old self.new result }
         ensures replies { self.new.replies ≡ self.old.replies }
     {
-        if add_sent(&mut self.ask, piece).is_err() {
+        if self.carried.send(piece).is_err() {
             self.doing = Doing::Idle;
             return Err(AskFault::Memory);
         }
@@ -157,7 +150,7 @@ impl Link for MemLink {
     fn finish(&mut self) -> Result<(), AskFault>
         requires { self.old.phase ≡ Phase.Sending }
         ensures finishes { Finishes (link_known self.old) (link_known self.new) result }
-        ensures peer { PeerServes ServesAsDefined StopsAsDefined
+        ensures peer { PeerServes (ServesAsDefined AnyStop) StopsAsDefined
             (link_known self.old) (link_known self.new) result }
         ensures cause { HasCauseOf AskFault.Failed self.old.faults self.new.faults result }
         ensures fails { result ≡ Err AskFault.Failed
@@ -168,7 +161,7 @@ impl Link for MemLink {
             (λ reply. self.old.replies ≡ reply ∷ self.new.replies)) }
         ensures keeps { OnErr result (self.new.replies ≡ self.old.replies) }
     {
-        let number = self.earlier.len() as u64;
+        let number = self.carried.before_last();
         if self.failing.as_slice().contains(&number) {
             self.fail();
             return Err(AskFault::Failed);
@@ -200,7 +193,7 @@ impl Link for MemLink {
         let Doing::Receiving(rest) = &mut self.doing else {
             unreachable!()
         };
-        match give(rest, &mut self.ask, into, most) {
+        match give(rest, &mut self.carried, into, most) {
             Ok(count) => Ok(count),
             Err(AskFault::Failed) => {
                 self.fail();
@@ -214,43 +207,19 @@ impl Link for MemLink {
     }
 }
 
-// The ask is the last one from now on; the former last one joins the earlier ones.
-fn put_last(earlier: &mut Vec<MemAsk>, last: &mut Option<MemAsk>, ask: MemAsk) -> Result<(), Memory>
-    ensures ok { OnOk result (last.new ≡ Some ask) }
-    ensures joined { OnOk result
-        (earlier.new.items ≡ earlier.old.items ++ option_to_list last.old) }
-    ensures err { OnErr result ((last.new ≡ last.old) × (earlier.new.items ≡ earlier.old.items)) }
-{
-    earlier.reserve(1)?;
-    if let Some(before) = last.replace(ask) {
-        let _ = earlier.push(before);
-    }
-    Ok(())
-}
-
-// Adds the piece to what the ask sent.
-fn add_sent(ask: &mut Option<MemAsk>, piece: &[u8]) -> Result<(), Memory>
-    ensures ok { OnOk result (ask.new ≡ and_sent piece.now ask.old) }
-    ensures err { OnErr result (ask.new ≡ ask.old) }
-{
-    if let Some(ask) = ask {
-        ask.sent.extend(piece)?;
-    }
-    Ok(())
-}
-
 // Gives the next bytes of the reply, as many as there are, but at most so many. It fails where
 // there is none.
 fn give(
     rest: &mut Rest,
-    ask: &mut Option<MemAsk>,
+    carried: &mut Carried,
     into: &mut [u8],
     most: usize,
 ) -> Result<usize, AskFault>
     requires room { (1 ≤ most) × (most ≤ length into.old) }
     ensures gives { IfOk result (GivesFront most rest.old rest.new into.old into.new) }
-    ensures ask { IfOk result (λ n. ask.new ≡ and_given (take n rest.old) ask.old) }
-    ensures err { OnErr result ((rest.new ≡ rest.old) × (ask.new ≡ ask.old)) }
+    ensures carried { IfOk result (λ n. carried.new
+        ≡ record carried.old { last = and_given (take n rest.old) carried.old.last }) }
+    ensures err { OnErr result ((rest.new ≡ rest.old) × (carried.new ≡ carried.old)) }
     ensures ended { result ≡ Err AskFault.Failed ↔ (rest.old ≡ []) }
 {
     let left = rest.as_slice();
@@ -259,21 +228,10 @@ fn give(
     }
     let count = left.len().min(most);
     let piece = &left[..count];
-    if add_given(ask, piece).is_err() {
+    if carried.give(piece).is_err() {
         return Err(AskFault::Memory);
     }
     into[..count].copy_from_slice(piece);
     rest.pass(count);
     Ok(count)
-}
-
-// Adds the piece to what the ask was given.
-fn add_given(ask: &mut Option<MemAsk>, piece: &[u8]) -> Result<(), Memory>
-    ensures ok { OnOk result (ask.new ≡ and_given piece.now ask.old) }
-    ensures err { OnErr result (ask.new ≡ ask.old) }
-{
-    if let Some(ask) = ask {
-        ask.given.extend(piece)?;
-    }
-    Ok(())
 }

@@ -5,7 +5,7 @@ use std::marker::Model;
 use u1_base::Bytes;
 
 /// Bytes that are given piece by piece, seen as those that are left.
-#[derive(Debug, Drop)]
+#[derive(Drop)]
 pub(crate) struct Rest {
     bytes: Bytes,
     at: usize,

@@ -105,7 +105,8 @@ not_quiet place l x rest is (inl q) = no_line l x rest q.1 is
 not_quiet place l x rest is (inr q) = broken l x (subst IsUnbroken is q.1)
 
 -- where a body ends no good line is left
-no_further : (kind : HeadKind) (n : ℕ) (place : Next) (l x rest : List ℕ) (passed : Passed) (all : Bool) (e : Ending)
+pub no_further : (kind : HeadKind) (n : ℕ) (place : Next) (l x rest : List ℕ) (passed : Passed) (all : Bool)
+    (e : Ending)
     → IsGood kind place l passed → IsUnbroken l → rest ≡ ended l ++ x
     → EndsSo kind n place rest all e → ⊥
 no_further kind n place l x rest passed all e good u is (at_fault f faulty ending) =

@@ -10,6 +10,8 @@ mod Sayings
 pub mod ObjectsBack
 pub mod StreamBack
 pub mod Came
+pub mod GoingOn
 pub mod Serving
-mod Messages
+pub mod Fronts
+pub mod Messages
 mod Lengths

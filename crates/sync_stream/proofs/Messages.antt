@@ -1,8 +1,9 @@
 -- Whole messages that were written, head and body, are read as themselves.
 use Rattle.std.proofs.Common.{◌≡◌, ◌≢◌, ◌⊎◌, ℕ, ◌+◌, ◌<◌, ◌≤◌, ◌^◌, Bool, true, false, cond, not, ◌&&◌, eqb}
 use Rattle.std.proofs.Common.{pos, List, [], ◌∷◌, ◌++◌, length, map, take, drop, codes, Option, Some, None, Ok}
-use Rattle.std.proofs.Common.{nat_le, nat_lt, refl, sym, ap, ◌∙◌, subst, arith, inl, inr, append_assoc}
+use Rattle.std.proofs.Common.{Result, nat_le, nat_lt, refl, sym, ap, ◌∙◌, subst, arith, inl, inr, append_assoc}
 use Rattle.std.specs.List.{AllByRecursion}
+use Rattle.std.specs.Prelude.{is_some}
 use Rattle.std.proofs.lemmas.Bool.{le-leb, le-ltb}
 use Rattle.std.proofs.lemmas.Fmt.{length-decimal-le}
 use Rattle.std.proofs.lemmas.List.{drop_at, length-append, take_at}
@@ -14,7 +15,8 @@ use Rattle.u1_base.specs.Places.{Place}
 use Rattle.u1_base.specs.declared.ids.Form.TheVariants.{Replica}
 use Rattle.u1_base.specs.declared.limits.TheConstants.{GREATEST_COUNT}
 use Rattle.u1_base.proofs.IdFacts.{id_facts}
-use Rattle.sync_http.specs.Bodies.{IsInfo, info_in, info_text, info_tree, told_in, told_text, told_tree}
+use Rattle.sync_http.specs.Bodies.{IsInfo, info_in, info_text, info_tree, kept_in, told_in, told_text, told_tree}
+use Rattle.serde_json.specs.Find.{as_object}
 use Rattle.sync_http.specs.Chained.{◌>>=◌, only_if}
 use Rattle.sync_http.specs.Hearing.{SaysReply, SaysRequest}
 use Rattle.sync_http.specs.Laws.{CanAsk, CanReply}
@@ -24,20 +26,23 @@ use Rattle.sync_http.specs.declared.address.Address.{Address}
 use Rattle.sync_http.specs.declared.heads.ReplyHead.{ReplyHead}
 use Rattle.sync_http.specs.declared.info.Info.{Info}
 use Rattle.sync_http.proofs.BodiesBack.{info_back, told_back}
+use Rattle.sync_http.specs.declared.fault.WireFault.{WireFault}
 use Rattle.sync_http.proofs.HeadsBack as heads
+use Rattle.sync_http.proofs.Hears.{one_reply}
+use Rattle.sync_http.proofs.MoreBytes.{reply_on}
 use Rattle.sync_http.proofs.PositionsBack.{value_of-tree}
 use Rattle.sync_stream.specs.Came.{IsQuiet, SaysBody, Whole, ending_of}
 use Rattle.sync_stream.specs.Came.EndsSo.{at_end}
 use Rattle.sync_stream.specs.Laws.{IsAskable, IsGiven, IsSent, ReadsBack}
 use Rattle.sync_stream.specs.Lines.{IsUnbroken}
-use Rattle.sync_stream.specs.Messages.{Asks, Hears, ReadsReply, ReadsRequest, Says, SaysAsk, SaysInfo, SaysKept}
-use Rattle.sync_stream.specs.Messages.{SaysReturned, SaysStream, Status, Tell, docs_in, is_object, kept_in, most_small}
+use Rattle.sync_stream.specs.Messages.{Asks, Hears, ReadsReply, ReadsRequest, Says, SaysPurpose, SaysInfo, SaysKept}
+use Rattle.sync_stream.specs.Messages.{SaysReturned, SaysStream, Status, Tell, docs_in, most_small}
 use Rattle.sync_stream.specs.Messages.{small_of}
 use Rattle.sync_stream.specs.Replies.{BadRequest, Keeps, LogCheck, NoLength, NoMemory, NotFound, Refusal, Refuses}
 use Rattle.sync_stream.specs.Replies.{Reply, Returns, StoreFailed, StoreFull, Tells, TooLarge, WrongMethod}
 use Rattle.sync_stream.specs.Replies.{kept_text, refusal_status, refusal_text, refusal_words}
-use Rattle.sync_stream.specs.Replies.{reply_text}
-use Rattle.sync_stream.specs.Requests.{ForInfo, Question, ToExchange, ToKeep, ask_of, request_body, request_head}
+use Rattle.sync_stream.specs.Replies.{is_stream, reply_body, reply_status, reply_text}
+use Rattle.sync_stream.specs.Requests.{ForInfo, Question, ToExchange, ToKeep, purpose_of, request_body, request_head}
 use Rattle.sync_stream.specs.Requests.{request_text, verb_of}
 use Rattle.sync_stream.specs.Stream.{Ends, counted, end_fault, ends_in_cr, is_closed, is_long_rest, max_line}
 use Rattle.sync_stream.specs.Written.{stream_text}
@@ -128,7 +133,8 @@ kept_formed = (IsUtf8-are_ascii (codes "ok") refl, tt, tt, tt)
 
 kept_back : kept_in kept_text ≡ Some tt
 unfolding kept_text
-kept_back = ap (λ d. d >>= (λ x. only_if (is_object x) tt)) (value_of-tree kept_tree kept_formed (omega arith))
+kept_back =
+    ap (λ d. d >>= (λ x. only_if (is_some (as_object x)) tt)) (value_of-tree kept_tree kept_formed (omega arith))
 
 kept_short : length kept_text ≤ most_small
 unfolding kept_text
@@ -196,7 +202,8 @@ stream_whole kind head docs more h sent =
 -- ---- requests
 
 says_ask : (question : Question) (more : List ℕ) → IsAskable question
-    → SaysAsk (verb_of question) (request_body question ++ more) (length (request_body question)) (ask_of question)
+    → SaysPurpose (verb_of question) (request_body question ++ more) (length (request_body question))
+    (purpose_of question)
 says_ask ForInfo more h = refl
 says_ask (ToKeep at) more h = ap Tell (small_whole told_in (told_text at) more at (told_back at h) (told_short at h))
 says_ask (ToExchange known docs) more h = (
@@ -207,7 +214,7 @@ says_ask (ToExchange known docs) more h = (
 
 pub request_back : (to : Address) (source : List ℕ) (question : Question) (more : List ℕ)
     → CanAsk to (request_head to source question) → IsAskable question
-    → ReadsRequest (request_text to source question ++ more) (Asks to.db source (ask_of question))
+    → ReadsRequest (request_text to source question ++ more) (Asks to.db source (purpose_of question))
 request_back to source question more can h =
     let head = request_head to source question in
     let front = grammar.print_request (request_written to head) in
@@ -218,7 +225,7 @@ request_back to source question more can h =
           (heads.request_back to head (body ++ more) can),
       refl,
       refl,
-      subst (λ t. SaysAsk (verb_of question) t (length body) (ask_of question)) (sym (behind front body more))
+      subst (λ t. SaysPurpose (verb_of question) t (length body) (purpose_of question)) (sym (behind front body more))
           (says_ask question more h),
     )
 
@@ -313,3 +320,25 @@ reply_back (Refuses refusal) more h = record {
   kept = refuses_back SaysKept refusal more;
   returned = refuses_back SaysReturned refusal more;
 }
+
+-- ---- the status of a reply
+
+can_reply : (reply : Reply) (n : ℕ) → n ≤ GREATEST_COUNT → CanReply (record { status = reply_status reply; body = n })
+can_reply (Tells info) n short = record { status = (omega arith, omega arith); phrase = refl; body = short }
+can_reply Keeps n short = record { status = (omega arith, omega arith); phrase = refl; body = short }
+can_reply (Returns at docs) n short = record { status = (omega arith, omega arith); phrase = refl; body = short }
+can_reply (Refuses refusal) n short = can_refuse refusal n short
+
+same_status : {x y : ReplyHead} → ◌≡◌ {A = Result ReplyHead WireFault} (Ok x) (Ok y) → x.status ≡ y.status
+same_status e = cc
+
+pub status_heard : (reply : Reply) (given more : List ℕ) (status : ℕ) → length (reply_body reply) ≤ GREATEST_COUNT
+    → reply_text reply ≡ given ++ more → ReadsReply SaysInfo given (Status status) → status ≡ reply_status reply
+status_heard reply given more status short is h =
+    let body = reply_body reply in
+    let head : ReplyHead = record { status = reply_status reply; body = length body } in
+    let heard : ReplyHead = record { status = status; body = h.0 } in
+    let front = grammar.print_response (reply_written head (is_stream reply)) in
+    let written = heads.reply_back head (is_stream reply) body (can_reply reply (length body) short) in
+    let came = subst (λ t. SaysReply t (Ok heard) h.1) (sym is) (reply_on given more (Ok heard) h.1 h.2) in
+    same_status (one_reply (front ++ body) (Ok heard) (Ok head) h.1 (length front) came written).0

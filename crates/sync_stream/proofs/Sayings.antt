@@ -26,8 +26,9 @@ use Rattle.sync_http.specs.Chained.{◌>>=◌, only_if}
 use Rattle.sync_http.specs.Positions.{generation_in, made_by, place_at, position_in}
 use Rattle.sync_stream.specs.declared.line.SyncDoc.{SyncDoc}
 use Rattle.sync_stream.specs.Objects.{content_of, doc_in, doc_of}
-use Rattle.sync_stream.specs.Fields.{IsPlainMember, Saying, Sayings, content_said, data_of_token, doc_said, place_said}
-use Rattle.sync_stream.specs.Fields.{said, said_in, said_or, sayings_of, text_said, told, told_of, with_saying}
+use Rattle.sync_stream.specs.inner.Fields.{IsPlainMember, Saying, Sayings, content_said, data_of_token, doc_said}
+use Rattle.sync_stream.specs.inner.Fields.{place_said}
+use Rattle.sync_stream.specs.inner.Fields.{said, said_in, said_or, sayings_of, text_said, told, told_of, with_saying}
 use Rattle.sync_stream.specs.declared.fields.Fields.{Fields}
 use Rattle.sync_stream.specs.declared.fields.PlainMember.{PlainMember}
 

@@ -9,8 +9,9 @@ use Rattle.std.proofs.lemmas.List.{length-append, flat_map_more}
 use Rattle.std.proofs.lemmas.Option.{cond_some}
 use Rattle.sync_stream.specs.Lines.{ended, IsUnbroken}
 use Rattle.sync_stream.specs.Says.{says}
-use Rattle.sync_stream.specs.Stream.{counted, said_by, IsGood, Passes, IsFaultyAt}
-use Rattle.sync_stream.specs.HeldText.{HeldText, StandsFor, PassesOne}
+use Rattle.sync_stream.specs.Stream.{Begins, counted, said_by, IsGood, Passes, IsFaultyAt}
+use Rattle.sync_stream.specs.HeldText.{HeldText, StandsFor}
+use Rattle.sync_stream.specs.inner.HeldText.{PassesOne}
 use Rattle.sync_stream.specs.declared.line.HeadKind.{HeadKind}
 use Rattle.sync_stream.specs.declared.line.Line.{Line}
 use Rattle.sync_stream.specs.declared.line.Next.{Next}
@@ -19,14 +20,16 @@ use Rattle.sync_stream.specs.declared.fault.LineFault.{LineFault}
 use Rattle.std.proofs.Common.{Result}
 use Rattle.u1_base.specs.Places.{Place}
 use Rattle.sync_stream.specs.Objects.{head_in, doc_in}
-use Rattle.sync_stream.specs.Says.{IsShape, with_head, with_doc, object_part}
+use Rattle.sync_stream.specs.Says.{with_head, with_doc, object_part}
+use Rattle.sync_stream.specs.inner.Says.{IsShape}
 use Rattle.sync_stream.specs.declared.line.SyncDoc.{SyncDoc}
 use Rattle.sync_stream.specs.Stream.IsFaultyAt.{whole_line}
 use Rattle.sync_stream.specs.declared.fault.LineFault.TheVariants.{At, TooLong}
 use Rattle.sync_stream.specs.declared.fault.StreamFault.{StreamFault}
 use Rattle.sync_stream.specs.declared.fault.StreamFault.TheVariants as fault
 use Rattle.sync_stream.specs.Stream.{answered, fault_of, end_fault, Ends, is_closed}
-use Rattle.sync_stream.specs.HeldText.{IsReadUp, lines_passed, Answers}
+use Rattle.sync_stream.specs.HeldText.{IsReadUp, Answers}
+use Rattle.sync_stream.specs.inner.HeldText.{lines_passed}
 use Rattle.sync_stream.specs.declared.line.Next.TheVariants.{Opening, Heading, After, Closed}
 use Rattle.sync_stream.specs.declared.line.Line.TheVariants.{Head, Doc, End}
 
@@ -45,7 +48,7 @@ at_break bytes at h =
     sym (take-append-drop at bytes) ∙ ap (λ b. take at bytes ++ b) rest
     ∙ sym (append_assoc (take at bytes) (13 ∷ 10 ∷ []) (drop (at + 2) bytes))
 
-unbroken_take : (bytes : List ℕ) (at : ℕ) → IsBreak bytes at × NoBreak bytes 0 at → IsUnbroken (take at bytes)
+pub unbroken_take : (bytes : List ℕ) (at : ℕ) → IsBreak bytes at × NoBreak bytes 0 at → IsUnbroken (take at bytes)
 unbroken_take bytes at h k from to b =
     let short : length (take at bytes) ≡ at = length-take-le at bytes (omega (arith, h.0.0)) in
     let one = get_or-take at bytes k 0 (omega (arith, b.0, short)) in
@@ -101,6 +104,23 @@ all_more P (y ∷ xs) x h p = (h.0, all_more P xs x h.1 p)
 counted_more : (n : ℕ) → counted (counted n + 1) ≡ counted (n + 1)
 counted_more n = omega arith
 
+-- a text that begins with good lines and goes on with one more begins with all of them
+pub begins_more : (kind : HeadKind) (text : List ℕ) (lines : List (List ℕ)) (given : List Line) (place : Next)
+    (bytes line rest : List ℕ) (passed : Passed)
+    → Begins kind text lines given place bytes → bytes ≡ ended line ++ rest → IsUnbroken line
+    → IsGood kind place line passed
+    → Begins kind text (lines ++ line ∷ []) (given ++ said_by passed.line) passed.place rest
+begins_more kind text lines given place bytes line rest passed b is unbroken good =
+    record {
+      splits = record {
+        whole = b.splits.whole ∙ ap (λ k. flat_map ended lines ++ k) is
+            ∙ sym (append_assoc (flat_map ended lines) (ended line) rest)
+            ∙ ap (λ k. k ++ rest) (flat_map_more ended [] lines line);
+        each = all_more IsUnbroken lines line b.splits.each unbroken;
+      };
+      passes = passes_more kind Opening lines given place line passed b.passes good;
+    }
+
 stands_at : (old : HeldText) (rest : List ℕ) (text : List ℕ) (given : List Line) (line : List ℕ) (passed : Passed)
     → StandsFor old text given → old.fault ≡ None → old.rest ≡ ended line ++ rest → IsUnbroken line
     → IsGood old.kind old.place line passed
@@ -109,15 +129,7 @@ stands_at : (old : HeldText) (rest : List ℕ) (text : List ℕ) (given : List L
 stands_at old rest text given line passed s no_fault bytes unbroken good =
     record {
       lines = s.lines ++ line ∷ [];
-      begins = record {
-        splits = record {
-          whole = s.begins.splits.whole ∙ ap (λ b. flat_map ended s.lines ++ b) bytes
-              ∙ sym (append_assoc (flat_map ended s.lines) (ended line) rest)
-              ∙ ap (λ b. b ++ rest) (flat_map_more ended [] s.lines line);
-          each = all_more IsUnbroken s.lines line s.begins.splits.each unbroken;
-        };
-        passes = passes_more old.kind _ s.lines given old.place line passed s.begins.passes good;
-      };
+      begins = begins_more old.kind text s.lines given old.place old.rest line rest passed s.begins bytes unbroken good;
       number = ap (λ n. counted (n + 1)) s.number ∙ counted_more (length s.lines + 1)
           ∙ ap (λ n. counted (n + 1)) (sym (length-append s.lines (line ∷ [])));
       fault = subst (λ f. IfSome f (λ g. IsFaultyAt old.kind (counted (old.number + 1)) passed.place rest g

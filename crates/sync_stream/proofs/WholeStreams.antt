@@ -4,7 +4,8 @@ use Rattle.std.proofs.Common.{Option, Some, None, refl, sym, ap, ap₂, ◌∙�
 use Rattle.std.specs.List.{AllByRecursion}
 use Rattle.std.proofs.lemmas.List.{append-nil, flat_map_more}
 use Rattle.sync_stream.specs.Lines.{ended, IsUnbroken}
-use Rattle.sync_stream.specs.Says.{says, IsShape}
+use Rattle.sync_stream.specs.Says.{says}
+use Rattle.sync_stream.specs.inner.Says.{IsShape}
 use Rattle.sync_stream.specs.Stream.{Ends, IsGood, Passes, closes, counted, end_fault, is_closed, is_empty, max_line}
 use Rattle.sync_stream.specs.Stream.{said_by}
 use Rattle.sync_stream.specs.Format.{IsStream}

@@ -1,14 +1,13 @@
--- What a reader keeps of the pushed text, and what its calls do. The words at the end of this file are private.
-use Rattle.std.specs.Prelude.{◌≡◌, ◌⊎◌, ℕ, ◌+◌, true, false, if◌then◌else◌, List, [], ◌++◌, length, Option, Some, None}
+use Rattle.std.specs.Prelude.{◌≡◌, ◌≢◌, ◌⊎◌, ℕ, ◌+◌, true, false, if◌then◌else◌, List, [], length, Option, Some}
+use Rattle.std.specs.Prelude.{None}
 use Rattle.std.specs.Prelude.{IfSome, Result, Ok, Err}
-use Rattle.sync_stream.specs.Lines.{ended, IsUnbroken}
-use Rattle.sync_stream.specs.Stream.{Begins, IsFaultyAt, IsGood, counted, end_fault, is_closed, is_long_rest, said_by}
+use Rattle.sync_stream.specs.Lines.{IsUnbroken}
+use Rattle.sync_stream.specs.Stream.{Begins, IsFaultyAt, counted, end_fault, is_closed, is_long_rest, said_by}
 use Rattle.sync_stream.specs.declared.line.HeadKind.{HeadKind}
 use Rattle.sync_stream.specs.declared.line.Line.{Line}
 use Rattle.sync_stream.specs.declared.line.Line.TheVariants.{Head, Doc, End}
 use Rattle.sync_stream.specs.declared.line.Next.{Next}
 use Rattle.sync_stream.specs.declared.line.Next.TheVariants.{Opening, Closed}
-use Rattle.sync_stream.specs.declared.line.Passed.{Passed}
 use Rattle.sync_stream.specs.declared.fault.LineFault.{LineFault}
 use Rattle.sync_stream.specs.declared.fault.LineFault.TheVariants.{At, TooLong}
 use Rattle.sync_stream.specs.declared.fault.StreamFault.{StreamFault}
@@ -69,6 +68,13 @@ Answers old new (Err (fault.At n)) =
 Answers old new (Err (fault.TooLong n)) =
     (new.fault ≡ Some (TooLong n)) × (old.fault ≡ None → IsFaultyAt new.kind new.number new.place new.rest (TooLong n))
 
+-- what it answers once the end was given and no fault: the end again where nothing follows it, and else the fault of
+-- what follows
+abbrev pub EndsAgain : HeldText → HeldText → Result (Option Line) StreamFault → Type 0
+EndsAgain old new (Ok line) = (line ≡ Some End) × (old.rest ≡ []) × (new ≡ old)
+EndsAgain old new (Err e) =
+    (e ≡ fault.At old.number) × (old.rest ≢ []) × (new ≡ record old { fault = Some (At old.number) })
+
 -- ---- the end of the body
 
 -- no whole line is left before the end of the stream, as after a `next_line` that gave none, or the end
@@ -88,17 +94,3 @@ Finishes old new (Err (fault.TooLong n)) =
     × (old.fault ≡ None → end_fault old.kind old.number old.place old.rest ≡ Some (TooLong n))
 
 -- ---- words of private clauses
-
--- what follows a call that passes one line, by its answer
-abbrev pub PassesOne : HeldText → HeldText → Result (Option Passed) LineFault → Type 0
-PassesOne old new (Ok None) = (new ≡ old) × IsUnbroken old.rest × (is_long_rest old.rest ≡ false)
-PassesOne old new (Ok (Some passed)) =
-    (line : List ℕ) × (old.rest ≡ ended line ++ new.rest) × IsUnbroken line × IsGood old.kind old.place line passed
-    × (new ≡ record old { number = counted (old.number + 1); place = passed.place; rest = new.rest })
-PassesOne old new (Err fault) =
-    (new ≡ record old { fault = Some fault }) × IsFaultyAt old.kind old.number old.place old.rest fault
-
-abbrev pub lines_passed : Result (Option Passed) LineFault → List Line
-lines_passed (Ok None) = []
-lines_passed (Ok (Some passed)) = said_by passed.line
-lines_passed (Err fault) = []

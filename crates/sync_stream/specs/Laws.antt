@@ -1,17 +1,19 @@
 -- What holds of all streams.
 use Rattle.std.specs.Prelude.{◌≡◌, ◌≢◌, ◌<◌, ◌≤◌, ◌⊎◌, ℕ, Bool, true, false, Option, List, [], ◌∷◌, ◌++◌, length, map}
-use Rattle.std.specs.Prelude.{Some, None, IfSome}
+use Rattle.std.specs.Prelude.{Some, None, IfSome, Ok}
 use Rattle.std.specs.List.{AllByRecursion}
 use Rattle.content.specs.Contents.{IsContent}
 use Rattle.u1_base.specs.Ids.{IsId}
 use Rattle.u1_base.specs.Places.{Place}
 use Rattle.u1_base.specs.declared.ids.Form.TheVariants.{Document}
 use Rattle.u1_base.specs.declared.limits.TheConstants.{GREATEST_COUNT}
-use Rattle.conflicts.specs.State.{State}
-use Rattle.sync_http.specs.Bodies.{IsInfo, info_in, told_in}
+use Rattle.conflicts.specs.State.{State, Step}
+use Rattle.sync_http.specs.Bodies.{IsInfo, info_in, kept_in, told_in}
+use Rattle.sync_http.specs.Hearing.{SaysRequest}
 use Rattle.sync_http.specs.Laws.{CanAsk}
 use Rattle.sync_http.specs.Positions.{IsPosition}
 use Rattle.sync_http.specs.declared.address.Address.{Address}
+use Rattle.sync_http.specs.declared.heads.RequestHead.{RequestHead}
 use Rattle.sync_http.specs.declared.info.Info.{Info}
 use Rattle.sync_stream.specs.Lines.{GoOn}
 use Rattle.sync_stream.specs.Format.{IsBody, IsStream}
@@ -19,12 +21,15 @@ use Rattle.sync_stream.specs.Stream.{Begins, Ends, HasFault, IsFaultyAt, Passes,
 use Rattle.sync_stream.specs.HeldText.{HasNoMore, HeldText, StandsFor}
 use Rattle.sync_stream.specs.Came.{Cut, Ending, Faulty, IsQuiet, SaysBody, Whole, ending_of}
 use Rattle.sync_stream.specs.Written.{stream_text}
-use Rattle.sync_stream.specs.Messages.{Asks, Exchange, Hears, ReadsReply, ReadsRequest, Says, SaysInfo, SaysKept}
-use Rattle.sync_stream.specs.Messages.{Over, SaysReturned, SaysStream, Short, Status, Stream, kept_in, most_small}
+use Rattle.sync_stream.specs.Messages.{Asks, Exchange, Hears, ReadsReply, ReadsRequest, Request, Says, SaysInfo}
+use Rattle.sync_stream.specs.Messages.{Purpose}
+use Rattle.sync_stream.specs.Messages.{SaysKept}
+use Rattle.sync_stream.specs.Messages.{Over, SaysReturned, SaysStream, Short, Status, Stream, most_small}
 use Rattle.sync_stream.specs.Messages.{small_if, small_of}
-use Rattle.sync_stream.specs.Replies.{Keeps, Refuses, Reply, Returns, Tells, refusal_status, reply_body, reply_text}
-use Rattle.sync_stream.specs.Requests.{ForInfo, Question, ToExchange, ToKeep, ask_of, request_head, request_text}
-use Rattle.sync_stream.specs.Serving.{serve}
+use Rattle.sync_stream.specs.Replies.{Keeps, Refuses, Reply, Returns, StoreFailed, StoreFull, Tells, refusal_status}
+use Rattle.sync_stream.specs.Replies.{reply_body, reply_status, reply_text}
+use Rattle.sync_stream.specs.Requests.{ForInfo, Question, ToExchange, ToKeep, purpose_of, request_head, request_text}
+use Rattle.sync_stream.specs.Serving.{MakesMore, OnlyMemory, Serves, applied, serve, steps_before}
 use Rattle.sync_stream.specs.Worked.{ServesAsWorked}
 use Rattle.sync_stream.specs.declared.line.HeadKind.{HeadKind}
 use Rattle.sync_stream.specs.declared.line.Line.{Line}
@@ -110,8 +115,11 @@ ReadsBack bytes (Refuses refusal) = IsRefused bytes (refusal_status refusal)
 pub record MessagesReadBack : Type 0 where
   pub request : (to : Address) (source : List ℕ) (question : Question) (more : List ℕ)
       → CanAsk to (request_head to source question) → IsAskable question
-      → ReadsRequest (request_text to source question ++ more) (Asks to.db source (ask_of question))
+      → ReadsRequest (request_text to source question ++ more) (Asks to.db source (purpose_of question))
   pub reply : (reply : Reply) (more : List ℕ) → IsGiven reply → ReadsBack (reply_text reply ++ more) reply
+  -- the status that is heard of a front of a reply is its own, whatever was asked
+  pub status : (reply : Reply) (given more : List ℕ) (status : ℕ) → length (reply_body reply) ≤ GREATEST_COUNT
+      → reply_text reply ≡ given ++ more → ReadsReply SaysInfo given (Status status) → status ≡ reply_status reply
 
 -- ---- bodies beside the length that their head says
 
@@ -135,7 +143,7 @@ pub record BodiesByLength : Type 0 where
 -- ---- what came of a body
 
 -- what a reader stands for is what the bytes say that came: where the source ended, where a fault was found, and where
--- the body is over
+-- the body is over. And whatever bytes came, they say lines that go on from the good ones so far, and end in some way
 pub record ReadersSay : Type 0 where
   pub cut : (reader : HeldText) (text : List ℕ) (given : List Line) → StandsFor reader text given → HasNoMore reader
       → SaysBody reader.kind text false given (Cut reader.number)
@@ -147,6 +155,12 @@ pub record ReadersSay : Type 0 where
       → StandsFor reader text given
       → IsQuiet reader.place reader.rest → end_fault reader.kind reader.number reader.place reader.rest ≡ ending
       → SaysBody reader.kind text true given (ending_of ending)
+  pub goes_on : (kind : HeadKind) (text : List ℕ) (lines : List (List ℕ)) (given : List Line) (place : Next)
+      (rest : List ℕ) (all : Bool) → Begins kind text lines given place rest
+      → (later : List Line) × (ending : Ending) × SaysBody kind text all (given ++ later) ending
+  -- so bytes that begin with the head of a request say a request, however much of its body came
+  pub asked : (bytes : List ℕ) (head : RequestHead) (n : ℕ) → SaysRequest bytes (Ok head) n
+      → (purpose : Purpose) × ReadsRequest bytes (Asks head.db head.source purpose)
 
 -- what came of a body says one thing
 abbrev pub OneSaying : Type 0
@@ -156,14 +170,35 @@ OneSaying =
 
 -- ---- serving
 
--- what is served of an exchange that came in part are the first steps of what is served where more of its documents
--- come
+-- what is served of an exchange that came in part are the first steps and documents of what is served where more of its
+-- documents come
 abbrev pub ServingGoesOn : Type 0
 ServingGoesOn =
     (s : State) (seed : ℕ) (db source : List ℕ) (head : Option Place) (docs later : List SyncDoc) (e f : Ending)
-    → GoOn (serve s seed (Asks db source (Exchange (record { head = head; docs = docs; ending = e })))).steps
-    (serve s seed (Asks db source (Exchange (record { head = head; docs = docs ++ later; ending = f })))).steps
+    → MakesMore (serve s seed (Asks db source (Exchange (record { head = head; docs = docs; ending = e }))))
+    (serve s seed (Asks db source (Exchange (record { head = head; docs = docs ++ later; ending = f }))))
+
+-- so a request of which a front was read asks for some first ones of the steps that the whole request asks for
+abbrev pub CutRequestsGoOn : Type 0
+CutRequestsGoOn =
+    (s : State) (seed : ℕ) (read more : List ℕ) (cut all : Request) → ReadsRequest read cut
+    → ReadsRequest (read ++ more) all → MakesMore (serve s seed cut) (serve s seed all)
+
+-- it is no refusal of the store
+abbrev pub IsNotOfStore : Reply → Type 0
+IsNotOfStore reply = (reply ≢ Refuses StoreFull) × (reply ≢ Refuses StoreFailed)
 
 pub record ServingIs : Type 0 where
   pub goes_on : ServingGoesOn
+  pub cut : CutRequestsGoOn
+  -- the steps of an exchange are those of the documents that it passes
+  pub documents : (s : State) (seed : ℕ) (db source : List ℕ) (stream : Stream)
+      → (serve s seed (Asks db source (Exchange stream))).steps
+      ≡ steps_before (applied (serve s seed (Asks db source (Exchange stream))))
+      (serve s seed (Asks db source (Exchange stream)))
+  -- a store is not among what is defined over states: it refuses by a stop alone. So where nothing but want of memory
+  -- stops a serving it never does
+  pub store : (s : State) (seed : ℕ) (request : Request) → IsNotOfStore (serve s seed request).reply
+  pub only_memory : (s : State) (seed : ℕ) (request : Request) (reply : Reply) (made : List Step) (n : ℕ)
+      → Serves OnlyMemory s seed request reply made n → IsNotOfStore reply
   pub worked : ServesAsWorked

@@ -1,7 +1,6 @@
 pub mod Lines
 pub mod Seen
 pub mod Objects
-pub mod Fields
 pub mod Says
 pub mod Stream
 pub mod HeldText
@@ -15,3 +14,4 @@ pub mod Serving
 pub mod Early
 pub mod Worked
 pub mod Laws
+pub mod inner

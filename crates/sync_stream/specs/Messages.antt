@@ -1,12 +1,9 @@
 -- What a request and a reply say, as values, as far as their bytes came.
-use Rattle.std.specs.Prelude.{◌≡◌, ◌≢◌, ℕ, nat_le, nat_lt, Bool, true, false, if◌then◌else◌, List, [], ◌∷◌, length}
+use Rattle.std.specs.Prelude.{◌≡◌, ◌≢◌, ℕ, nat_le, nat_lt, if◌then◌else◌, List, [], ◌∷◌, length}
 use Rattle.std.specs.Prelude.{drop, take, Option, Some, None, Ok, Err}
-use Rattle.serde_json.specs.Data.{Data, null, boolean, number, string, array, object}
-use Rattle.content.specs.Faults.{value_of}
 use Rattle.u1_base.specs.Places.{Place}
 use Rattle.u1_base.specs.declared.limits.TheConstants.{MOST_POSITION_BODY_BYTES}
-use Rattle.sync_http.specs.Chained.{◌>>=◌, only_if}
-use Rattle.sync_http.specs.Bodies.{info_in, told_in}
+use Rattle.sync_http.specs.Bodies.{info_in, kept_in, told_in}
 use Rattle.sync_http.specs.Hearing.{HearsReply, HearsRequest, IsReplyFault, SaysReply, SaysRequest}
 use Rattle.sync_http.specs.declared.fault.WireFault.{WireFault}
 use Rattle.sync_http.specs.declared.fault.WireFault.TheVariants.{Memory}
@@ -74,30 +71,32 @@ small_of reads n bytes =
 -- ---- requests
 
 -- what a target is asked: its info, to keep a position as told, or to exchange documents
-pub data Ask : Type 0 where
-  AskInfo : Ask
-  Tell : Small Place → Ask
-  Exchange : Stream → Ask
+pub data Purpose : Type 0 where
+  AskInfo : Purpose
+  Tell : Small Place → Purpose
+  Exchange : Stream → Purpose
 
--- a request: why it has no head (the bytes end within it, or it has a fault), or the database, the source and the ask
+-- a request: why it has no head (the bytes end within it, or it has a fault), or the database, the source and what is
+-- asked
 pub data Request : Type 0 where
   EndsEarly : Request
   Refused : WireFault → Request
-  Asks : List ℕ → List ℕ → Ask → Request
+  Asks : List ℕ → List ℕ → Purpose → Request
 
--- the bytes after the head say the ask
-abbrev pub SaysAsk : Verb → List ℕ → ℕ → Ask → Type 0
-SaysAsk Get bytes n ask = ask ≡ AskInfo
-SaysAsk Put bytes n ask = ask ≡ Tell (small_of told_in n bytes)
-SaysAsk Post bytes n ask = (stream : Stream) × SaysStream OfRequest bytes n stream × (ask ≡ Exchange stream)
+-- the bytes after the head say what is asked
+abbrev pub SaysPurpose : Verb → List ℕ → ℕ → Purpose → Type 0
+SaysPurpose Get bytes n purpose = purpose ≡ AskInfo
+SaysPurpose Put bytes n purpose = purpose ≡ Tell (small_of told_in n bytes)
+SaysPurpose Post bytes n purpose =
+    (stream : Stream) × SaysStream OfRequest bytes n stream × (purpose ≡ Exchange stream)
 
 -- the bytes that were read of a connection say this request; running out of memory is no fault of theirs
 abbrev pub ReadsRequest : List ℕ → Request → Type 0
 ReadsRequest bytes EndsEarly = HearsRequest bytes (Ok NotYet)
 ReadsRequest bytes (Refused fault) = HearsRequest bytes (Err fault) × (fault ≢ Memory)
-ReadsRequest bytes (Asks db source ask) =
+ReadsRequest bytes (Asks db source purpose) =
     (head : RequestHead) × (n : ℕ) × SaysRequest bytes (Ok head) n × (head.db ≡ db) × (head.source ≡ source)
-    × SaysAsk head.verb (drop n bytes) head.body ask
+    × SaysPurpose head.verb (drop n bytes) head.body purpose
 
 -- ---- replies
 
@@ -117,20 +116,6 @@ ReadsReply says bytes (Status status) =
     (body : ℕ) × (n : ℕ) × SaysReply bytes (Ok (record { status = status; body = body })) n × (status ≢ 200)
 ReadsReply says bytes (Hears x) =
     (body : ℕ) × (n : ℕ) × SaysReply bytes (Ok (record { status = 200; body = body })) n × says (drop n bytes) body x
-
--- an object says that the told position is kept, whatever its members are
-abbrev pub is_object : Data → Bool
-is_object null = false
-is_object (boolean b) = false
-is_object (number n) = false
-is_object (string s) = false
-is_object (array ds) = false
-is_object (object ms) = true
-
-abbrev pub kept_in : List ℕ → Option (Unit {0})
-kept_in body = do
-  d ← value_of body
-  only_if (is_object d) tt
 
 -- what the bytes say that come back to each ask
 abbrev pub SaysInfo : List ℕ → ℕ → Small Info → Type 0

@@ -9,7 +9,7 @@ use Rattle.sync_http.specs.declared.heads.RequestHead.{RequestHead}
 use Rattle.sync_http.specs.declared.heads.Verb.{Verb}
 use Rattle.sync_http.specs.declared.heads.Verb.TheVariants.{Get, Put, Post}
 use Rattle.sync_stream.specs.Came.{Whole}
-use Rattle.sync_stream.specs.Messages.{Ask, AskInfo, Tell, Exchange, Says}
+use Rattle.sync_stream.specs.Messages.{Purpose, AskInfo, Tell, Exchange, Says}
 use Rattle.sync_stream.specs.Written.{stream_text}
 use Rattle.sync_stream.specs.declared.line.HeadKind.TheVariants as kind
 use Rattle.sync_stream.specs.declared.line.SyncDoc.{SyncDoc}
@@ -21,10 +21,10 @@ pub data Question : Type 0 where
   ToExchange : Place → List SyncDoc → Question
 
 -- what the target is asked by it
-abbrev pub ask_of : Question → Ask
-ask_of ForInfo = AskInfo
-ask_of (ToKeep at) = Tell (Says at)
-ask_of (ToExchange known docs) = Exchange (record { head = Some known; docs = docs; ending = Whole })
+abbrev pub purpose_of : Question → Purpose
+purpose_of ForInfo = AskInfo
+purpose_of (ToKeep at) = Tell (Says at)
+purpose_of (ToExchange known docs) = Exchange (record { head = Some known; docs = docs; ending = Whole })
 
 abbrev pub verb_of : Question → Verb
 verb_of ForInfo = Get

@@ -1,5 +1,5 @@
 -- What one whole line says at its place in a stream.
-use Rattle.std.specs.Prelude.{◌≡◌, ◌-◌, ◌==◌, ◌||◌, ◌&&◌, ℕ, Bool, true, false, nat_lt, if◌then◌else◌, List, [], ◌∷◌}
+use Rattle.std.specs.Prelude.{◌-◌, ◌==◌, ◌||◌, ◌&&◌, ℕ, Bool, true, false, nat_lt, if◌then◌else◌, List, [], ◌∷◌}
 use Rattle.std.specs.Prelude.{length, slice_index, take, Option, Some, None}
 use Rattle.std.specs.Str.{bytes_eq}
 use Rattle.u1_base.specs.Places.{Place}
@@ -65,13 +65,3 @@ says kind (After true) line = let part = object_part line in with_doc part.1 (do
 says kind (After false) line =
     if bytes_eq (trim_start (trim_end line)) (93 ∷ []) then Some (record { line = Some End; place = Closed }) else None
 says kind Closed line = None
-
--- what a line can say at its place
-abbrev pub IsShape : Next → Passed → Type 0
-IsShape Opening passed = passed ≡ record { line = None; place = Heading }
-IsShape Heading passed = (head : Place) × (comma : Bool)
-    × (passed ≡ record { line = Some (Head head); place = After comma })
-IsShape (After true) passed = (doc : SyncDoc) × (comma : Bool)
-    × (passed ≡ record { line = Some (Doc doc); place = After comma })
-IsShape (After false) passed = passed ≡ record { line = Some End; place = Closed }
-IsShape Closed passed = ⊥

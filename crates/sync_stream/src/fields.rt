@@ -8,8 +8,9 @@ ghost use Rattle.serde_json.specs.Data.{Members, no_members, object, unsigned};
 ghost use Rattle.serde_json.specs.Read.{converted, number_from, number_of, of_json, of_members};
 ghost use Rattle.serde_json.specs.View.{view};
 ghost use Rattle.content.specs.Faults.{value_of};
-ghost use Rattle.sync_stream.specs.Fields.{IsPlainMember, data_of_token, said, said_in, sayings_of};
-ghost use Rattle.sync_stream.specs.Fields.{with_saying, told, told_of};
+ghost use Rattle.sync_stream.specs.inner.Fields.{IsPlainMember, data_of_token, said, said_in};
+ghost use Rattle.sync_stream.specs.inner.Fields.{sayings_of};
+ghost use Rattle.sync_stream.specs.inner.Fields.{with_saying, told, told_of};
 
 use fast_float::Numeral;
 use json::{Reader, Scratch, Token};

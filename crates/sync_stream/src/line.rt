@@ -3,7 +3,7 @@ use conflicts::Member;
 use u1_base::{DocId, Position};
 
 /// Which head a stream has.
-#[derive(Clone, Copy, Debug, PartialEq, Eq)]
+#[derive(Clone, Copy, PartialEq, Eq)]
 pub enum HeadKind {
     /// That of a request: up to where the source knows the target's log.
     Request,
@@ -30,7 +30,7 @@ pub enum Line {
 }
 
 /// Which line comes next.
-#[derive(Clone, Copy, Debug, PartialEq, Eq)]
+#[derive(Clone, Copy, PartialEq, Eq)]
 pub enum Next {
     /// The line `[`.
     Opening,

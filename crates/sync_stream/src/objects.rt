@@ -4,8 +4,9 @@ ghost use Rattle.u1_base.specs.Ids.{id_in};
 ghost use Rattle.u1_base.specs.declared.ids.Form.TheVariants.{Document, Transaction};
 ghost use Rattle.content.specs.Reading.{content_in};
 ghost use Rattle.vector_rev.specs.ClockText.{clock_in};
-ghost use Rattle.sync_stream.specs.Fields.{content_said, doc_said, generation_said, place_said};
-ghost use Rattle.sync_stream.specs.Fields.{text_said, told, told_of};
+ghost use Rattle.sync_stream.specs.inner.Fields.{content_said, doc_said, generation_said};
+ghost use Rattle.sync_stream.specs.inner.Fields.{place_said};
+ghost use Rattle.sync_stream.specs.inner.Fields.{text_said, told, told_of};
 ghost use Rattle.sync_stream.specs.Objects.{doc_in, head_in};
 
 use crate::fields::{Field, Fields, fields_of, plain_fields};
@@ -61,7 +62,7 @@ pub(crate) fn doc_in(
     doc_of(alloc, &mut scratch.content, fields_of(&value))
 }
 
-#[tactic(auto, unfolding(crate::specs::Fields::doc_said))]
+#[tactic(auto, unfolding(crate::specs::inner::Fields::doc_said))]
 fn doc_of(
     alloc: Global,
     scratch: &mut Scratch<Global>,
@@ -107,7 +108,7 @@ fn text_in<'a>(field: Field<'a>) -> Option<&'a str>
 }
 
 // The position of a document in the log of its sender.
-#[tactic(auto, unfolding(crate::specs::Fields::place_said))]
+#[tactic(auto, unfolding(crate::specs::inner::Fields::place_said))]
 fn place_of(
     alloc: Global,
     generation: Field<'_>,

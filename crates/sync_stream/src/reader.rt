@@ -1,9 +1,12 @@
 //! Reads a stream that comes in pieces.
-ghost use Rattle.std.specs.Prelude.{◌≡◌, ◌≢◌, ◌++◌, ◌⊎◌, ◌<◌, ◌≤◌, false, Err, None, Some, ℕ, List};
-ghost use Rattle.std.specs.Prelude.{[], IfErr, IfOk, IfSome, OnErr, OnOk, length};
-ghost use Rattle.sync_stream.specs.HeldText.{Answers, Finishes, HeldText, IsReadUp, PassesOne};
-ghost use Rattle.sync_stream.specs.HeldText.{StandsFor, fresh, line_in, lines_given, lines_passed};
-ghost use Rattle.sync_stream.specs.Says.{IsShape};
+ghost use Rattle.std.specs.Prelude.{◌≡◌, ◌≢◌, ◌++◌, ◌⊎◌, ◌<◌, ◌≤◌, false, true, Err, None, Some, ℕ};
+ghost use Rattle.std.specs.Prelude.{List};
+ghost use Rattle.std.specs.Prelude.{[], IfErr, IfOk, IfSome, IsSomeAnd, OnErr, OnOk, length};
+ghost use Rattle.sync_stream.specs.HeldText.{Answers, EndsAgain, Finishes, HeldText, IsReadUp};
+ghost use Rattle.sync_stream.specs.inner.HeldText.{PassesOne};
+ghost use Rattle.sync_stream.specs.HeldText.{StandsFor, fresh, line_in, lines_given};
+ghost use Rattle.sync_stream.specs.inner.HeldText.{lines_passed};
+ghost use Rattle.sync_stream.specs.inner.Says.{IsShape};
 ghost use Rattle.sync_stream.specs.Stream.{Ends, IsGood, answered, end_fault, fault_of, is_closed};
 ghost use Rattle.sync_stream.specs.Stream.{is_long_rest};
 ghost use Rattle.sync_stream.specs.declared.fault.LineFault.{LineFault as Fault};
@@ -72,12 +75,13 @@ impl Reader {
             → StandsFor self.old text given
             → StandsFor self.new (text ++ piece.now) given) }
         ensures err { IfErr result (λ e. (e ≡ NoMemory)
-            ⊎ IfSome self.old.fault (λ f. e ≡ answered f)) }
+            ⊎ IsSomeAnd self.old.fault (λ f. e ≡ answered f)) }
         ensures left { OnErr result (self.new ≡ self.old) }
         ensures again { IfSome self.old.fault
             (λ f. (result ≡ Err (answered f)) × (self.new ≡ self.old)) }
-        ensures same { OnOk result
-            ((self.new.kind ≡ self.old.kind) × (self.new.place ≡ self.old.place)) }
+        ensures no_fault { OnOk result (self.new.fault ≡ None) }
+        ensures pushed { OnOk result
+            (self.new ≡ record self.old { rest = self.old.rest ++ piece.now }) }
     {
         if let Some(fault) = self.fault {
             return Err(fault.into());
@@ -86,8 +90,8 @@ impl Reader {
         Ok(())
     }
 
-    /// The next line, if a whole one is there. After the end it gives the end again.
-    #[tactic(auto, using(crate::proofs::Stands::faulty_after, crate::proofs::Stands::answers_from))]
+    /// The next line, if a whole one is there. After the end it gives the end again, or the fault
+    /// of what follows it.
     pub fn next_line(&mut self, alloc: Global) -> Result<Option<Line>, StreamFault>
         ensures stands { (text : List ℕ) (given : List Said) → StandsFor self.old text given
             → StandsFor self.new text (given ++ lines_given self.old.place result) }
@@ -98,6 +102,8 @@ impl Reader {
         ensures takes { IfOk result (λ o. IfSome o (λ _. is_closed self.old.place ≡ false
             → length self.new.rest < length self.old.rest)) }
         ensures open_ { IfOk result (λ o. o ≢ Some End → is_closed self.new.place ≡ false) }
+        ensures ended { self.old.fault ≡ None → is_closed self.old.place ≡ true
+            → EndsAgain self.old self.new result }
     {
         if let Some(fault) = self.fault {
             return Err(fault.into());
@@ -105,6 +111,22 @@ impl Reader {
         if self.place == Next::Closed {
             return Ok(self.after_end()?);
         }
+        self.before_end(alloc)
+    }
+
+    // The next line of a reader that has given neither a fault nor the end.
+    #[tactic(auto, using(crate::proofs::Stands::faulty_after, crate::proofs::Stands::answers_from))]
+    fn before_end(&mut self, alloc: Global) -> Result<Option<Line>, StreamFault>
+        requires no_fault { self.old.fault ≡ None }
+        requires open_ { is_closed self.old.place ≡ false }
+        ensures stands { (text : List ℕ) (given : List Said) → StandsFor self.old text given
+            → StandsFor self.new text (given ++ line_in result) }
+        ensures answers { Answers self.old self.new result }
+        ensures kind { self.new.kind ≡ self.old.kind }
+        ensures takes { IfOk result (λ o. IfSome o
+            (λ _. length self.new.rest < length self.old.rest)) }
+        ensures open_ { IfOk result (λ o. o ≢ Some End → is_closed self.new.place ≡ false) }
+    {
         match self.pass(alloc)? {
             Err(fault) => Err(fault.into()),
             Ok(None) => Ok(None),

@@ -7,7 +7,6 @@ use crate::Log;
 use u1_base::{Position, TransId};
 
 /// How a position stands to a log.
-#[derive(Debug)]
 pub enum Check<'a> {
     /// It is the start, or the log has its transaction id at its generation.
     Fits,

@@ -2,14 +2,14 @@
 use u1_base::{DocId, Items, TransId};
 
 /// One accepted change: its document, and the id of its transaction.
-#[derive(Debug, PartialEq, Eq, Drop)]
+#[derive(PartialEq, Eq, Drop)]
 pub struct Entry {
     pub doc: DocId,
     pub trans: TransId,
 }
 
 /// A document with its last entry in a log.
-#[derive(Debug, PartialEq, Eq, Drop)]
+#[derive(PartialEq, Eq, Drop)]
 pub struct Change {
     pub doc: DocId,
     /// The place of the entry in the log, counted from 1.

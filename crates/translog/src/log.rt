@@ -12,7 +12,7 @@ use u1_base::limits::GREATEST_COUNT;
 use u1_base::{Memory, Position, TransId};
 
 /// A transaction log. The entry at place g, counted from 1, made the replica's generation g.
-#[derive(Debug, Drop)]
+#[derive(Drop)]
 pub struct Log {
     pub(crate) entries: Vec<Entry>,
 }

@@ -13,7 +13,7 @@ use std::fmt;
 use std::marker::{Model, PhantomData};
 
 /// What an id is for. It decides how long the id may be and which bytes it may have.
-#[derive(Clone, Copy, Debug, PartialEq, Eq)]
+#[derive(Clone, Copy, PartialEq, Eq)]
 pub enum Form {
     /// 1 to 128 ASCII letters, digits, `.`, `_`, `-`, `%`.
     Document,

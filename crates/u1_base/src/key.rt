@@ -8,12 +8,12 @@ use std::slice;
 
 /// One to `limits::MOST_KEY_TEXTS` texts, seen as their list. The text of a key of one takes no
 /// memory beside its own.
-#[derive(Debug, Drop)]
+#[derive(Drop)]
 pub struct Key {
     texts: KeyTexts,
 }
 
-#[derive(Debug, Drop)]
+#[derive(Drop)]
 enum KeyTexts {
     One(Text),
     Several(Texts),

@@ -7,7 +7,7 @@ use std::alloc::Global;
 use uuid::Uuid;
 
 /// What a made id is for.
-#[derive(Clone, Copy, Debug, PartialEq, Eq)]
+#[derive(Clone, Copy, PartialEq, Eq)]
 pub enum IdKind {
     /// A document. Its number is the generation plus 1.
     Doc,

@@ -1,5 +1,6 @@
 //! What a command needs before it is run.
 use cli_words::{Command, WordsFault, read_words};
+use replica_cli::needs_seed;
 use std::alloc::Global;
 use u1_base::{Memory, Text};
 
@@ -25,22 +26,20 @@ pub fn needs_of(alloc: Global, words: &[Text]) -> Result<Needs, Memory> {
 
 // Here alone a command is let go.
 fn needs_in(command: Command) -> Needs {
-    match &command {
-        Command::Init { uid, .. } => Needs {
-            seed: uid.is_none(),
-            folder: true,
-        },
-        Command::Create { .. }
-        | Command::Put { .. }
-        | Command::Delete { .. }
-        | Command::Resolve { .. }
-        | Command::ResolveDeleted { .. } => Needs {
-            seed: true,
-            folder: false,
-        },
-        _ => Needs {
-            seed: false,
-            folder: false,
-        },
+    Needs {
+        seed: needs_seed(&command),
+        folder: makes_store(&command),
+    }
+}
+
+fn makes_store(command: &Command) -> bool {
+    match command {
+        Command::Init { .. } => true,
+        Command::Show(_)
+        | Command::Edit(_)
+        | Command::Compact
+        | Command::Online(_)
+        | Command::Work { .. }
+        | Command::View(_) => false,
     }
 }

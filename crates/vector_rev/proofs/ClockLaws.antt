@@ -23,7 +23,7 @@ use Rattle.vector_rev.specs.declared.compare.Order.TheVariants as answer
 use Rattle.std.specs.Bool.{Decides}
 use Rattle.std.proofs.lemmas.Bool.{and_parts, and_from, eqb-true, eq-eqb}
 use Rattle.vector_rev.specs.Made.{IsJoin, IsNext, IsFirst, IsFull, occurring}
-use Rattle.vector_rev.specs.Standing.{HasRoom}
+use Rattle.vector_rev.specs.inner.Standing.{HasRoom}
 use Rattle.u1_base.proofs.SameIds.{same_id_is, same_id-itself}
 
 abbrev all_at_most : Entries → (Uid → ℕ) → Bool

@@ -10,7 +10,7 @@ use Rattle.u1_base.specs.Ids.{id_cmp}
 use Rattle.u1_base.proofs.SameIds.{id_tied}
 use Rattle.vector_rev.specs.Counts.{Uid, Entries, count_in}
 use Rattle.vector_rev.specs.Clock.{Clock, count_of}
-use Rattle.vector_rev.specs.Standing.{FitsAt}
+use Rattle.vector_rev.specs.inner.Standing.{FitsAt}
 use Rattle.vector_rev.proofs.Truths.{first}
 use Rattle.vector_rev.proofs.Putting.{greater, next_above, count_stands, put_fits}
 

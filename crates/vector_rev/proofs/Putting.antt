@@ -13,7 +13,7 @@ use Rattle.vector_rev.specs.Counts.{Uid, Entries, count_in, join, raised}
 use Rattle.vector_rev.proofs.Truths.{first, second}
 use Rattle.u1_base.proofs.SameIds.{id_tied, same_id-itself}
 use Rattle.vector_rev.specs.Clock.{Clock, count_of, is_clock}
-use Rattle.vector_rev.specs.Standing.{HasRoom, IsAbove, StandsAt, FitsAt}
+use Rattle.vector_rev.specs.inner.Standing.{HasRoom, IsAbove, StandsAt, FitsAt}
 use Rattle.vector_rev.proofs.CountsLaws.{less_is, count_below, count-join}
 use Rattle.vector_rev.proofs.ClockLaws.{is_clock-raised}
 use Rattle.vector_rev.proofs.Walks.{below_trans, from_place, is_entry-IsId}

@@ -23,7 +23,7 @@ use Rattle.vector_rev.proofs.Truths.{both, first, second, T_true, true_T}
 use Rattle.vector_rev.specs.Clock.{Clock, is_entry, is_limited}
 use Rattle.vector_rev.specs.ClockText.{IsFirstUnsorted, IsTextFault, TakesEntries, is_numeral}
 use Rattle.vector_rev.specs.ClockText.{is_counter, is_entry_text, entry_of, entries_text, parts_of}
-use Rattle.vector_rev.specs.Parts.{EntryIs, OrdersEntries, ReadsEntries}
+use Rattle.vector_rev.specs.inner.Parts.{EntryIs, OrdersEntries, ReadsEntries}
 use Rattle.vector_rev.specs.declared.read.ClockFault.{ClockFault}
 use Rattle.vector_rev.specs.declared.read.ClockFault.TheVariants as fault
 use Rattle.vector_rev.proofs.CountsLaws.{less_is}

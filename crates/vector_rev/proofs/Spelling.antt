@@ -23,7 +23,7 @@ use Rattle.vector_rev.proofs.Truths.{both, true_T}
 use Rattle.vector_rev.specs.Clock.{is_entry, is_limited}
 use Rattle.vector_rev.specs.ClockText.{entry_text, entries_text, parts_of, is_numeral, is_counter, is_entry_text}
 use Rattle.vector_rev.specs.ClockText.{entry_of}
-use Rattle.vector_rev.specs.Parts.{separated}
+use Rattle.vector_rev.specs.inner.Parts.{separated}
 use Rattle.vector_rev.proofs.Reading.{own_numerals, some_digits}
 
 -- a byte of the alphabet is no byte outside it

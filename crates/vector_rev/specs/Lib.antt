@@ -4,6 +4,5 @@ pub mod Stored
 pub mod Compare
 pub mod ClockText
 pub mod Made
-pub mod Standing
-pub mod Parts
 pub mod Laws
+pub mod inner

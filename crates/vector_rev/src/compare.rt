@@ -7,7 +7,7 @@ use crate::{Clock, ClockEntry};
 use std::cmp::Ordering;
 
 /// How a clock stands to another one.
-#[derive(Clone, Copy, Debug, PartialEq, Eq)]
+#[derive(Clone, Copy, PartialEq, Eq)]
 pub enum Order {
     Equal,
     /// The clock is newer than the other one: it is another one, and no counter of that one is

@@ -2,7 +2,7 @@
 ghost use Rattle.std.specs.Prelude.{◌≡◌, IfOk, MatchOption};
 ghost use Rattle.vector_rev.specs.Counts.{join, raised};
 ghost use Rattle.vector_rev.specs.Made.{IsFull, Joins, Raises};
-ghost use Rattle.vector_rev.specs.Standing.{HasRoom};
+ghost use Rattle.vector_rev.specs.inner.Standing.{HasRoom};
 
 use crate::Clock;
 use crate::places::{put_each, put_greater};

@@ -3,7 +3,7 @@ ghost use Rattle.std.specs.Prelude.{◌≡◌, ◌<◌, ◌≤◌, IfOk, MatchRe
 ghost use Rattle.std.specs.FinMap.Entries.{is_sorted, put};
 ghost use Rattle.u1_base.specs.Ids.{id_cmp};
 ghost use Rattle.vector_rev.specs.Counts.{count_in, join};
-ghost use Rattle.vector_rev.specs.Standing.{FitsAt, IsAbove, StandsAt};
+ghost use Rattle.vector_rev.specs.inner.Standing.{FitsAt, IsAbove, StandsAt};
 
 use crate::ClockEntry;
 use std::cmp::Ordering;

@@ -10,7 +10,8 @@ ghost use Rattle.vector_rev.specs.ClockText.{parts_of};
 ghost use Rattle.std.specs.FinMap.Entries.{is_sorted};
 ghost use Rattle.std.specs.List.{list_all};
 ghost use Rattle.u1_base.specs.Ids.{id_cmp};
-ghost use Rattle.vector_rev.specs.Parts.{EntryIs, OrdersEntries, ReadsEntries, UidIs, separated};
+ghost use Rattle.vector_rev.specs.inner.Parts.{EntryIs, OrdersEntries, ReadsEntries, UidIs};
+ghost use Rattle.vector_rev.specs.inner.Parts.{separated};
 
 use crate::{Clock, ClockEntries, ClockEntry};
 use itoa::Buffer;

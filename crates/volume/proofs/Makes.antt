@@ -15,7 +15,7 @@ use Rattle.journal.specs.Image.{Head, ReadsAs}
 use Rattle.volume.specs.Store.{Names, found_of}
 use Rattle.volume.specs.Store.FoundImages.{Blank}
 use Rattle.volume.specs.Crashes.{MayFind, IsBlankOrEmpty, IsEmptyStore, OnlyLooks}
-use Rattle.volume.specs.Steps.{IsBlank, IsWhole, IsMade}
+use Rattle.volume.specs.inner.Steps.{IsBlank, IsWhole, IsMade}
 use Rattle.volume.proofs.Finding.{found_blank}
 use Rattle.volume.proofs.Standing.{settled_file, of_one}
 use Rattle.volume.proofs.Roots.{torn_empty, either_found}

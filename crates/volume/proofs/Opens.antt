@@ -18,9 +18,10 @@ use Rattle.journal.specs.Journal.{Extent, Holds}
 use Rattle.volume.specs.Store.{chosen, Names, IsStore}
 use Rattle.volume.specs.Store.FoundImages.{Damaged}
 use Rattle.volume.specs.Crashes.{OnlyLooks}
-use Rattle.volume.specs.Opening.{OpensStore, RootNames}
-use Rattle.volume.specs.declared.opening.StoreFault.{StoreFault}
-use Rattle.volume.specs.declared.opening.StoreFault.TheVariants as fault
+use Rattle.volume.specs.Opening.{OpensStore}
+use Rattle.volume.specs.inner.Opening.{RootNames}
+use Rattle.disks.specs.declared.fault.OpenFault.{OpenFault}
+use Rattle.disks.specs.declared.fault.OpenFault.TheVariants as fault
 use Rattle.volume.proofs.Finding.{found_blank, found_long}
 use Rattle.volume.proofs.Standing.{still_names, not_root}
 use Rattle.volume.proofs.Roots.{never_root}
@@ -122,13 +123,13 @@ pub some_one : (byte : ℕ) (side : DiskName) → chosen byte ≡ side → (root
 some_one byte side names = (byte ∷ [], (byte, refl, names))
 
 -- what a root names is an image
-pub names_image : (root : List ℕ) (result : Result DiskName StoreFault) → RootNames root result
+pub names_image : (root : List ℕ) (result : Result DiskName OpenFault) → RootNames root result
     → IfOk result (λ side. side ≢ Root)
 names_image root (Ok side) n = never_root n.0 side n.2
 names_image root (Err why) n = tt
 
 -- a root that lies on its disk names it
-pub root_names : (root : File) (result : Result DiskName StoreFault) → RootNames root.seen result → IsSettled root
+pub root_names : (root : File) (result : Result DiskName OpenFault) → RootNames root.seen result → IsSettled root
     → IfOk result (λ side. Names side root)
 root_names root (Ok side) n settled = record { byte = n.0; lowest = n.2; seen = n.1; durable = settled }
 root_names root (Err why) n settled = tt
@@ -161,7 +162,7 @@ read_files tells told root stored side byte P root_is stored_is one names then =
     (then (read_of root stored) one (pick_read side root stored (never_root byte side names)))
 
 -- a root that names no image
-root_fault : (root : List ℕ) (files : Trio (List ℕ)) (why : StoreFault) → files.root ≡ root → RootNames root (Err why)
+root_fault : (root : List ℕ) (files : Trio (List ℕ)) (why : OpenFault) → files.root ≡ root → RootNames root (Err why)
     → OpensStore files (Err why)
 root_fault root files fault.Blank e n = found_blank files (e ∙ n)
 root_fault root files (fault.Damaged disk place) e n =
@@ -170,7 +171,7 @@ root_fault root files (fault.Damaged disk place) e n =
 root_fault root files fault.Disk e n = tt
 root_fault root files fault.Memory e n = tt
 
-pub read_root : (tells : Bool) (told : Trio (List ℕ)) (root : List ℕ) (why : StoreFault)
+pub read_root : (tells : Bool) (told : Trio (List ℕ)) (root : List ℕ) (why : OpenFault)
     → (IsTrue tells → root ≡ told.root) → RootNames root (Err why)
     → (files : Trio (List ℕ)) × (IsTrue tells → files ≡ told) × OpensStore files (Err why)
 read_root tells told root why is n =

@@ -13,7 +13,7 @@ use Rattle.disks.proofs.Trios.{pick_each}
 use Rattle.journal.specs.Image.{Head, ReadsAs}
 use Rattle.journal.specs.Journal.{Extent, Holds}
 use Rattle.volume.specs.Store.{Names, IsStore}
-use Rattle.volume.specs.Steps.{IsWhole}
+use Rattle.volume.specs.inner.Steps.{IsWhole}
 use Rattle.volume.specs.Laws.{StoreStands}
 use Rattle.volume.proofs.Finding.{found_standing}
 

@@ -9,6 +9,7 @@ use Rattle.disks.specs.Joint.{JointMoment, AreCrashImages, Devices, seen_of, now
 use Rattle.disks.specs.Moments.{LeavesTogether}
 use Rattle.journal.specs.Image.{Head}
 use Rattle.journal.specs.Journal.{Extent}
+use Rattle.journal.specs.Entries.{AreSpelled}
 use Rattle.journal.specs.Spelled.{Spelled, Spells}
 use Rattle.journal.specs.declared.layout.TheConstants.{SECOND_FORMAT}
 use Rattle.volume.specs.Store.{FoundImages, found_of, IsStore}
@@ -51,6 +52,21 @@ LeavesOldOrOneMore body side journal old new =
     (format : ℕ) (head : Head) (bodies : List (List ℕ)) → IsStore journal side format head bodies old.files
     → LeavesTogether old new (λ files. (found_of files ≡ Stands side format head bodies)
     ⊎ (found_of files ≡ Stands side format head (bodies ++ body ∷ [])))
+
+-- every store that stood with the journal before stands with the one after it, with all bodies more that are spelled
+abbrev pub StandsAllMore : List ℕ → DiskName → Extent → Extent → Trio File → Trio File → Type 0
+StandsAllMore spelled side old new before after =
+    (more : List (List ℕ)) → AreSpelled more spelled
+    → (format : ℕ) (head : Head) (bodies : List (List ℕ)) → IsStore old side format head bodies before
+    → IsStore new side format head (bodies ++ more) after
+
+-- a crash on the way leaves the store that stood, or that with all bodies more that are spelled
+abbrev pub LeavesOldOrAllMore : List ℕ → DiskName → Extent → Devices → Devices → Type 0
+LeavesOldOrAllMore spelled side journal old new =
+    (more : List (List ℕ)) → AreSpelled more spelled
+    → (format : ℕ) (head : Head) (bodies : List (List ℕ)) → IsStore journal side format head bodies old.files
+    → LeavesTogether old new (λ files. (found_of files ≡ Stands side format head bodies)
+    ⊎ (found_of files ≡ Stands side format head (bodies ++ more)))
 
 -- a crash on the way leaves the store that stood on the other side, or that of the image that is spelled, on this side
 abbrev pub LeavesOldOrNew : DiskName → Spelled → Devices → Devices → Type 0

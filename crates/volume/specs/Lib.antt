@@ -2,6 +2,5 @@ pub mod Store
 pub mod Crashes
 pub mod Opening
 pub mod Making
-pub mod Steps
-pub mod Faults
 pub mod Laws
+pub mod inner

@@ -1,17 +1,15 @@
 -- What opening says of the files that it read.
-use Rattle.std.specs.Prelude.{◌≡◌, ℕ, List, [], ◌∷◌, Result, Ok, Err}
-use Rattle.disks.specs.declared.name.DiskName.{DiskName}
-use Rattle.disks.specs.declared.name.DiskName.TheVariants.{Root}
+use Rattle.std.specs.Prelude.{◌≡◌, ℕ, List, Result, Ok, Err}
 use Rattle.disks.specs.declared.trio.Trio.{Trio}
 use Rattle.journal.specs.Journal.{IsExtent}
-use Rattle.volume.specs.Store.{chosen, found_of}
+use Rattle.volume.specs.Store.{found_of}
 use Rattle.volume.specs.Store.FoundImages.{Blank, Damaged, Stands}
 use Rattle.volume.specs.declared.opening.OpenedImages.{OpenedImages}
-use Rattle.volume.specs.declared.opening.StoreFault.{StoreFault}
-use Rattle.volume.specs.declared.opening.StoreFault.TheVariants as fault
+use Rattle.disks.specs.declared.fault.OpenFault.{OpenFault}
+use Rattle.disks.specs.declared.fault.OpenFault.TheVariants as fault
 
 -- what was opened, or the fault that was named, is what is found of the files; the other faults say nothing of them
-abbrev pub OpensStore : Trio (List ℕ) → Result OpenedImages StoreFault → Type 0
+abbrev pub OpensStore : Trio (List ℕ) → Result OpenedImages OpenFault → Type 0
 OpensStore files (Ok opened) =
     (found_of files ≡ Stands opened.side opened.image.format opened.image.header opened.image.bodies)
     × IsExtent opened.image.format opened.image.header opened.image.bodies opened.image.journal
@@ -19,12 +17,3 @@ OpensStore files (Err fault.Blank) = found_of files ≡ Blank
 OpensStore files (Err (fault.Damaged disk place)) = found_of files ≡ Damaged disk place
 OpensStore files (Err fault.Disk) = Unit {0}
 OpensStore files (Err fault.Memory) = Unit {0}
-
--- the root names this side, or is empty, or has a second byte
-abbrev pub RootNames : List ℕ → Result DiskName StoreFault → Type 0
-RootNames root (Ok side) = (byte : ℕ) × (root ≡ byte ∷ []) × (chosen byte ≡ side)
-RootNames root (Err fault.Blank) = root ≡ []
-RootNames root (Err (fault.Damaged disk place)) =
-    (disk ≡ Root) × (place ≡ 1) × ((byte : ℕ) × (second : ℕ) × (rest : List ℕ) × (root ≡ byte ∷ second ∷ rest))
-RootNames root (Err fault.Disk) = Unit {0}
-RootNames root (Err fault.Memory) = ⊥

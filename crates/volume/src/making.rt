@@ -9,64 +9,13 @@ ghost use Rattle.journal.specs.declared.layout.TheConstants.{SECOND_FORMAT};
 ghost use Rattle.volume.specs.Store.{IsStore, found_of};
 ghost use Rattle.volume.specs.Crashes.{IsBlankOrEmpty, LeavesOldOrEmpty, OnlyLooks};
 ghost use Rattle.volume.specs.Making.{Inits};
-ghost use Rattle.volume.specs.Steps.{IsBlank, IsMade, LeavesBlankOrEmpty};
+ghost use Rattle.volume.specs.inner.Steps.{IsBlank, IsMade, LeavesBlankOrEmpty};
 
 use crate::one_disk::{name_image, write_on};
 use disk_model::{Disk, DiskFailed};
-use disks::{DiskName, Disks, front_synced_on};
+use disks::{DiskName, Disks, MakeFault, front_synced_on};
 use journal::{Header, Journal, NewImage};
 use std::alloc::Global;
-use std::error::Error;
-use std::fmt;
-use u1_base::Memory;
-
-/// Why no store was made.
-#[derive(Clone, Copy, Debug, PartialEq, Eq)]
-pub enum InitFault {
-    /// The root is not empty.
-    Exists,
-    Disk,
-    Memory,
-}
-
-impl From<Memory> for InitFault {
-    ghost use Rattle.std.specs.Prelude.{◌≡◌};
-    ghost use Rattle.volume.specs.declared.making.InitFault.TheVariants as fault;
-
-    ghost from_gives = { λ _ e. e ≡ fault.Memory };
-
-    fn from(_memory: Memory) -> InitFault {
-        InitFault::Memory
-    }
-}
-
-impl From<DiskFailed> for InitFault {
-    ghost use Rattle.std.specs.Prelude.{◌≡◌};
-    ghost use Rattle.volume.specs.declared.making.InitFault.TheVariants as fault;
-
-    ghost from_gives = { λ _ e. e ≡ fault.Disk };
-
-    fn from(_failed: DiskFailed) -> InitFault {
-        InitFault::Disk
-    }
-}
-
-impl fmt::Display for InitFault {
-    ghost use Rattle.std.specs.Prelude.{Some};
-    ghost use Rattle.volume.specs.Faults.{init_fault_text};
-
-    ghost output = { λ fault. Some (init_fault_text fault) };
-
-    fn fmt<W: fmt::Write>(&self, f: &mut fmt::Formatter<W>) -> fmt::Result {
-        match self {
-            InitFault::Exists => f.write_str("there is a database already"),
-            InitFault::Disk => f.write_str("the disk failed"),
-            InitFault::Memory => f.write_str("out of memory"),
-        }
-    }
-}
-
-impl Error for InitFault {}
 
 /// Makes the empty store of this header, over an empty root.
 ///
@@ -78,7 +27,7 @@ pub fn init_images<D: Disk>(
     alloc: Global,
     disks: &mut Disks<D>,
     header: &Header,
-) -> Result<Journal, InitFault>
+) -> Result<Journal, MakeFault>
     ensures reads { (root : List ℕ)
         × (IsTrue D.tells → root ≡ (disks_known D.known disks.old).files.root.seen)
         × Inits root result }
@@ -92,15 +41,15 @@ pub fn init_images<D: Disk>(
         → IsBlankOrEmpty header.now (found_of (seen_of (disks_known D.known disks.new).files)) }
     ensures any_moment { IsTrue D.tells → LeavesOldOrEmpty header.now
         (disks_known D.known disks.old) (disks_known D.known disks.new) }
-    ensures untouched { IsErrOf result InitFault.Memory → disks.new ≡ disks.old }
+    ensures untouched { IsErrOf result MakeFault.Memory → disks.new ≡ disks.old }
     ensures most_calls { (disks_known D.known disks.new).made
         ≤ called 11 (disks_known D.known disks.old).made }
-    ensures cause { HasCauseOf InitFault.Disk
+    ensures cause { HasCauseOf MakeFault.Disk
         (disks_known D.known disks.old).faults (disks_known D.known disks.new).faults result }
 {
     let image = NewImage::of(alloc, header, &[])?;
     match front_synced_on(disks, DiskName::Root)? {
-        Some(_) => Err(InitFault::Exists),
+        Some(_) => Err(MakeFault::Exists),
         None => {
             make_store(disks, &image)?;
             Ok(image.journal())

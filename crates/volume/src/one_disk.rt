@@ -13,7 +13,7 @@ ghost use Rattle.journal.specs.Passing.{ReadsImage};
 ghost use Rattle.journal.specs.Spelled.{HoldsSpelled, extent_of};
 ghost use Rattle.volume.specs.Store.{Names};
 ghost use Rattle.volume.specs.Crashes.{OnlyLooks};
-ghost use Rattle.volume.specs.Steps.{IsWhole};
+ghost use Rattle.volume.specs.inner.Steps.{IsWhole};
 
 use crate::root::naming;
 use disk_model::{Disk, DiskFailed};

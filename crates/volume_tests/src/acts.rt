@@ -7,11 +7,11 @@ use conflicts::{Member, Outcome4};
 use content::Content;
 use crash_harness::{Files, NO_FAILING, disks_of};
 use disk_model::{Disk, MemDisk};
-use disks::{DiskName, Disks};
+use disks::{CompactFault, DiskName, Disks, MakeFault, OpenFault, Sizes};
 use journal::Header;
 use replica_core::{PutFault, Replica, TakeFault, put_doc, put_if_newer};
 use replica_state::{Move, PosTable, State};
-use replica_volume::{CompactFault, InitFault, Sizes, Volume, VolumeFault};
+use replica_volume::Volume;
 use std::alloc::Global;
 use u1_base::limits::{GREATEST_IMAGE_LIMIT, LEAST_IMAGE_LIMIT};
 use u1_base::{Bytes, DbName, DocId, IdFault, Memory, Position, ReplicaUid, TransId};
@@ -64,12 +64,12 @@ fn has(state: &State) -> Answer {
 }
 
 /// The answer of an opening that failed.
-pub(crate) fn no_volume(fault: VolumeFault) -> Answer {
+pub(crate) fn no_volume(fault: OpenFault) -> Answer {
     match fault {
-        VolumeFault::Blank => Answer::Blank,
-        VolumeFault::Damaged { disk, place } => Answer::Damaged(disk, place),
-        VolumeFault::Disk => Answer::Disk,
-        VolumeFault::Memory => Answer::Memory,
+        OpenFault::Blank => Answer::Blank,
+        OpenFault::Damaged { disk, place } => Answer::Damaged(disk, place),
+        OpenFault::Disk => Answer::Disk,
+        OpenFault::Memory => Answer::Memory,
     }
 }
 
@@ -272,11 +272,11 @@ fn header(alloc: Global, limit: u64) -> Result<Header, IdFault> {
     Ok(Header { name, uid, limit })
 }
 
-fn no_store(fault: InitFault) -> Answer {
+fn no_store(fault: MakeFault) -> Answer {
     match fault {
-        InitFault::Exists => Answer::Exists,
-        InitFault::Disk => Answer::Disk,
-        InitFault::Memory => Answer::Memory,
+        MakeFault::Exists => Answer::Exists,
+        MakeFault::Disk => Answer::Disk,
+        MakeFault::Memory => Answer::Memory,
     }
 }
 

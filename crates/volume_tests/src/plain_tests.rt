@@ -5,8 +5,7 @@
 use crate::plain_state_tests::{Accepted, Counter, Logged, Named, Place, PlainState};
 use conflicts::PosTable;
 use crash_harness::{Files, are};
-use disks::DiskName;
-use replica_volume::VolumeFault;
+use disks::{DiskName, OpenFault};
 use std::alloc::Global;
 
 // The greatest generation, and the greatest counter of a clock.
@@ -430,22 +429,22 @@ fn read(alloc: Global, image: &[u8]) -> Result<PlainState<'_>, usize> {
 }
 
 /// What the plain reading finds of these files.
-pub(crate) fn plain<'a>(alloc: Global, files: &Files<'a>) -> Result<PlainState<'a>, VolumeFault> {
+pub(crate) fn plain<'a>(alloc: Global, files: &Files<'a>) -> Result<PlainState<'a>, OpenFault> {
     match files.0 {
-        [] => Err(VolumeFault::Blank),
+        [] => Err(OpenFault::Blank),
         [byte] if byte % 2 == 0 => plain_image(alloc, DiskName::Left, files.1),
         [_] => plain_image(alloc, DiskName::Right, files.2),
-        _ => Err(VolumeFault::Damaged {
+        _ => Err(OpenFault::Damaged {
             disk: DiskName::Root,
             place: 1,
         }),
     }
 }
 
-fn plain_image(alloc: Global, disk: DiskName, image: &[u8]) -> Result<PlainState<'_>, VolumeFault> {
+fn plain_image(alloc: Global, disk: DiskName, image: &[u8]) -> Result<PlainState<'_>, OpenFault> {
     match read(alloc, image) {
         Ok(state) => Ok(state),
-        Err(place) => Err(VolumeFault::Damaged {
+        Err(place) => Err(OpenFault::Damaged {
             disk,
             place: place as u64,
         }),

@@ -9,7 +9,7 @@ use Rattle.vector_rev.specs.Counts.{Uid}
 use Rattle.conflicts.specs.State.{Step, Text}
 use Rattle.conflicts.specs.declared.member.Member.{Member}
 use Rattle.replica_reads.specs.declared.fault.QueryFault.{QueryFault}
-use Rattle.replica_core.specs.Calls.{Decided, Answers, Refuses}
+use Rattle.conflicts.specs.Writing.{Answers, Decided, Refuses}
 use Rattle.replica_core.specs.declared.calls.documents.PutFault.{PutFault}
 use Rattle.replica_core.specs.declared.calls.indexes.IndexFault.{IndexFault}
 use Rattle.replica_core.specs.declared.calls.resolutions.ResolveDocFault.{ResolveDocFault}

@@ -4,8 +4,8 @@ ghost use Rattle.conflicts.specs.Document.{FitsDocument};
 ghost use Rattle.replica_state.specs.Held.{meaning};
 ghost use Rattle.replica_state.specs.Steps.{step_of};
 ghost use Rattle.replica_core.specs.Replica.{state_in};
-ghost use Rattle.replica_core.specs.Calls.{Answers, IsDone};
-ghost use Rattle.replica_core.specs.CallsDecide.{accept_next};
+ghost use Rattle.conflicts.specs.Writing.{Answers, accept_next};
+ghost use Rattle.replica_core.specs.Calls.{IsDone};
 ghost use Rattle.replica_core.specs.CallsFaults.{commit_failure};
 
 use crate::calls::committing::commit_for;

@@ -4,8 +4,10 @@ ghost use Rattle.std.specs.Option.{option_map};
 ghost use Rattle.conflicts.specs.State.{Fits};
 ghost use Rattle.replica_state.specs.Steps.{step_of};
 ghost use Rattle.replica_core.specs.Replica.{state_in};
-ghost use Rattle.replica_core.specs.Calls.{Answers, IsDone};
+ghost use Rattle.conflicts.specs.Writing.{Answers};
+ghost use Rattle.replica_core.specs.Calls.{IsDone};
 ghost use Rattle.replica_core.specs.CallsFaults.{commit_failure};
+ghost use Rattle.replica_core.specs.Staging.{Stages};
 
 use crate::{CommitFault, Replica};
 use replica_state::Step;
@@ -24,6 +26,26 @@ pub(crate) fn commit_for<R: Replica, A: Drop>(
     match step {
         Some(step) => {
             replica.commit(step)?;
+            Ok(answer)
+        }
+        None => Ok(answer),
+    }
+}
+
+/// Stages the step, if there is one, and then gives the answer.
+pub(crate) fn stage_for<R: Replica, A: Drop>(
+    replica: &mut R,
+    step: Option<Step>,
+    answer: A,
+) -> Result<A, CommitFault>
+    requires ready { (kept : _) × R.stages replica.old kept }
+    requires fits { IfSome step (λ x. Fits (state_in (R.known replica.old)) (step_of x)) }
+    ensures { Stages R.known R.stages R.crash commit_failure
+        (Answers answer (option_map step_of step)) replica.old replica.new result }
+{
+    match step {
+        Some(step) => {
+            replica.stage(step)?;
             Ok(answer)
         }
         None => Ok(answer),

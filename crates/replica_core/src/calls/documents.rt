@@ -41,11 +41,6 @@ pub enum PutFault {
 }
 
 impl fmt::Display for PutFault {
-    ghost use Rattle.std.specs.Prelude.{Some};
-    ghost use Rattle.replica_core.specs.CallsFaults.{put_fault_text};
-
-    ghost output = { λ fault. Some (put_fault_text fault) };
-
     fn fmt<W: fmt::Write>(&self, f: &mut fmt::Formatter<W>) -> fmt::Result {
         match self {
             PutFault::NoDocument => f.write_str("there is no such document"),

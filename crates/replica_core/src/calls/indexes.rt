@@ -6,8 +6,9 @@ ghost use Rattle.conflicts.specs.State.{IndexCreated, IndexDeleted};
 ghost use Rattle.expr_parser.specs.FormOf.{form_of};
 ghost use Rattle.replica_state.specs.Held.{meaning};
 ghost use Rattle.replica_core.specs.Replica.{state_in};
-ghost use Rattle.replica_core.specs.Calls.{Answers, IsDone};
-ghost use Rattle.replica_core.specs.CallsDecide.{create_decides, delete_index_decides, same_exprs};
+ghost use Rattle.conflicts.specs.Writing.{Answers, same_exprs};
+ghost use Rattle.replica_core.specs.Calls.{IsDone};
+ghost use Rattle.replica_core.specs.CallsDecide.{create_decides, delete_index_decides};
 ghost use Rattle.replica_core.specs.CallsFaults.{commit_failure, index_failure};
 
 use crate::calls::committing::commit_for;
@@ -33,11 +34,6 @@ pub enum IndexFault {
 }
 
 impl fmt::Display for IndexFault {
-    ghost use Rattle.std.specs.Prelude.{Some};
-    ghost use Rattle.replica_core.specs.CallsFaults.{index_fault_text};
-
-    ghost output = { λ fault. Some (index_fault_text fault) };
-
     fn fmt<W: fmt::Write>(&self, f: &mut fmt::Formatter<W>) -> fmt::Result {
         match self {
             IndexFault::IndexTaken => f.write_str("an index of this name has other expressions"),

@@ -4,7 +4,7 @@ ghost use Rattle.std.specs.Option.{option_map};
 ghost use Rattle.u1_base.specs.Places.{nowhere, same_place};
 ghost use Rattle.replica_state.specs.Held.{meaning};
 ghost use Rattle.replica_state.specs.Steps.{step_of};
-ghost use Rattle.replica_core.specs.CallsDecide.{kept_place, move_step};
+ghost use Rattle.conflicts.specs.Writing.{kept_place, move_step};
 ghost use Rattle.replica_core.specs.CallsChecks.{Checks, ChecksFrom};
 
 use crate::calls::receipts::TakeFault;

@@ -1,20 +1,21 @@
 //! Revisions that a peer hands over, and positions that it tells.
-ghost use Rattle.std.specs.Prelude.{◌≡◌, IfOk, IfSome, true};
+ghost use Rattle.std.specs.Prelude.{◌≡◌, IfErr, IfOk, IfSome};
 ghost use Rattle.std.specs.Option.{option_map};
-ghost use Rattle.translog.specs.Source.{passes};
 ghost use Rattle.conflicts.specs.Decision.{decides};
 ghost use Rattle.conflicts.specs.Document.{FitsDocument};
+ghost use Rattle.conflicts.specs.State.{Fits};
+ghost use Rattle.conflicts.specs.Writing.{Answers, take_step};
 ghost use Rattle.replica_state.specs.Held.{meaning};
 ghost use Rattle.replica_state.specs.Steps.{step_of};
 ghost use Rattle.replica_core.specs.Replica.{state_in};
-ghost use Rattle.replica_core.specs.Calls.{Answers, IsDone};
-ghost use Rattle.replica_core.specs.CallsChecks.{Checks};
-ghost use Rattle.replica_core.specs.CallsDecide.{kept_place, move_decides, move_step, take_answers};
-ghost use Rattle.replica_core.specs.CallsDecide.{take_decides, take_step};
-ghost use Rattle.replica_core.specs.CallsFaults.{commit_failure, take_failure};
+ghost use Rattle.replica_core.specs.Calls.{IsDone};
+ghost use Rattle.replica_core.specs.CallsChecks.{Checks, IsUndone};
+ghost use Rattle.replica_core.specs.CallsDecide.{move_decides, take_decides};
+ghost use Rattle.replica_core.specs.CallsFaults.{take_failure};
+ghost use Rattle.replica_core.specs.Staging.{Stages};
 
 use crate::calls::accepting::next_entry;
-use crate::calls::committing::commit_for;
+use crate::calls::committing::{commit_for, stage_for};
 use crate::calls::positions::{check_move, step_of_move};
 use crate::{CommitFault, Replica};
 use conflicts::{Accept, Member, Move, Taken, law_makings, law_members, receive};
@@ -47,11 +48,6 @@ pub enum TakeFault {
 }
 
 impl fmt::Display for TakeFault {
-    ghost use Rattle.std.specs.Prelude.{Some};
-    ghost use Rattle.replica_core.specs.CallsFaults.{take_fault_text};
-
-    ghost output = { λ fault. Some (take_fault_text fault) };
-
     fn fmt<W: fmt::Write>(&self, f: &mut fmt::Formatter<W>) -> fmt::Result {
         match self {
             TakeFault::LogCheck { mine: _, theirs: _ } => f.write_str(
@@ -131,8 +127,27 @@ pub fn put_if_newer<R: Replica>(
         (take_decides seed id.now incoming.now save moved.now (state_in (R.known replica.old)))
         replica.old replica.new result }
 {
-    let taken = checked_receipt(alloc, replica.state(), id, incoming, save, moved)?;
-    Ok(take(alloc, replica, seed, id, taken, moved)?)
+    let (taken, step) = decide_receipt(alloc, replica.state(), seed, id, incoming, save, moved)?;
+    Ok(commit_for(replica, step, taken)?)
+}
+
+/// Decides and answers as `put_if_newer`, and makes the same step, but stages it.
+pub fn stage_if_newer<R: Replica>(
+    alloc: Global,
+    replica: &mut R,
+    seed: u128,
+    id: &DocId,
+    incoming: &Member,
+    save: bool,
+    moved: &Move,
+) -> Result<Taken, TakeFault>
+    requires { (kept : _) × R.stages replica.old kept }
+    ensures { Stages R.known R.stages R.crash take_failure
+        (take_decides seed id.now incoming.now save moved.now (state_in (R.known replica.old)))
+        replica.old replica.new result }
+{
+    let (taken, step) = decide_receipt(alloc, replica.state(), seed, id, incoming, save, moved)?;
+    Ok(stage_for(replica, step, taken)?)
 }
 
 /// Moves the position that is kept of a peer. Where it stands there already no step is made.
@@ -142,8 +157,55 @@ pub fn move_position<R: Replica>(replica: &mut R, moved: &Move) -> Result<(), Ta
         (move_decides moved.now (state_in (R.known replica.old)))
         replica.old replica.new result }
 {
-    check_move(replica.state(), moved)?;
-    Ok(make_move(replica, moved)?)
+    let step = decide_move(replica.state(), moved)?;
+    Ok(commit_for(replica, step, ())?)
+}
+
+/// Decides and answers as `move_position`, and makes the same step, but stages it.
+pub fn stage_position<R: Replica>(replica: &mut R, moved: &Move) -> Result<(), TakeFault>
+    requires { (kept : _) × R.stages replica.old kept }
+    ensures { Stages R.known R.stages R.crash take_failure
+        (move_decides moved.now (state_in (R.known replica.old)))
+        replica.old replica.new result }
+{
+    let step = decide_move(replica.state(), moved)?;
+    Ok(stage_for(replica, step, ())?)
+}
+
+// What becomes of the revision, and the step that it makes.
+fn decide_receipt(
+    alloc: Global,
+    state: &State,
+    seed: u128,
+    id: &DocId,
+    incoming: &Member,
+    save: bool,
+    moved: &Move,
+) -> Result<(Taken, Option<Step>), TakeFault>
+    ensures decided { IfOk result (λ r.
+        take_decides seed id.now incoming.now save moved.now (meaning state.now)
+        ≡ Answers r.0 (option_map step_of r.1)) }
+    ensures fits { IfOk result (λ r. IfSome r.1 (λ x. Fits (meaning state.now) (step_of x))) }
+    ensures undone { IfErr result (IsUndone take_failure
+        (take_decides seed id.now incoming.now save moved.now (meaning state.now))) }
+{
+    law_tests();
+    let taken = checked_receipt(alloc, state, id, incoming, save, moved)?;
+    let step = step_of_taken(alloc, state, seed, id, &taken.accepted, moved)?;
+    Ok((taken, step))
+}
+
+// The step that the move makes.
+fn decide_move(state: &State, moved: &Move) -> Result<Option<Step>, TakeFault>
+    ensures decided { IfOk result (λ step.
+        move_decides moved.now (meaning state.now) ≡ Answers tt (option_map step_of step)) }
+    ensures fits { IfOk result (λ step. IfSome step (λ x. Fits (meaning state.now) (step_of x))) }
+    ensures undone { IfErr result (IsUndone take_failure
+        (move_decides moved.now (meaning state.now))) }
+{
+    law_tests();
+    check_move(state, moved)?;
+    Ok(step_of_move(state, moved)?)
 }
 
 // The move is checked first, so nothing is accepted with one that goes back.
@@ -185,30 +247,6 @@ fn receipt_of(
     receive(alloc, state.docs().get(id), incoming, save, state.uid())
 }
 
-// Makes the step of what was taken, and answers it.
-fn take<R: Replica>(
-    alloc: Global,
-    replica: &mut R,
-    seed: u128,
-    id: &DocId,
-    taken: Taken,
-    moved: &Move,
-) -> Result<Taken, CommitFault>
-    requires ready { R.is_open replica.old }
-    requires fits { IfSome taken.accepted
-        (FitsDocument ((state_in (R.known replica.old)).document id.now)) }
-    requires goes_on { passes (kept_place (state_in (R.known replica.old)) moved.now) moved.now.at
-        ≡ true }
-    ensures { IsDone R.known R.is_open R.crash commit_failure
-        (Answers taken (take_step seed id.now moved.now
-        (state_in (R.known replica.old)) taken.accepted))
-        replica.old replica.new result }
-{
-    law_tests();
-    let step = step_of_taken(alloc, replica.state(), seed, id, &taken.accepted, moved)?;
-    commit_for(replica, step, taken)
-}
-
 // The accepted revision and the move as one step. The step owns a copy, since the answer keeps what
 // was accepted.
 fn step_of_taken(
@@ -230,17 +268,4 @@ fn step_of_taken(
         }
         None => step_of_move(state, moved),
     }
-}
-
-fn make_move<R: Replica>(replica: &mut R, moved: &Move) -> Result<(), CommitFault>
-    requires ready { R.is_open replica.old }
-    requires goes_on { passes (kept_place (state_in (R.known replica.old)) moved.now) moved.now.at
-        ≡ true }
-    ensures { IsDone R.known R.is_open R.crash commit_failure
-        (Answers tt (move_step (state_in (R.known replica.old)) moved.now))
-        replica.old replica.new result }
-{
-    law_tests();
-    let step = step_of_move(replica.state(), moved)?;
-    commit_for(replica, step, ())
 }

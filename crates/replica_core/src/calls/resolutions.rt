@@ -40,11 +40,6 @@ pub enum ResolveDocFault {
 }
 
 impl fmt::Display for ResolveDocFault {
-    ghost use Rattle.std.specs.Prelude.{Some};
-    ghost use Rattle.replica_core.specs.CallsFaults.{resolve_doc_fault_text};
-
-    ghost output = { λ fault. Some (resolve_doc_fault_text fault) };
-
     fn fmt<W: fmt::Write>(&self, f: &mut fmt::Formatter<W>) -> fmt::Result {
         match self {
             ResolveDocFault::NoDocument => f.write_str("there is no such document"),

@@ -1,7 +1,8 @@
 -- On the way there are places for as many items as move.
 use Rattle.std.proofs.Common.{◌≡◌, ◌+◌, ◌-◌, ◌<◌, ◌≤◌, length, get_or}
 use Rattle.std.specs.Vec.{vec_len, vec_capacity}
-use Rattle.chunk_list.specs.Chunks.{full, joined, AreChunksBut, AreStarts}
+use Rattle.chunk_list.specs.Chunks.{full, joined, AreStarts}
+use Rattle.chunk_list.specs.inner.Chunks.{AreChunksBut}
 use Rattle.chunk_list.proofs.room.share.Given as goal
 
 abbrev pub invariant-loop-to : goal.invariant-loop-to

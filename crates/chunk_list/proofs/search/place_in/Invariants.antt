@@ -1,7 +1,7 @@
 use Rattle.std.proofs.Common.{◌-◌, ◌<◌, ◌≤◌, length, true, false}
 use Rattle.std.specs.Fn.{FnReturnsAt}
 use Rattle.std.specs.List.{HoldsAt}
-use Rattle.chunk_list.specs.Halves.{StepsLeft}
+use Rattle.chunk_list.specs.inner.Halves.{StepsLeft}
 use Rattle.chunk_list.proofs.search.place_in.Given as goal
 
 abbrev pub invariant-loop-low : goal.invariant-loop-low

@@ -2,7 +2,7 @@ use Rattle.std.proofs.Common.{rules, ◌≡◌, ◌∙◌, ℕ, ap₂, subst, ma
 use Rattle.clap.specs.Walk.{rule_of}
 use Rattle.clap.specs.Simple.{app_of, with_rule}
 use Rattle.clap.specs.declared.builder.range.ValueRange.{ValueRange}
-use Rattle.cli_words.specs.Form.{IsForm, bare, most_of, operands_rule, with_option}
+use Rattle.cli_words.specs.inner.Form.{IsForm, bare, most_of, operands_rule, with_option}
 use Rattle.cli_words.proofs.Forms.{operands_rule_is}
 use Rattle.cli_words.proofs.fits.command.Goals as goal
 

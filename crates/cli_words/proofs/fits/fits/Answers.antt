@@ -1,7 +1,7 @@
 use Rattle.std.proofs.Common.{rules, ◌≡◌, ◌≤◌, ℕ, List, length, map, Some, None}
 use Rattle.std.specs.Borrow.{Bor}
 use Rattle.clap.specs.Lexer.{usize_max}
-use Rattle.cli_words.specs.Form.{asked, option_text}
+use Rattle.cli_words.specs.inner.Form.{asked, option_text}
 use Rattle.cli_words.proofs.Forms.{fits_answered}
 use Rattle.cli_words.proofs.fits.fits.Goals as goal
 

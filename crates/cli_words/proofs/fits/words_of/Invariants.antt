@@ -1,6 +1,6 @@
 use Rattle.std.proofs.Common.{◌≡◌, map, take}
 use Rattle.std.specs.Prelude.{option_map}
-use Rattle.cli_words.specs.Form.{asked}
+use Rattle.cli_words.specs.inner.Form.{asked}
 use Rattle.cli_words.proofs.fits.words_of.Given as goal
 
 abbrev pub invariant-loop-operand : goal.invariant-loop-operand

@@ -3,7 +3,7 @@ use Rattle.std.proofs.lemmas.List.{nil_from_length}
 use Rattle.replica_state.specs.Held.{meaning}
 use Rattle.replica_state.specs.Steps.{step_of}
 use Rattle.compaction.specs.Compaction.{compacted}
-use Rattle.compaction.specs.Noted.{later_of}
+use Rattle.compaction.specs.inner.Noted.{later_of}
 use Rattle.compaction.proofs.Again.{same_compacted}
 use Rattle.compaction.proofs.Backward.{goes_to, begun, all_done}
 use Rattle.compaction.proofs.compacting.compact.Goals as goal

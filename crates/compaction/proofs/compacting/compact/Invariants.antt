@@ -2,7 +2,7 @@ use Rattle.std.proofs.Common.{◌≡◌, map, vec_len}
 use Rattle.replica_state.specs.Held.{meaning}
 use Rattle.replica_state.specs.Steps.{step_of}
 use Rattle.compaction.specs.Compaction.{compacted}
-use Rattle.compaction.specs.Noted.{later_of}
+use Rattle.compaction.specs.inner.Noted.{later_of}
 use Rattle.compaction.proofs.Backward.{goes_to}
 use Rattle.compaction.proofs.compacting.compact.Given as goal
 

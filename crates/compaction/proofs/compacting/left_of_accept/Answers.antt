@@ -1,5 +1,5 @@
 use Rattle.replica_state.specs.Held.{meaning}
-use Rattle.compaction.specs.Noted.{later_of}
+use Rattle.compaction.specs.inner.Noted.{later_of}
 use Rattle.compaction.proofs.Noting.{gone_noted, accept_noted}
 use Rattle.compaction.proofs.compacting.left_of_accept.Goals as goal
 

@@ -1,6 +1,6 @@
 -- What the walk finds decides.
 use Rattle.std.proofs.Common.{◌∙◌, subst}
-use Rattle.conflicts.specs.Walk.{WalksTo}
+use Rattle.conflicts.specs.inner.Walk.{WalksTo}
 use Rattle.conflicts.proofs.Rows.{kept_superseded, kept_stored}
 use Rattle.conflicts.proofs.receipts.receive_apart.Goals as goal
 

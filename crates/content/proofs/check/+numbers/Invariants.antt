@@ -1,7 +1,7 @@
 use Rattle.std.proofs.Common.{◌≡◌, drop}
 use Rattle.serde_json.specs.View.{items_view, members_view}
 use Rattle.content.specs.Faults.{any_in_items, any_in_members}
-use Rattle.content.specs.Kinds.{is_kind}
+use Rattle.content.specs.inner.Kinds.{is_kind}
 use Rattle.content.proofs.check.+numbers.Given as goal
 
 abbrev pub invariant-items_have-loop-item : goal.invariant-items_have-loop-item

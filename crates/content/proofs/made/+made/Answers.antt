@@ -1,6 +1,6 @@
 -- Each turn takes one item or one field, and the closing byte ends them.
 use Rattle.std.proofs.Common.{◌≡◌, ◌-◌, ◌∙◌, drop, get_or, length, option_map, subst, take, arith}
-use Rattle.content.specs.Fronts.{FieldsBefore, ItemsBefore}
+use Rattle.content.specs.inner.Fronts.{FieldsBefore, ItemsBefore}
 use Rattle.content.specs.Tree.{field, item, no_fields, no_items}
 use Rattle.content.specs.TreeOf.{tree_of}
 use Rattle.content.proofs.FlatTexts.{behind_first}

@@ -1,6 +1,6 @@
 -- What follows the items or fields so far makes a list or an object of them all.
 use Rattle.std.proofs.Common.{ℕ, ◌+◌, ◌*◌, ◌≤◌, List, length, map, option_map}
-use Rattle.content.specs.Fronts.{FieldsBefore, ItemsBefore}
+use Rattle.content.specs.inner.Fronts.{FieldsBefore, ItemsBefore}
 use Rattle.content.specs.Tree.{Fields, Items}
 use Rattle.content.specs.TreeOf.{pair_of, tree_of}
 use Rattle.content.proofs.MadeTrees.{fields_onto, items_onto}

@@ -2,7 +2,7 @@
 use Rattle.std.proofs.Common.{◌≡◌, ◌∙◌, ap, sym, subst, arith}
 use Rattle.std.proofs.lemmas.Int.{to_z-of_z}
 use Rattle.std.specs.Int.{w64}
-use Rattle.content.specs.Fronts.{IsBefore}
+use Rattle.content.specs.inner.Fronts.{IsBefore}
 use Rattle.content.specs.Tree.{whole}
 use Rattle.content.specs.TreeOf.{tree_of}
 use Rattle.content.proofs.MadeTrees.{number_made}

@@ -2,7 +2,7 @@
 use Rattle.std.proofs.Common.{◌≡◌, get_or, arith, subst, sym}
 use Rattle.std.proofs.lemmas.List.{nil_from_length}
 use Rattle.content.specs.Tree.{object}
-use Rattle.content.specs.Pieces.{IsPartBefore}
+use Rattle.content.specs.inner.Pieces.{IsPartBefore}
 use Rattle.content.specs.TreeOf.{fields_view, tree_of}
 use Rattle.content.specs.declared.value.Json.{Object, the_lemmas}
 use Rattle.content.proofs.FlatTexts.{behind_first}

@@ -1,7 +1,7 @@
 -- What follows the fields so far makes an object of them all, of which these are the ones that were asked for.
 use Rattle.std.proofs.Common.{ℕ, ◌≤◌, List, length, map, option_map}
 use Rattle.content.specs.Parts.{fields_among}
-use Rattle.content.specs.Pieces.{SomeBefore}
+use Rattle.content.specs.inner.Pieces.{SomeBefore}
 use Rattle.content.specs.Tree.{Fields}
 use Rattle.content.specs.TreeOf.{pair_of}
 use Rattle.content.proofs.MadeTrees.{fields_onto}

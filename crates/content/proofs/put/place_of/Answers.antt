@@ -1,5 +1,5 @@
 -- A field before the place moves it on by one.
-use Rattle.content.specs.Plain.{place_among}
+use Rattle.content.specs.inner.Plain.{place_among}
 use Rattle.content.specs.TreeOf.{fields_view, pair_of}
 use Rattle.content.proofs.PutFields.{none_passed}
 use Rattle.std.proofs.Common.{refl}

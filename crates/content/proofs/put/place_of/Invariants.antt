@@ -1,6 +1,6 @@
 -- Each name so far stands before the field's.
 use Rattle.std.proofs.Common.{◌≡◌, ◌+◌, drop, option_map}
-use Rattle.content.specs.Plain.{place_among}
+use Rattle.content.specs.inner.Plain.{place_among}
 use Rattle.content.specs.TreeOf.{fields_view, pair_of}
 use Rattle.content.proofs.put.place_of.Given as goal
 

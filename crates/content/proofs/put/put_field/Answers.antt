@@ -1,7 +1,7 @@
 -- The field goes to its place.
 use Rattle.std.proofs.Common.{◌≡◌, Some, sym, ap, ◌∙◌, arith}
 use Rattle.content.specs.Canonical.{fields_data}
-use Rattle.content.specs.Plain.{place_among}
+use Rattle.content.specs.inner.Plain.{place_among}
 use Rattle.content.specs.TreeOf.{fields_view, pair_of}
 use Rattle.content.proofs.PutFields.{put_at}
 use Rattle.content.proofs.put.put_field.Goals as goal

@@ -1,6 +1,6 @@
 -- What was passed is plain.
 use Rattle.std.proofs.Common.{◌≡◌, ℕ, ◌-◌, ◌<◌, ◌≤◌, false, length, get_or}
-use Rattle.content.specs.Fronts.{is_special}
+use Rattle.content.specs.inner.Fronts.{is_special}
 use Rattle.content.proofs.scan.plain_end_by_bytes.Given as goal
 
 abbrev pub invariant-loop-at : goal.invariant-loop-at

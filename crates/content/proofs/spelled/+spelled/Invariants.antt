@@ -1,6 +1,6 @@
 -- What follows the items or fields so far makes a list or an object of them all.
 use Rattle.std.proofs.Common.{ℕ, ◌+◌, ◌*◌, ◌≤◌, List, length, option_map}
-use Rattle.content.specs.Fronts.{AreFieldsBefore, AreItemsBefore}
+use Rattle.content.specs.inner.Fronts.{AreFieldsBefore, AreItemsBefore}
 use Rattle.content.specs.Tree.{Fields, Items}
 use Rattle.content.proofs.SpelledTexts.{MoreFields, MoreItems}
 use Rattle.content.proofs.spelled.+spelled.Given as goal

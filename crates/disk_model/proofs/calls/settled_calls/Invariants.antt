@@ -1,6 +1,6 @@
 use Rattle.std.proofs.Common.{◌≡◌, ◌≤◌, true, length, drop}
 use Rattle.std.specs.List.{list_all}
-use Rattle.disk_model.specs.Log.{is_open}
+use Rattle.disk_model.specs.inner.Log.{is_open}
 use Rattle.disk_model.proofs.calls.settled_calls.Given as goal
 
 abbrev pub invariant-loop-begin : goal.invariant-loop-begin

@@ -1,7 +1,7 @@
 -- A text that the set has not met is added last.
 use Rattle.std.proofs.Common.{◌≡◌, ℕ, ◌+◌, not, List, [], ◌∷◌, ◌++◌, Bor, take, get_or, sym, ap, ◌∙◌}
 use Rattle.std.proofs.lemmas.List.{take_more}
-use Rattle.expr_eval.specs.Lent.{lent}
+use Rattle.expr_eval.specs.inner.Lent.{lent}
 use Rattle.expr_eval.specs.Words.{distinct}
 use Rattle.expr_eval.proofs.Places.{has, met, new_text, old_text}
 use Rattle.expr_eval.proofs.first_places.firsts_of_many.Goals as goal

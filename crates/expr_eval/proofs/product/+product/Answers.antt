@@ -3,7 +3,7 @@ use Rattle.std.proofs.Common.{◌≡◌, ◌≤◌, ◌+◌, ℕ, List, [], ◌�
 use Rattle.std.proofs.Common.{refl, sym, ap, ◌∙◌, arith}
 use Rattle.std.proofs.lemmas.List.{map-append, nil_from_length, take-append-drop, take_more}
 use Rattle.expr_eval.specs.Keys.{most}
-use Rattle.expr_eval.specs.Lent.{behind, lent}
+use Rattle.expr_eval.specs.inner.Lent.{behind, lent}
 use Rattle.expr_eval.proofs.Places.{lent-push}
 use Rattle.expr_eval.proofs.Products.{last_of_front, none_taken, popped, taken_enough, taken_few, taken_more}
 use Rattle.expr_eval.proofs.product.+product.Goals as goal

@@ -1,7 +1,7 @@
 -- The keys of the first texts of the list, each list being one fewer than before.
 use Rattle.std.proofs.Common.{◌≡◌, ◌+◌, ◌*◌, ◌++◌, ◌∷◌, ◌≤◌, length, map, take}
 use Rattle.expr_eval.specs.Keys.{most}
-use Rattle.expr_eval.specs.Lent.{behind, lent}
+use Rattle.expr_eval.specs.inner.Lent.{behind, lent}
 use Rattle.expr_eval.proofs.product.+product.Given as goal
 
 abbrev pub decreases-add_keys : goal.decreases-add_keys

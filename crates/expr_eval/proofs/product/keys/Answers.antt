@@ -8,7 +8,7 @@ use Rattle.std.specs.List.{All, AllPairs}
 use Rattle.content.specs.TreeOf.{tree_of}
 use Rattle.expr_parser.specs.FormOf.{form_of}
 use Rattle.expr_eval.specs.Keys.{key_texts, keys_of, most}
-use Rattle.expr_eval.specs.Lent.{behind, lent}
+use Rattle.expr_eval.specs.inner.Lent.{behind, lent}
 use Rattle.expr_eval.specs.Values.{texts_of}
 use Rattle.expr_eval.proofs.Apart.{keys_of-apart}
 use Rattle.expr_eval.proofs.Widths.{keys_of-width}

@@ -1,6 +1,6 @@
 use Rattle.std.proofs.Common.{◌≡◌, take}
 use Rattle.expr_eval.specs.Kinds.{texts_in}
-use Rattle.expr_eval.specs.Lent.{lent}
+use Rattle.expr_eval.specs.inner.Lent.{lent}
 use Rattle.expr_eval.proofs.value.texts_among.Given as goal
 
 abbrev pub invariant-loop-value : goal.invariant-loop-value

@@ -1,6 +1,6 @@
 -- A word comes off the front, until nothing but white space is left.
 use Rattle.std.proofs.Common.{ℕ, List, ◌++◌, sym, ap, ◌∙◌, append-nil}
-use Rattle.expr_eval.specs.Lent.{lent}
+use Rattle.expr_eval.specs.inner.Lent.{lent}
 use Rattle.expr_eval.specs.Words.{words_in}
 use Rattle.expr_eval.proofs.WordsTaken.{TakesWord, takes_word, no_word, one_word_more}
 use Rattle.expr_eval.proofs.words.add_words.Goals as goal

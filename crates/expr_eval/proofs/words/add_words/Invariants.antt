@@ -1,6 +1,6 @@
 -- The words so far, and those of the rest, are those of the text.
 use Rattle.std.proofs.Common.{◌≡◌, ◌++◌, IsUtf8}
-use Rattle.expr_eval.specs.Lent.{lent}
+use Rattle.expr_eval.specs.inner.Lent.{lent}
 use Rattle.expr_eval.specs.Words.{words_in}
 use Rattle.expr_eval.proofs.words.add_words.Given as goal
 

@@ -1,5 +1,5 @@
 use Rattle.std.proofs.Common.{◌≡◌, take, flat_map}
-use Rattle.expr_eval.specs.Lent.{lent}
+use Rattle.expr_eval.specs.inner.Lent.{lent}
 use Rattle.expr_eval.specs.Words.{words_in}
 use Rattle.expr_eval.proofs.words.words_among.Given as goal
 

@@ -2,7 +2,7 @@
 use Rattle.std.proofs.Common.{List, ℕ, ◌+◌, inl, inr, length, subst}
 use Rattle.disk_model.specs.Disk.{Torn}
 use Rattle.disk_model.proofs.Runs.{goes_on, weaker}
-use Rattle.journal.specs.Adding.{IsAdding}
+use Rattle.journal.specs.inner.Adding.{IsAdding}
 use Rattle.journal.proofs.appending.add_behind.Goals as goal
 
 pub returns-in_err-write_synced-clause-any_moment : goal.returns-in_err-write_synced-clause-any_moment

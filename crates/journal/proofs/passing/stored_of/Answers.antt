@@ -1,7 +1,7 @@
 -- The header was read, and then the entries.
 use Rattle.std.proofs.Common.{ap, drop, subst, ◌+◌, ◌∙◌}
 use Rattle.journal.specs.Image.{header_bytes}
-use Rattle.journal.specs.Fields.{IsAt}
+use Rattle.journal.specs.inner.Fields.{IsAt}
 use Rattle.journal.specs.Stored.{IsWholeImage}
 use Rattle.journal.proofs.Passed.{broken_in, its_extent, whole_behind}
 use Rattle.journal.proofs.passing.stored_of.Goals as goal

@@ -3,7 +3,7 @@ use Rattle.std.proofs.Common.{ℕ, ◌+◌, List, [], ◌∷◌, ◌++◌, drop,
 use Rattle.std.proofs.lemmas.List.{drop_more}
 use Rattle.journal.specs.Image.{entries, body_field}
 use Rattle.journal.specs.Damage.{Begins}
-use Rattle.journal.specs.Fields.{NoBody}
+use Rattle.journal.specs.inner.Fields.{NoBody}
 use Rattle.journal.proofs.Entries.{reached_none, reached_more, reached_end, reached_broken}
 use Rattle.journal.proofs.reading.end_of_entries.Goals as goal
 

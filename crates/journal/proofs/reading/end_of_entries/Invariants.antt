@@ -1,5 +1,5 @@
 use Rattle.std.proofs.Common.{ℕ, List, length, ◌-◌}
-use Rattle.journal.specs.Fields.{Reached}
+use Rattle.journal.specs.inner.Fields.{Reached}
 use Rattle.journal.proofs.reading.end_of_entries.Given as goal
 
 abbrev pub invariant-loop-at : goal.invariant-loop-at

@@ -3,7 +3,7 @@ use Rattle.std.proofs.Common.{◌≡◌, ℕ, List, ◌++◌, ◌+◌, length, d
 use Rattle.u1_base.specs.Fields.{text_field, u64_bytes}
 use Rattle.journal.specs.Image.{first_field}
 use Rattle.journal.specs.Damage.{Begins}
-use Rattle.journal.specs.Fields.{IsAt}
+use Rattle.journal.specs.inner.Fields.{IsAt}
 use Rattle.journal.proofs.Places.{in_range, first_at, text_at, limit_at, header_at, no_first, no_name, no_uid, no_limit}
 use Rattle.journal.proofs.reading.header_of.Goals as goal
 

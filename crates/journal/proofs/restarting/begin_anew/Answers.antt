@@ -3,7 +3,7 @@ use Rattle.std.proofs.Common.{◌≡◌, List, ℕ, ◌∷◌, [], length, get_o
 use Rattle.std.proofs.lemmas.Result.{on_ok_weaker}
 use Rattle.disk_model.specs.Disk.{Torn, Cut, overwritten}
 use Rattle.disk_model.proofs.Runs.{goes_on, weaker}
-use Rattle.journal.specs.Restarting.{IsAnew, IsKeptOrSpoilt}
+use Rattle.journal.specs.inner.Restarting.{IsAnew, IsKeptOrSpoilt}
 use Rattle.journal.proofs.Restarts.{kept_anew, cut_anew, alone, rest_anew, rest_written, last_anew, last_written}
 use Rattle.journal.proofs.restarting.begin_anew.Goals as goal
 

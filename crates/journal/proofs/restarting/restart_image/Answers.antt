@@ -3,7 +3,7 @@ use Rattle.std.proofs.Common.{inl, refl, ◌∙◌}
 use Rattle.disk_model.proofs.Runs.{weaker}
 use Rattle.disk_model.proofs.Syncs.{begun}
 use Rattle.journal.specs.Journal.{IsOnTheWay}
-use Rattle.journal.specs.Restarting.{IsAnew}
+use Rattle.journal.specs.inner.Restarting.{IsAnew}
 use Rattle.journal.proofs.Restarts.{on_the_way, first_of_image}
 use Rattle.journal.proofs.restarting.restart_image.Goals as goal
 

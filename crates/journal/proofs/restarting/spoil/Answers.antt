@@ -5,7 +5,7 @@ use Rattle.disk_model.specs.Device.{Device, IsSettled, file_of}
 use Rattle.disk_model.specs.Moments.{LeavesOnly}
 use Rattle.disk_model.proofs.Runs.{goes_on, weaker}
 use Rattle.disk_model.proofs.Syncs.{settled_image}
-use Rattle.journal.specs.Restarting.{IsKeptOrSpoilt}
+use Rattle.journal.specs.inner.Restarting.{IsKeptOrSpoilt}
 use Rattle.journal.proofs.Restarts.{torn_kept}
 use Rattle.journal.proofs.restarting.spoil.Goals as goal
 

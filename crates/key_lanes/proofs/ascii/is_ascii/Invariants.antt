@@ -1,5 +1,5 @@
 use Rattle.std.proofs.Common.{◌-◌, ◌≤◌}
-use Rattle.key_lanes.specs.Blocks.{AsciiBetween}
+use Rattle.key_lanes.specs.inner.Blocks.{AsciiBetween}
 use Rattle.key_lanes.proofs.ascii.is_ascii.Given as goal
 
 -- what was passed is ASCII

@@ -1,6 +1,6 @@
 -- What was passed is equal; the last block may overlap it.
 use Rattle.std.proofs.Common.{◌≡◌, ◌+◌, ◌-◌, arith, subst}
-use Rattle.key_lanes.specs.Blocks.{EqualBetween}
+use Rattle.key_lanes.specs.inner.Blocks.{EqualBetween}
 use Rattle.key_lanes.proofs.Fronts.{prefix_to_difference, prefix_is_whole}
 use Rattle.key_lanes.proofs.order.common_prefix.Goals as goal
 

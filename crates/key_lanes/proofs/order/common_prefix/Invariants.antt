@@ -1,5 +1,5 @@
 use Rattle.std.proofs.Common.{◌-◌, ◌≤◌}
-use Rattle.key_lanes.specs.Blocks.{EqualBetween}
+use Rattle.key_lanes.specs.inner.Blocks.{EqualBetween}
 use Rattle.key_lanes.proofs.order.common_prefix.Given as goal
 
 -- what was passed is equal

@@ -1,6 +1,6 @@
 -- Two blocks, of which the second may overlap the first.
 use Rattle.std.proofs.Common.{◌≡◌, ◌+◌, ◌-◌, arith, subst, zero-add}
-use Rattle.key_lanes.specs.Blocks.{EqualBetween}
+use Rattle.key_lanes.specs.inner.Blocks.{EqualBetween}
 use Rattle.key_lanes.proofs.Fronts.{prefix_to_difference, prefix_is_whole}
 use Rattle.key_lanes.proofs.order.prefix_of_few.Goals as goal
 

@@ -2,7 +2,7 @@
 use Rattle.std.proofs.Common.{◌-◌, ◌≤◌, ℕ, List, length, slice_get, sym, subst, ◌∙◌, ap, arith}
 use Rattle.index_tables.specs.Order.{Entry}
 use Rattle.query_range.specs.Answers.{AreKeys}
-use Rattle.query_range.specs.Wanted.{is_key}
+use Rattle.query_range.specs.inner.Wanted.{is_key}
 use Rattle.query_range.proofs.Keys.{all_listed, listed_known, listed_new, past_list}
 use Rattle.query_range.proofs.Laws.{keys_of_is}
 use Rattle.query_range.proofs.distinct.distinct_keys.Goals as goal

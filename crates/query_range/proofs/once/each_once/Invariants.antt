@@ -3,7 +3,7 @@ use Rattle.std.proofs.Common.{◌≡◌, ℕ, List, map, take, Bor}
 use Rattle.std.specs.List.{list_any}
 use Rattle.u1_base.specs.Ids.{id_cmp, same_id}
 use Rattle.query_range.specs.Answers.{firsts}
-use Rattle.query_range.specs.SeenIds.{holds}
+use Rattle.query_range.specs.inner.SeenIds.{holds}
 use Rattle.query_range.proofs.once.each_once.Given as goal
 
 abbrev pub invariant-loop-id : goal.invariant-loop-id

@@ -1,6 +1,6 @@
 -- What is still to come from the other parts makes the floor whole.
 use Rattle.std.proofs.Common.{◌≡◌, ◌++◌, drop}
-use Rattle.query_range.specs.Floor.{floor_of}
+use Rattle.query_range.specs.inner.Floor.{floor_of}
 use Rattle.query_range.proofs.pattern.floor_texts.Given as goal
 
 abbrev pub invariant-loop-part : goal.invariant-loop-part

@@ -1,7 +1,7 @@
 -- The pairs of the range are those that the walk takes.
 use Rattle.std.proofs.Common.{length, option_copied, drop, take_while, ap, arith}
 use Rattle.query_range.specs.Answers.{is_between}
-use Rattle.query_range.specs.Wanted.{takes}
+use Rattle.query_range.specs.inner.Wanted.{takes}
 use Rattle.query_range.proofs.Laws.{filtered, found}
 use Rattle.query_range.proofs.Ranges.{range_run}
 use Rattle.query_range.proofs.range.between.Goals as goal

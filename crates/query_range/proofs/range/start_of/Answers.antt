@@ -1,7 +1,7 @@
 -- The search for the start ends where the range starts.
 use Rattle.std.proofs.Common.{ℕ, List, Option, Bor, option_copied, sym, subst}
 use Rattle.index_tables.specs.Order.{FallsAt}
-use Rattle.query_range.specs.Wanted.{StartsAt}
+use Rattle.query_range.specs.inner.Wanted.{StartsAt}
 use Rattle.query_range.proofs.Ranges.{starts_at}
 use Rattle.query_range.proofs.range.start_of.Goals as goal
 

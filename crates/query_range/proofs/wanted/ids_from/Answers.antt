@@ -4,7 +4,7 @@ use Rattle.std.proofs.lemmas.List.{drop_all}
 use Rattle.index_tables.specs.Order.{Entry}
 use Rattle.u1_base.specs.Ids.{id_cmp}
 use Rattle.query_range.specs.Answers.{firsts}
-use Rattle.query_range.specs.Wanted.{takes}
+use Rattle.query_range.specs.inner.Wanted.{takes}
 use Rattle.query_range.proofs.Walks.{none_from, past_end, refused, told, took, walk_ends}
 use Rattle.query_range.proofs.wanted.ids_from.Goals as goal
 use Rattle.query_range.proofs.wanted.ids_from.Goals.{else-loop-place-test, then-loop-place-test+in_default}

@@ -1,6 +1,6 @@
 -- The pairs so far are taken.
 use Rattle.std.proofs.Common.{◌≡◌}
-use Rattle.query_range.specs.Wanted.{takes}
+use Rattle.query_range.specs.inner.Wanted.{takes}
 use Rattle.query_range.proofs.Walks.{Walked}
 use Rattle.query_range.proofs.wanted.ids_from.Given as goal
 

@@ -3,7 +3,7 @@ use Rattle.std.proofs.Common.{◌∙◌, List, Some, ap}
 use Rattle.std.specs.Option.{option_map}
 use Rattle.std.specs.Prelude.{slice_get}
 use Rattle.replica_state.specs.Held.{Heading, named}
-use Rattle.replica_state.specs.Named.{name_of}
+use Rattle.replica_state.specs.inner.Named.{name_of}
 use Rattle.replica_reads.proofs.Placing.{named_at}
 use Rattle.replica_reads.proofs.indexes.index_at.Goals as goal
 

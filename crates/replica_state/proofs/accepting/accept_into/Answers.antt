@@ -1,7 +1,7 @@
 -- The set that is made is that of the document after the acceptance.
 use Rattle.std.proofs.Common.{Option, option_copied, subst}
 use Rattle.conflicts.specs.Kept.{Kept, document}
-use Rattle.replica_state.specs.Sets.{IsSetAfter}
+use Rattle.replica_state.specs.inner.Sets.{IsSetAfter}
 use Rattle.replica_state.proofs.Putting.{accepted_none, accepted_set}
 use Rattle.replica_state.proofs.accepting.accept_into.Goals as goal
 

@@ -7,7 +7,7 @@ use Rattle.conflicts.specs.Kept.{Kept}
 use Rattle.conflicts.specs.State.{Text}
 use Rattle.u1_base.specs.Ids.{id_cmp}
 use Rattle.replica_state.specs.Keyed.{Docs, IsTable}
-use Rattle.replica_state.specs.Named.{HasRoom, name_of}
+use Rattle.replica_state.specs.inner.Named.{HasRoom, name_of}
 use Rattle.replica_state.specs.Prepared.{key_change}
 use Rattle.replica_state.specs.declared.index.Index.{Index}
 use Rattle.replica_state.specs.declared.prepared.KeyChange.{KeyChange}

@@ -4,7 +4,7 @@ use Rattle.std.specs.List.{AllWithin}
 use Rattle.std.specs.FinMap.Entries.{find, put}
 use Rattle.u1_base.specs.Ids.{id_cmp}
 use Rattle.replica_state.specs.Keyed.{IsTable}
-use Rattle.replica_state.specs.Named.{HasRoom, name_of}
+use Rattle.replica_state.specs.inner.Named.{HasRoom, name_of}
 use Rattle.replica_state.specs.Prepared.{key_change}
 use Rattle.replica_state.proofs.changes.change_indexes.Given as goal
 

@@ -4,7 +4,7 @@ use Rattle.std.proofs.lemmas.List.{length-set}
 use Rattle.std.proofs.lemmas.List.Elements.{AllWithin-more_set}
 use Rattle.conflicts.specs.Kept.{Kept}
 use Rattle.conflicts.specs.State.{Text}
-use Rattle.replica_state.specs.Named.{HasRoom, bare}
+use Rattle.replica_state.specs.inner.Named.{HasRoom, bare}
 use Rattle.replica_state.specs.Prepared.{key_change}
 use Rattle.replica_state.specs.declared.index.Index.{Index}
 use Rattle.replica_state.specs.declared.prepared.KeyChange.{KeyChange}

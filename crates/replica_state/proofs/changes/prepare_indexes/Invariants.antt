@@ -2,7 +2,7 @@
 use Rattle.std.proofs.Common.{◌≡◌, ◌≤◌, ◌-◌, length, map, take}
 use Rattle.std.specs.Prelude.{option_copied}
 use Rattle.std.specs.List.{AllWithin}
-use Rattle.replica_state.specs.Named.{HasRoom, bare}
+use Rattle.replica_state.specs.inner.Named.{HasRoom, bare}
 use Rattle.replica_state.specs.Prepared.{key_change}
 use Rattle.replica_state.proofs.changes.prepare_indexes.Given as goal
 

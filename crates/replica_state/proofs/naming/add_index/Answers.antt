@@ -2,7 +2,7 @@
 use Rattle.std.proofs.Common.{◌≡◌, ◌∙◌, ℕ, List, arith, set, sym, ap}
 use Rattle.std.specs.Prelude.{slice_get}
 use Rattle.std.specs.List.{insert}
-use Rattle.replica_state.specs.Named.{is_named, place_in}
+use Rattle.replica_state.specs.inner.Named.{is_named, place_in}
 use Rattle.replica_state.specs.declared.index.Index.{Index}
 use Rattle.replica_state.proofs.Named.{inserted, place_within, replaced, stands}
 use Rattle.replica_state.proofs.naming.add_index.Goals as goal

@@ -1,6 +1,6 @@
 -- The names so far are below the name.
 use Rattle.std.proofs.Common.{◌≡◌, ◌+◌, drop}
-use Rattle.replica_state.specs.Named.{place_in}
+use Rattle.replica_state.specs.inner.Named.{place_in}
 use Rattle.replica_state.proofs.naming.place_of.Given as goal
 
 abbrev pub invariant-loop-index : goal.invariant-loop-index

@@ -2,7 +2,7 @@
 use Rattle.std.proofs.Common.{◌≡◌, Option, option_copied, refl, subst}
 use Rattle.conflicts.specs.Document.{document_after}
 use Rattle.conflicts.specs.Kept.{Kept, document}
-use Rattle.replica_state.specs.Sets.{IsSetAfter}
+use Rattle.replica_state.specs.inner.Sets.{IsSetAfter}
 use Rattle.replica_state.proofs.Putting.{ok_put, unchanged}
 use Rattle.replica_state.proofs.replace.new_document.Goals as goal
 

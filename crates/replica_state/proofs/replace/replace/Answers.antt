@@ -6,7 +6,8 @@ use Rattle.std.proofs.lemmas.List.Elements.{All-filter}
 use Rattle.u1_base.specs.Ids.{id_cmp, same_id}
 use Rattle.replica_state.specs.Held.{Heading}
 use Rattle.replica_state.specs.Keyed.{AreTables, IsTable, keys_of_kept}
-use Rattle.replica_state.specs.Named.{heading, names_of}
+use Rattle.replica_state.specs.Named.{heading}
+use Rattle.replica_state.specs.inner.Named.{names_of}
 use Rattle.replica_state.specs.Prepared.{Takes, key_change, names_with}
 use Rattle.replica_state.specs.declared.index.Index.{Index}
 use Rattle.replica_state.specs.declared.prepared.Replacement.{Replacement}

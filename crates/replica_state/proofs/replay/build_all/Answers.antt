@@ -3,7 +3,7 @@ use Rattle.std.proofs.Common.{◌∙◌, arith, ap}
 use Rattle.std.proofs.lemmas.List.{nil_from_length}
 use Rattle.conflicts.specs.State.{State}
 use Rattle.replica_state.specs.Held.{meaning}
-use Rattle.replica_state.specs.Named.{names_of}
+use Rattle.replica_state.specs.inner.Named.{names_of}
 use Rattle.replica_state.proofs.Replaying.{all_made, made_last, over, over_none}
 use Rattle.replica_state.proofs.replay.build_all.Goals as goal
 

@@ -2,7 +2,7 @@
 use Rattle.std.proofs.Common.{◌≡◌, vec_len}
 use Rattle.replica_state.specs.Held.{meaning}
 use Rattle.replica_state.specs.Indexes.{with_indexes}
-use Rattle.replica_state.specs.Named.{names_of}
+use Rattle.replica_state.specs.inner.Named.{names_of}
 use Rattle.replica_state.proofs.Replaying.{over}
 use Rattle.replica_state.proofs.replay.build_all.Given as goal
 

@@ -1,7 +1,7 @@
 use Rattle.std.proofs.Common.{ℕ, List, ◌-◌}
 use Rattle.journal.specs.Passing.{HasPassed}
 use Rattle.replica_state.specs.Held.{meaning}
-use Rattle.replica_volume.specs.Compacting.{AreKeptSoFar}
+use Rattle.replica_volume.specs.inner.Compacting.{AreKeptSoFar}
 use Rattle.replica_volume.proofs.compacting.keep_each.Given as goal
 
 abbrev pub invariant-loop-entry : goal.invariant-loop-entry

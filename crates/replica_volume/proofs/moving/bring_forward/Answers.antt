@@ -3,7 +3,7 @@ use Rattle.std.proofs.Common.{◌≡◌, ◌≢◌, refl, ◌∙◌, arith}
 use Rattle.conflicts.specs.State.{History}
 use Rattle.disks.specs.declared.name.DiskName.TheVariants.{Root}
 use Rattle.disks.specs.Disks.{disks_known}
-use Rattle.replica_volume.specs.Placing.{SaysSteps, StandsWith}
+use Rattle.replica_volume.specs.inner.Placing.{SaysSteps, StandsWith}
 use Rattle.replica_volume.proofs.Moves.{finished_with, moved_with, stands_in_second, stays_same}
 use Rattle.replica_volume.proofs.moving.bring_forward.Goals as goal
 

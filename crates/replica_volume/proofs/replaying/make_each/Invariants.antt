@@ -1,6 +1,6 @@
 use Rattle.std.proofs.Common.{ℕ, List, ◌-◌}
 use Rattle.journal.specs.Passing.{HasPassed}
-use Rattle.replica_volume.specs.Replaying.{AreMade}
+use Rattle.replica_volume.specs.inner.Replaying.{AreMade}
 use Rattle.replica_volume.proofs.replaying.make_each.Given as goal
 
 abbrev pub invariant-loop-entry : goal.invariant-loop-entry

@@ -1,7 +1,7 @@
 -- The first ones were read.
 use Rattle.std.proofs.Common.{map, take}
 use Rattle.expr_parser.specs.FormOf.{form_of}
-use Rattle.store_commands.specs.Expressions.{AreRead}
+use Rattle.store_commands.specs.inner.Expressions.{AreRead}
 use Rattle.store_commands.proofs.index_create.exprs_in.Given as goal
 
 abbrev pub invariant-loop-text : goal.invariant-loop-text

@@ -1,6 +1,6 @@
 -- The store is made, or memory ran out before.
 use Rattle.std.proofs.Common.{Err, refl}
-use Rattle.store_commands.specs.declared.store.MakeFault.TheVariants.{Memory}
+use Rattle.disks.specs.declared.fault.MakeFault.TheVariants.{Memory}
 use Rattle.store_commands.proofs.Making.{made_so, within_limits}
 use Rattle.store_commands.proofs.Unbuilt.{left_alone}
 use Rattle.store_commands.proofs.init.init.Goals as goal

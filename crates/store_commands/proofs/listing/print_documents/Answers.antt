@@ -4,7 +4,7 @@ use Rattle.std.proofs.lemmas.Result.{err_from_is_err_and}
 use Rattle.conflicts.specs.State.{Text}
 use Rattle.replica_core.specs.Commands.Documents.{document_line}
 use Rattle.replica_state.specs.Held.{meaning}
-use Rattle.store_commands.specs.Shown.{line_if}
+use Rattle.store_commands.specs.inner.Shown.{line_if}
 use Rattle.store_commands.proofs.Listed.{lines_if}
 use Rattle.command_lines.proofs.Listing.{all_of, none_of}
 use Rattle.command_lines.proofs.Putting.{puts_as}

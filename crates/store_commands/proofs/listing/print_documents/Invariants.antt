@@ -3,7 +3,7 @@ use Rattle.std.specs.List.{flat_map}
 use Rattle.command_lines.specs.Puts.{Puts}
 use Rattle.replica_core.specs.Commands.Documents.{document_line}
 use Rattle.replica_state.specs.Held.{meaning}
-use Rattle.store_commands.specs.Shown.{line_if}
+use Rattle.store_commands.specs.inner.Shown.{line_if}
 use Rattle.store_commands.proofs.listing.print_documents.Given as goal
 
 abbrev pub invariant-loop-id : goal.invariant-loop-id

@@ -2,7 +2,7 @@
 use Rattle.std.proofs.Common.{sym, ◌∙◌, subst, length, get_or, rules}
 use Rattle.httparse.specs.declared.spans.HeaderSpan.{HeaderSpan}
 use Rattle.httparse.specs.Spans.{IsHeaderWithin}
-use Rattle.sync_http.specs.Occurrence.{AreFound}
+use Rattle.sync_http.specs.inner.Occurrence.{AreFound}
 use Rattle.sync_http.proofs.Naming.{found_named, found_other, so_far}
 use Rattle.sync_http.proofs.fields.find_named.Goals as goal
 use Rattle.sync_http.proofs.fields.find_named.Goals.{then-is_named, else-is_named}

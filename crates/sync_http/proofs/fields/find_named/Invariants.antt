@@ -1,7 +1,7 @@
-use Rattle.std.proofs.Common.{◌≡◌, map, take}
+use Rattle.std.proofs.Common.{map, take}
 use Rattle.httparse.specs.Spans.{header_bytes}
 use Rattle.sync_http.specs.Fields.{values_named}
-use Rattle.sync_http.specs.Occurrence.{AreFound}
+use Rattle.sync_http.specs.inner.Occurrence.{AreFound}
 use Rattle.sync_http.proofs.fields.find_named.Given as goal
 
 abbrev pub invariant-loop-header : goal.invariant-loop-header

@@ -41,7 +41,10 @@ returns-in-Ok-Partial c =
 
 pub returns-in-Err : goal.returns-in-Err
 returns-in-Err c =
-    let none : IsNoReply c.head_in-front.result.now = search rules in record {
+    let none : IsNoReply c.head_in-front.result.now = record {
+      none = λ h rest reads few. rw c.in-Err.is at (c.parse_response.ensures.found h rest reads few);
+      never = search rules;
+    } in record {
       hears = inl (subst IsNoReply c.head_in-front.ensures none);
       whole = λ other n h. absurd
           (rw c.in-Err.is at (c.parse_response.ensures.found h.head h.rest

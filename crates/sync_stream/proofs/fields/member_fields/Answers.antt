@@ -2,7 +2,7 @@
 use Rattle.std.proofs.Common.{◌≡◌, ◌-◌, length, Some, None, MatchOption, refl, sym, ap₂, ◌∙◌, subst, arith}
 use Rattle.json.specs.Json.{read_key}
 use Rattle.serde_json.specs.Data.{no_members, put}
-use Rattle.sync_stream.specs.Fields.{IsPlainMember, with_saying}
+use Rattle.sync_stream.specs.inner.Fields.{IsPlainMember, with_saying}
 use Rattle.sync_stream.proofs.Sayings.{member_turn, members_over, sayings_of_put}
 use Rattle.sync_stream.proofs.fields.member_fields.Goals as goal
 

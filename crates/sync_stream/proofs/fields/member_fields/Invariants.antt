@@ -3,7 +3,7 @@ use Rattle.std.proofs.Common.{◌≡◌, ℕ, ◌≤◌, length}
 use Rattle.json.specs.Json.{members, value}
 use Rattle.serde_json.specs.Data.{Members, no_members, object}
 use Rattle.serde_json.specs.Read.{converted, of_members}
-use Rattle.sync_stream.specs.Fields.{sayings_of, told_of}
+use Rattle.sync_stream.specs.inner.Fields.{sayings_of, told_of}
 use Rattle.sync_stream.proofs.fields.member_fields.Given as goal
 
 abbrev pub invariant-members : goal.invariant-members

@@ -5,7 +5,7 @@ use Rattle.json.specs.Json.{value}
 use Rattle.serde_json.specs.Data.{object}
 use Rattle.serde_json.specs.Read.{converted, of_json, read}
 use Rattle.content.specs.Faults.{value_of}
-use Rattle.sync_stream.specs.Fields.{sayings_of}
+use Rattle.sync_stream.specs.inner.Fields.{sayings_of}
 use Rattle.sync_stream.proofs.Sayings.{text_read, valid_read}
 use Rattle.sync_stream.proofs.fields.plain_fields.Goals as goal
 

@@ -1,4 +1,4 @@
-use Rattle.vector_rev.specs.Standing.{IsAbove}
+use Rattle.vector_rev.specs.inner.Standing.{IsAbove}
 use Rattle.vector_rev.proofs.places.place_of.Given as goal
 
 abbrev pub invariant-loop-place : goal.invariant-loop-place

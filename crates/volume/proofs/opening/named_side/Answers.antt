@@ -3,8 +3,8 @@ use Rattle.std.proofs.Common.{[], refl, sym, ◌∙◌, subst, Err, List, ℕ}
 use Rattle.std.proofs.lemmas.Result.{err_from_is_err_and}
 use Rattle.disks.specs.declared.name.DiskName.TheVariants.{Root}
 use Rattle.disks.specs.Disks.{disks_known}
-use Rattle.volume.specs.Opening.{RootNames}
-use Rattle.volume.specs.declared.opening.StoreFault.TheVariants as fault
+use Rattle.volume.specs.inner.Opening.{RootNames}
+use Rattle.disks.specs.declared.fault.OpenFault.TheVariants as fault
 use Rattle.volume.proofs.Opens.{looks, blank_names, names_image, root_names, witnessed}
 use Rattle.volume.proofs.opening.named_side.Goals as goal
 

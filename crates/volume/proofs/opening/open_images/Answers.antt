@@ -1,14 +1,12 @@
 -- The root was read, and then the image that it names.
-use Rattle.std.specs.Prelude.{IsTrue}
-use Rattle.std.proofs.Common.{◌≡◌, Ok, Err, List, ℕ, refl, sym, ◌∙◌, subst}
+use Rattle.std.proofs.Common.{Ok, Err, refl, sym, ◌∙◌, subst}
 use Rattle.std.proofs.lemmas.Result.{err_from_is_err_and}
-use Rattle.disks.specs.declared.trio.Trio.{Trio}
 use Rattle.disks.specs.Joint.{seen_of}
 use Rattle.disks.specs.Disks.{disks_known}
 use Rattle.journal.specs.Image.{ReadsAs}
 use Rattle.journal.specs.Damage.{DamagedAt}
 use Rattle.volume.specs.Opening.{OpensStore}
-use Rattle.volume.specs.declared.opening.StoreFault.TheVariants as fault
+use Rattle.disks.specs.declared.fault.OpenFault.TheVariants as fault
 use Rattle.volume.proofs.Finding.{found_standing, found_damaged}
 use Rattle.volume.proofs.Opens.{looks_on, one_read, read_files, read_root, opened_store}
 use Rattle.volume.proofs.opening.open_images.Goals as goal

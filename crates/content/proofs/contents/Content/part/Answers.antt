@@ -1,7 +1,7 @@
 -- The part that is made is that of the tree that the text reads as.
 use Rattle.std.proofs.Common.{[], ap, ◌∙◌, subst}
 use Rattle.content.specs.Parts.{part_of}
-use Rattle.content.specs.Pieces.{IsPartBefore}
+use Rattle.content.specs.inner.Pieces.{IsPartBefore}
 use Rattle.content.specs.TreeOf.{tree_of}
 use Rattle.content.proofs.MadeTrees.{made_is}
 use Rattle.content.proofs.contents.Content.part.Goals as goal

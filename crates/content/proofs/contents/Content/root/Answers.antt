@@ -1,7 +1,7 @@
 -- The tree that is made of the text is the one that the text reads as.
 use Rattle.std.proofs.Common.{◌≡◌, [], ap, ◌∙◌, subst}
 use Rattle.content.specs.Contents.{IsContent}
-use Rattle.content.specs.Fronts.{IsBefore}
+use Rattle.content.specs.inner.Fronts.{IsBefore}
 use Rattle.content.specs.TreeOf.{tree_of}
 use Rattle.content.proofs.MadeTrees.{made_is}
 use Rattle.content.proofs.SpelledTrees.{IsContent-spelled_tree}

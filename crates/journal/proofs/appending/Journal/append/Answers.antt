@@ -2,7 +2,7 @@
 use Rattle.std.proofs.Common.{◌≡◌, ◌∷◌, [], ◌++◌, ◌+◌, ◌-◌, ◌⊎◌, inl, length, ◌∙◌, ap, arith, length-append}
 use Rattle.disk_model.proofs.Runs.{weaker}
 use Rattle.disk_model.proofs.Syncs.{begun}
-use Rattle.journal.specs.Adding.{IsAdding}
+use Rattle.journal.specs.inner.Adding.{IsAdding}
 use Rattle.journal.specs.Image.{ReadsAs, body_field, up_to_gate}
 use Rattle.journal.specs.Journal.{Extent}
 use Rattle.journal.proofs.Entries.{up_to_gate-push, length-entry}

@@ -2,7 +2,7 @@
 use Rattle.std.proofs.Common.{ap, refl, subst, take}
 use Rattle.journal.specs.Image.{body_field}
 use Rattle.journal.specs.Damage.{Begins}
-use Rattle.journal.specs.Fields.{NoBody}
+use Rattle.journal.specs.inner.Fields.{NoBody}
 use Rattle.journal.proofs.Passed.{meets_end, meets_none, meets_body, below_gate}
 use Rattle.journal.proofs.passing.Stored.entry_at.Goals as goal
 

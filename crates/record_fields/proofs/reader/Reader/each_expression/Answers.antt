@@ -5,7 +5,8 @@ use Rattle.expr_parser.specs.FormOf.{form_of}
 use Rattle.expr_parser.specs.Reading.{IsExpr}
 use Rattle.record_fields.specs.Fields.{each_read}
 use Rattle.record_fields.specs.Plain.{expression}
-use Rattle.record_fields.specs.Reading.{text_of, texts_of}
+use Rattle.record_fields.specs.Reading.{texts_of}
+use Rattle.record_fields.specs.inner.Reading.{text_of}
 use Rattle.record_fields.proofs.Loops.{with_front, goes_on, ends, is_done, texts_push, exprs_push}
 use Rattle.record_fields.proofs.reader.Reader.each_expression.Goals as goal
 

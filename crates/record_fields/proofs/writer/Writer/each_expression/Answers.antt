@@ -1,7 +1,7 @@
 use Rattle.std.proofs.Common.{◌≡◌, ap, sym, subst, ◌∙◌, ◌^◌, ◌<◌, add-one, length}
 use Rattle.std.specs.Int.{w16}
 use Rattle.record_fields.specs.Plain.{expression, text}
-use Rattle.record_fields.specs.Reading.{text_of}
+use Rattle.record_fields.specs.inner.Reading.{text_of}
 use Rattle.record_fields.specs.Writing.{with_field}
 use Rattle.record_fields.proofs.Writings.{each_none, texts_next, text_short}
 use Rattle.record_fields.proofs.writer.Writer.each_expression.Goals as goal

@@ -4,9 +4,7 @@ use Rattle.std.proofs.Common.{refl, sym, ◌∙◌, subst, arith}
 use Rattle.disks.specs.Disks.{disks_known}
 use Rattle.journal.specs.Image.{Head}
 use Rattle.store_commands.specs.Store.{MadeAnew, Makes}
-use Rattle.replica_cli.specs.Faults.{make_fault}
-use Rattle.replica_cli.specs.Store.{store_known, store_seen}
-use Rattle.store_commands.specs.declared.store.MakeFault.{MakeFault}
+use Rattle.replica_cli.specs.Store.{store_seen}
 use Rattle.disks.specs.declared.three.Disks.{Disks}
 use Rattle.replica_cli.proofs.Looking.{finds_some, no_call}
 use Rattle.replica_cli.proofs.Making.{fails_to_make, made_anew}
@@ -31,12 +29,10 @@ pub returns-in-Err : goal.returns-in-Err
 returns-in-Err g c =
     let known = g.D.Disk.known in let tells = g.D.Disk.tells in let failed = c.in-Err.ensures in
     let name = c.args.name.now in let uid = c.args.uid.now in let limit = c.args.limit in
-    let old = disks_known known c.args.self.disks in let why = make_fault c.in-Err.fault in
-    subst (λ (f : MakeFault). Makes name uid limit (store_seen tells old) (store_known tells known c.new-in-Err.result)
-    (Err f)) (sym c.make_fault.ensures)
-    (subst (λ (d : Disks _). Makes name uid limit (store_seen tells old) (store_seen tells (disks_known known d))
+    let old = disks_known known c.args.self.disks in let why = c.in-Err.fault in
+    subst (λ (d : Disks _). Makes name uid limit (store_seen tells old) (store_seen tells (disks_known known d))
     (Err why)) (sym c.new-in-Err.ensures)
     (subst (λ (head : Head). Makes head.name head.uid head.limit (store_seen tells old)
     (store_seen tells (disks_known known c.in-Err.disks)) (Err why)) c.in-Ok.ensures
     (fails_to_make tells known c.in-Ok.header c.args.self.disks c.in-Err.disks failed.reads.0 c.in-Err.fault
-    failed.reads.1 failed.reads.2 failed.any_moment failed.looks failed.left failed.untouched failed.cause)))
+    failed.reads.1 failed.reads.2 failed.any_moment failed.looks failed.left failed.untouched failed.cause))

@@ -18,7 +18,7 @@ returns-in-Ok-clause-image g c =
 pub returns-in-Err-clause-err : goal.returns-in-Err-clause-err
 returns-in-Err-clause-err g c =
     let known = g.D.Disk.known in let failed = c.in-Err.ensures in
-    rw (c.new.ensures, c.open_fault.ensures)
+    rw c.new.ensures
     (fails_to_open g.D.Disk.tells known
     (disks_known known c.args.self.disks) failed.reads.0 c.in-Err.disks c.in-Err.fault
     failed.reads.1 failed.reads.2 failed.left failed.any_moment failed.looks failed.memory failed.cause)

@@ -5,7 +5,7 @@ use Rattle.vector_rev.specs.Clock.{Clock}
 use Rattle.conflicts.specs.State.{Step}
 use Rattle.replica_state.specs.Held.{Held, meaning}
 use Rattle.replica_core.specs.Calls.{IsDone}
-use Rattle.replica_core.specs.CallsDecide.{accept_next}
+use Rattle.conflicts.specs.Writing.{accept_next}
 use Rattle.replica_core.specs.CallsFaults.{commit_failure}
 use Rattle.replica_core.specs.declared.fault.CommitFault.{CommitFault}
 use Rattle.replica_core.specs.declared.fault.CommitFault.TheVariants.{Memory}

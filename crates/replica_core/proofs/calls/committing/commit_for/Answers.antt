@@ -3,7 +3,7 @@ use Rattle.std.proofs.Common.{ap, Option}
 use Rattle.std.specs.Option.{option_map}
 use Rattle.replica_state.specs.Steps.{step_of}
 use Rattle.replica_state.specs.declared.step.Step.{Step}
-use Rattle.replica_core.specs.Calls.{Answers}
+use Rattle.conflicts.specs.Writing.{Answers}
 use Rattle.replica_core.specs.CallsFaults.{commit_failure}
 use Rattle.replica_core.proofs.CallsEnds.{answered}
 use Rattle.replica_core.proofs.calls.committing.commit_for.Goals as goal

@@ -3,7 +3,7 @@ use Rattle.std.proofs.Common.{◌≡◌, subst, Some}
 use Rattle.std.specs.Option.{option_map}
 use Rattle.replica_state.specs.Held.{Held, meaning}
 use Rattle.replica_core.specs.Replica.{state_in}
-use Rattle.replica_core.specs.CallsDecide.{same_exprs}
+use Rattle.conflicts.specs.Writing.{same_exprs}
 use Rattle.replica_core.proofs.CallsIndexes.{alike_done, alike_is}
 use Rattle.replica_core.proofs.calls.indexes.create_index.Goals as goal
 

@@ -1,7 +1,7 @@
 -- No index of the name is lent.
 use Rattle.std.proofs.Common.{◌∙◌, ap, inr, not, refl, subst}
 use Rattle.replica_state.specs.Held.{Held, meaning}
-use Rattle.replica_core.specs.Calls.{IsRefusal}
+use Rattle.conflicts.specs.Writing.{IsRefusal}
 use Rattle.replica_core.specs.CallsDecide.{delete_index_decides}
 use Rattle.replica_core.specs.CallsFaults.{index_failure}
 use Rattle.replica_core.specs.declared.calls.indexes.IndexFault.TheVariants.{IndexUnknown}

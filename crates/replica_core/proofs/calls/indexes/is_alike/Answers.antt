@@ -3,7 +3,7 @@ use Rattle.std.proofs.Common.{◌∙◌, ap, sym, List, Option, Some}
 use Rattle.std.specs.Option.{option_map}
 use Rattle.conflicts.specs.State.{Text}
 use Rattle.replica_state.specs.Exprs.{IndexTexts}
-use Rattle.replica_core.specs.CallsDecide.{same_exprs}
+use Rattle.conflicts.specs.Writing.{same_exprs}
 use Rattle.replica_core.proofs.calls.indexes.is_alike.Goals as goal
 
 pub returns-in-Some-clause-value : goal.returns-in-Some-clause-value

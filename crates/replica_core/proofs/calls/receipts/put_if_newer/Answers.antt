@@ -1,68 +1,42 @@
--- A refusal is the one of the check, and what was taken is what is decided.
-use Rattle.std.proofs.Common.{◌≡◌, ◌∙◌, ap, sym, subst, Err, true}
+-- What was decided on the state is decided on the replica.
+use Rattle.std.proofs.Common.{◌≡◌, subst}
 use Rattle.std.proofs.lemmas.Result.{err_from_is_err_and}
-use Rattle.translog.specs.Source.{passes}
-use Rattle.conflicts.specs.Decision.{decides}
-use Rattle.conflicts.specs.declared.receipts.Taken.{Taken}
+use Rattle.std.specs.Option.{option_map}
+use Rattle.conflicts.specs.Writing.{Answers}
 use Rattle.replica_state.specs.Held.{Held, meaning}
-use Rattle.replica_core.specs.Replica.{state_in}
-use Rattle.replica_core.specs.CallsChecks.{Checks}
-use Rattle.replica_core.specs.CallsDecide.{kept_place, take_answers, take_step}
+use Rattle.replica_state.specs.Steps.{step_of}
+use Rattle.replica_core.specs.CallsChecks.{IsUndone}
+use Rattle.replica_core.specs.CallsDecide.{take_decides}
 use Rattle.replica_core.specs.CallsFaults.{take_failed, take_failure}
 use Rattle.replica_core.proofs.CallsEnds.{done_err, done_ok, undone}
-use Rattle.replica_core.proofs.CallsTaken.{check_undone, goes_on_is, take_fails}
+use Rattle.replica_core.proofs.CallsTaken.{take_fails}
 use Rattle.replica_core.proofs.calls.receipts.put_if_newer.Goals as goal
 
 pub returns-in_err-taken : goal.returns-in_err-taken
 returns-in_err-taken g c =
     let p = err_from_is_err_and c.from_residual.result c.from_residual.ensures.1 in
-    let s = state_in (g.R.Replica.known c.args.replica.now) in
-    let m = c.args.moved.now in
     let fault = c.in_err-taken.field-0.0 in
-    rw (p.1, p.2) (undone g.R.Replica.known g.R.Replica.is_open g.R.Replica.crash take_failure
-    c.args.replica.now _ fault
+    rw (p.1, p.2) (undone g.R.Replica.known g.R.Replica.is_open g.R.Replica.crash take_failure c.args.replica.now _ fault
     c.requires (λ found h. g.met.R.Replica.settled c.args.replica.now found c.requires h)
-    (check_undone s m (take_answers c.args.seed c.args.id.now m s
-    (decides (s.document c.args.id.now) c.args.incoming.now c.args.save s.uid)) fault
-    (subst (λ (h : Held). Checks {A = Taken} (meaning h) m (Err fault)) c.state.ensures
-    c.in_err-taken.ensures.checked)))
+    (subst (λ (h : Held). IsUndone take_failure (take_decides c.args.seed c.args.id.now c.args.incoming.now c.args.save c.args.moved.now (meaning h)) fault)
+    c.state.ensures c.in_err-taken.ensures.undone))
 
-pub take-requires-clause-goes_on : goal.take-requires-clause-goes_on
-take-requires-clause-goes_on g c =
-    subst (λ (h : Held). passes (kept_place (meaning h) c.args.moved.now) c.args.moved.now.at ≡ true) c.state.ensures
-    c.in_ok-taken.ensures.checked
-
-pub returns-in_err-take : goal.returns-in_err-take
-returns-in_err-take g c =
-    let p = err_from_is_err_and c.from_residual-in_err-take.result c.from_residual-in_err-take.ensures.1 in
-    let s = state_in (g.R.Replica.known c.args.replica.now) in
-    let m = c.args.moved.now in
-    let taken = c.in_ok-taken.taken in
-    let fault = c.in_err-take.field-0.0 in
-    let passed = subst (λ (h : Held). passes (kept_place (meaning h) m) m.at ≡ true) c.state.ensures
-    c.in_ok-taken.ensures.checked in
-    let decided : taken ≡ decides (s.document c.args.id.now) c.args.incoming.now c.args.save s.uid =
-    subst (λ (h : Held). taken ≡ decides ((meaning h).document c.args.id.now) c.args.incoming.now c.args.save h.uid)
-    c.state.ensures c.in_ok-taken.ensures.taken in
+pub returns-in_err-commit_for : goal.returns-in_err-commit_for
+returns-in_err-commit_for g c =
+    let p = err_from_is_err_and c.from_residual-in_err-commit_for.result c.from_residual-in_err-commit_for.ensures.1 in
+    let fault = c.in_err-commit_for.field-0.0 in
     rw (p.1, p.2) (done_err g.R.Replica.known g.R.Replica.is_open g.R.Replica.crash take_failure c.args.replica.now
-    c.take.new.replica _ taken (take_step c.args.seed c.args.id.now m s taken.accepted) fault (take_failed fault)
-    (goes_on_is s m (take_answers c.args.seed c.args.id.now m s
-    (decides (s.document c.args.id.now) c.args.incoming.now c.args.save s.uid)) passed
-    ∙ ap (λ (t : Taken). take_answers c.args.seed c.args.id.now m s t) (sym decided))
-    (take_fails fault) c.in_err-take.ensures)
+    c.commit_for.new.replica _ c.in_ok-taken.taken (option_map step_of c.in_ok-taken.step) fault (take_failed fault)
+    (subst (λ (h : Held). take_decides c.args.seed c.args.id.now c.args.incoming.now c.args.save c.args.moved.now (meaning h)
+    ≡ Answers c.in_ok-taken.taken (option_map step_of c.in_ok-taken.step)) c.state.ensures
+    c.in_ok-taken.ensures.decided)
+    (take_fails fault) c.in_err-commit_for.ensures)
 
 pub returns : goal.returns
 returns g c =
-    let s = state_in (g.R.Replica.known c.args.replica.now) in
-    let m = c.args.moved.now in
-    let taken = c.in_ok-taken.taken in
-    let passed = subst (λ (h : Held). passes (kept_place (meaning h) m) m.at ≡ true) c.state.ensures
-    c.in_ok-taken.ensures.checked in
-    let decided : taken ≡ decides (s.document c.args.id.now) c.args.incoming.now c.args.save s.uid =
-    subst (λ (h : Held). taken ≡ decides ((meaning h).document c.args.id.now) c.args.incoming.now c.args.save h.uid)
-    c.state.ensures c.in_ok-taken.ensures.taken in
-    done_ok g.R.Replica.known g.R.Replica.is_open g.R.Replica.crash take_failure c.args.replica.now c.take.new.replica
-    _ taken c.in_ok-take.field-0 (take_step c.args.seed c.args.id.now m s taken.accepted)
-    (goes_on_is s m (take_answers c.args.seed c.args.id.now m s
-    (decides (s.document c.args.id.now) c.args.incoming.now c.args.save s.uid)) passed
-    ∙ ap (λ (t : Taken). take_answers c.args.seed c.args.id.now m s t) (sym decided)) c.in_ok-take.ensures
+    done_ok g.R.Replica.known g.R.Replica.is_open g.R.Replica.crash take_failure c.args.replica.now c.commit_for.new.replica
+    _ c.in_ok-taken.taken c.in_ok-commit_for.field-0 (option_map step_of c.in_ok-taken.step)
+    (subst (λ (h : Held). take_decides c.args.seed c.args.id.now c.args.incoming.now c.args.save c.args.moved.now (meaning h)
+    ≡ Answers c.in_ok-taken.taken (option_map step_of c.in_ok-taken.step)) c.state.ensures
+    c.in_ok-taken.ensures.decided)
+    c.in_ok-commit_for.ensures

@@ -2,7 +2,7 @@
 use Rattle.std.proofs.Common.{map, arith}
 use Rattle.std.proofs.lemmas.List.{length-map}
 use Rattle.expr_parser.specs.FormOf.{form_of}
-use Rattle.replica_state.specs.Exprs.{read_all}
+use Rattle.replica_state.specs.inner.Exprs.{read_all}
 use Rattle.replica_state.proofs.exprs.IndexExprs.of.Goals as goal
 
 pub invariant_of-result : goal.invariant_of-result

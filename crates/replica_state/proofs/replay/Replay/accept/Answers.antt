@@ -4,7 +4,7 @@ use Rattle.conflicts.specs.State.{Accepted, Gone, State, Text, after}
 use Rattle.conflicts.specs.declared.accept.Accept.{Accept}
 use Rattle.replica_state.specs.Held.{meaning}
 use Rattle.replica_state.specs.Indexes.{with_indexes}
-use Rattle.replica_state.specs.Named.{names_of}
+use Rattle.replica_state.specs.inner.Named.{names_of}
 use Rattle.replica_state.specs.Replayed.{replayed}
 use Rattle.replica_state.specs.Waiting.{with_accepted}
 use Rattle.replica_state.proofs.WaitingAccepts.{waits_more}

@@ -2,7 +2,7 @@
 use Rattle.std.proofs.Common.{List, ◌∙◌, ap}
 use Rattle.replica_state.specs.Held.{meaning}
 use Rattle.replica_state.specs.Indexes.{with_indexes}
-use Rattle.replica_state.specs.Named.{names_of}
+use Rattle.replica_state.specs.inner.Named.{names_of}
 use Rattle.replica_state.specs.Waiting.{with_accepted}
 use Rattle.replica_state.specs.declared.index.Index.{Index}
 use Rattle.replica_state.specs.declared.waiting.Waiting.{Waiting}

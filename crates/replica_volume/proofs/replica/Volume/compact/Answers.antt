@@ -8,6 +8,7 @@ pub returns-in-Ok-clause-open : goal.returns-in-Ok-clause-open
 returns-in-Ok-clause-open g c = record {
   ready = c.in-Ok.ensures.ready ∙ c.requires.«open».ready;
   image = c.in-Ok.ensures.image;
+  nothing = c.in-Ok.ensures.staged ∙ c.requires.«open».nothing;
   keeps = λ t. (c.in-Ok.ensures.writes t).keeps;
 }
 
@@ -34,6 +35,7 @@ pub returns-in-Err-Damaged-clause-open : goal.returns-in-Err-Damaged-clause-open
 returns-in-Err-Damaged-clause-open g c = record {
   ready = c.in-Err-Damaged.ensures.ready ∙ c.requires.«open».ready;
   image = c.in-Err-Damaged.ensures.image;
+  nothing = c.in-Err-Damaged.ensures.staged ∙ c.requires.«open».nothing;
   keeps = λ t. absurd (rw c.in-Err-Damaged.field-0-is at c.in-Err-Damaged.ensures.writes t);
 }
 
@@ -68,6 +70,7 @@ pub returns-in-Err-Memory-clause-open : goal.returns-in-Err-Memory-clause-open
 returns-in-Err-Memory-clause-open g c = record {
   ready = c.in-Err-Memory.ensures.ready ∙ c.requires.«open».ready;
   image = c.in-Err-Memory.ensures.image;
+  nothing = c.in-Err-Memory.ensures.staged ∙ c.requires.«open».nothing;
   keeps = λ t. (rw c.in-Err-Memory.field-0-is at c.in-Err-Memory.ensures.writes t).keeps;
 }
 

@@ -67,7 +67,7 @@ returns-in-Err-bring_forward-clause-reads g c =
     let read = c.in-Ok.ensures.reads in (
       read.0,
       read.1,
-      rw (c.from-in-Err-bring_forward.ensures)
+      rw (c.from.ensures)
           (not_placed read.0 c.bring_forward.new.disks c.in-Err-bring_forward.fault),
     )
 
@@ -94,7 +94,7 @@ returns-in-Err-bring_forward-clause-memory g c t e =
     let known = g.D.Disk.known in
     not_called known c.args.disks c.open_images.new.disks c.bring_forward.new.disks
     (c.in-Err-bring_forward.ensures.untouched
-    (ap Err (memory_placing c.in-Err-bring_forward.fault (cc (e, c.from-in-Err-bring_forward.ensures)))))
+    (ap Err (memory_placing c.in-Err-bring_forward.fault (cc (e, c.from.ensures)))))
     (c.open_images.ensures.looks t)
 
 pub returns-in-Err-bring_forward-clause-moves : goal.returns-in-Err-bring_forward-clause-moves
@@ -122,7 +122,7 @@ returns-in-Err-bring_forward-clause-cause g c =
         arith,
         first,
         placed.failed
-            (ap Err (disk_placing c.in-Err-bring_forward.fault (cc (e, c.from-in-Err-bring_forward.ensures)))),
+            (ap Err (disk_placing c.in-Err-bring_forward.fault (cc (e, c.from.ensures)))),
       );
     }
 
@@ -142,7 +142,7 @@ returns-clause-open g c =
     opened_volume g.D.Disk.tells g.D.Disk.known c.in-Ok.opened.image c.in-Ok-replay_on.made
     c.in-Ok-bring_forward.finished.standing _
     c.in-Ok-bring_forward.ensures.ok c.in-Ok-bring_forward.ensures.side c.in-Ok-replay_on.ensures refl
-    c.in-Ok-bring_forward.ensures.state refl refl refl
+    c.in-Ok-bring_forward.ensures.state refl refl refl c.new.ensures
 
 pub returns-clause-left : goal.returns-clause-left
 returns-clause-left g c t =

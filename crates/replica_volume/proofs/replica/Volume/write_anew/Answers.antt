@@ -106,7 +106,7 @@ returns-clause-writes g c t =
     c.other_side.ensures.other in
     written_anew known old k opened.side image o c.in-Ok.steps c.in-Ok.ensures c.other_side.result
     head c.in-Ok-compacted_bodies.spelled sides same spells
-    new standing refl refl refl refl (put.ok t _ spells) tells t put.side put.uids (put.length _ spells)
+    new standing refl refl refl refl c.requires.«open».nothing (put.ok t _ spells) tells put.side put.uids (put.length _ spells)
     _ (λ i. record { before = c.length-before.ensures i; after = c.length-after.ensures i })
     (put_leaves_compacted known old k opened.side image o c.in-Ok.steps c.in-Ok.ensures c.other_side.result
     head c.in-Ok-compacted_bodies.spelled sides same spells

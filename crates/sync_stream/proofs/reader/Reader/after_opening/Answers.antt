@@ -1,5 +1,6 @@
 use Rattle.std.proofs.Common.{Err, subst, sym}
-use Rattle.sync_stream.specs.HeldText.{Answers, PassesOne}
+use Rattle.sync_stream.specs.HeldText.{Answers}
+use Rattle.sync_stream.specs.inner.HeldText.{PassesOne}
 use Rattle.sync_stream.proofs.Stands.{faulty_after}
 use Rattle.sync_stream.proofs.reader.Reader.after_opening.Goals as goal
 

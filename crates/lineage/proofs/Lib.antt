@@ -1,0 +1,4 @@
+pub mod Descent
+pub mod Growing
+pub mod Descended
+pub mod Lawful

@@ -1,0 +1,4 @@
+pub mod Lineage
+pub mod Histories
+pub mod Laws
+pub mod inner

@@ -1,0 +1,5 @@
+mod Lengths
+pub mod Given
+pub mod Asks
+mod Ends
+pub mod SmallReplies

@@ -1,0 +1,4 @@
+pub mod Carried
+pub mod Lines
+pub mod Heard
+pub mod inner

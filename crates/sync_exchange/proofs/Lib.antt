@@ -1,0 +1,3 @@
+pub mod Noted
+pub mod Renamed
+pub mod Cases

@@ -1,0 +1,4 @@
+pub mod Made
+pub mod Responses
+pub mod Turns
+pub mod Traced
