@@ -1,6 +1,5 @@
 -- What is answered of words, and what a fault prints.
-use Rattle.std.specs.Prelude.{◌≡◌, ℕ, List, ◌++◌, codes, Result, Ok, Err}
-use Rattle.std.specs.Fmt.{decimal}
+use Rattle.std.specs.Prelude.{◌≡◌, Result, Ok, Err}
 use Rattle.cli_words.specs.declared.fault.WordsFault.{WordsFault}
 use Rattle.cli_words.specs.declared.fault.WordsFault.TheVariants.{Words, Value, Memory}
 
@@ -10,9 +9,3 @@ Answers said (Ok x) = said ≡ Ok x
 Answers said (Err Words) = said ≡ Err Words
 Answers said (Err (Value place)) = said ≡ Err (Value place)
 Answers said (Err Memory) = Unit {0}
-
--- what a fault prints
-abbrev pub words_fault_text : WordsFault → List ℕ
-words_fault_text Words = codes "the words are not a command"
-words_fault_text (Value place) = codes "word " ++ decimal place ++ codes " is not a valid value"
-words_fault_text Memory = codes "out of memory"

@@ -42,11 +42,6 @@ impl From<Memory> for WordsFault {
 }
 
 impl fmt::Display for WordsFault {
-    ghost use Rattle.std.specs.Prelude.{Some};
-    ghost use Rattle.cli_words.specs.Faults.{words_fault_text};
-
-    ghost output = { λ fault. Some (words_fault_text fault) };
-
     fn fmt<W: fmt::Write>(&self, f: &mut fmt::Formatter<W>) -> fmt::Result {
         match self {
             WordsFault::Words => f.write_str("the words are not a command"),

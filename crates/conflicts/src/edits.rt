@@ -33,11 +33,6 @@ pub enum EditFault {
 }
 
 impl fmt::Display for EditFault {
-    ghost use Rattle.std.specs.Prelude.{Some};
-    ghost use Rattle.conflicts.specs.Faults.{edit_fault_text};
-
-    ghost output = { λ fault. Some (edit_fault_text fault) };
-
     fn fmt<W: fmt::Write>(&self, f: &mut fmt::Formatter<W>) -> fmt::Result {
         match self {
             EditFault::NoDocument => f.write_str("there is no such document"),

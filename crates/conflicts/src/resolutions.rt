@@ -37,11 +37,6 @@ pub enum ResolveFault {
 }
 
 impl fmt::Display for ResolveFault {
-    ghost use Rattle.std.specs.Prelude.{Some};
-    ghost use Rattle.conflicts.specs.Faults.{resolve_fault_text};
-
-    ghost output = { λ fault. Some (resolve_fault_text fault) };
-
     fn fmt<W: fmt::Write>(&self, f: &mut fmt::Formatter<W>) -> fmt::Result {
         match self {
             ResolveFault::NoDocument => f.write_str("there is no such document"),

@@ -37,11 +37,6 @@ impl From<Memory> for ContentFault {
 }
 
 impl fmt::Display for ContentFault {
-    ghost use Rattle.std.specs.Prelude.{Some};
-    ghost use Rattle.content.specs.Faults.{fault_text};
-
-    ghost output = { λ fault. Some (fault_text fault) };
-
     fn fmt<W: fmt::Write>(&self, f: &mut fmt::Formatter<W>) -> fmt::Result {
         match self {
             ContentFault::TooBig(length) => write!(

@@ -8,12 +8,6 @@ use Rattle.disk_model.specs.declared.file_fault.FileCall.{FileCall}
 use Rattle.disk_model.specs.declared.file_fault.FileCall.TheVariants.{Open, Lock, Make, MakeFolder, Read}
 use Rattle.disk_model.specs.declared.file_fault.FileCall.TheVariants.{Write, Cut, Sync, SyncName}
 use Rattle.disk_model.specs.declared.file_fault.FileFault.{FileFault}
-use Rattle.disk_model.specs.declared.synced.ReadFault.{ReadFault}
-use Rattle.disk_model.specs.declared.synced.ReadFault.TheVariants.{Disk, Memory}
-
-abbrev pub read_fault_text : ReadFault → List ℕ
-read_fault_text Disk = codes "the disk failed"
-read_fault_text Memory = codes "out of memory"
 
 -- what was tried
 abbrev pub tried_text : FileCall → List ℕ

@@ -6,10 +6,6 @@ use std::fmt;
 pub struct DiskFailed;
 
 impl fmt::Display for DiskFailed {
-    ghost use Rattle.std.specs.Prelude.{Some, codes};
-
-    ghost output = { λ _. Some (codes "the disk failed") };
-
     fn fmt<W: fmt::Write>(&self, f: &mut fmt::Formatter<W>) -> fmt::Result {
         f.write_str("the disk failed")
     }

@@ -25,11 +25,6 @@ pub enum ReadFault {
 }
 
 impl fmt::Display for ReadFault {
-    ghost use Rattle.std.specs.Prelude.{Some};
-    ghost use Rattle.disk_model.specs.Faults.{read_fault_text};
-
-    ghost output = { λ fault. Some (read_fault_text fault) };
-
     fn fmt<W: fmt::Write>(&self, f: &mut fmt::Formatter<W>) -> fmt::Result {
         match self {
             ReadFault::Disk => f.write_str("the disk failed"),

@@ -1,6 +1,5 @@
 -- What reading a text answers.
-use Rattle.std.specs.Prelude.{◌≡◌, ℕ, ◌<◌, ◌≤◌, List, ◌++◌, codes, length, Result, Ok, Err, encode_utf8_all}
-use Rattle.std.specs.Fmt.{decimal}
+use Rattle.std.specs.Prelude.{◌≡◌, ℕ, ◌<◌, ◌≤◌, List, ◌++◌, length, Result, Ok, Err, encode_utf8_all}
 use Rattle.std.specs.Str.{chars}
 use Rattle.expr_parser.specs.declared.expr.Expr.{Expr}
 use Rattle.expr_parser.specs.declared.fault.ParseFault.{ParseFault}
@@ -36,9 +35,3 @@ ReadsExpr text (Ok e) = (length text ≤ longest) × SpellsOnly (form_of e) (cha
 ReadsExpr text (Err TooLong) = longest < length text
 ReadsExpr text (Err (At place)) = IsWrongAt place text
 ReadsExpr text (Err Memory) = Unit {0}
-
--- what a fault prints
-abbrev pub fault_text : ParseFault → List ℕ
-fault_text TooLong = codes "the expression has more than " ++ decimal longest ++ codes " bytes"
-fault_text (At place) = codes "the expression goes wrong at byte " ++ decimal place
-fault_text Memory = codes "out of memory"

@@ -15,11 +15,6 @@ pub enum ParseFault {
 }
 
 impl fmt::Display for ParseFault {
-    ghost use Rattle.std.specs.Prelude.{Some};
-    ghost use Rattle.expr_parser.specs.Faults.{fault_text};
-
-    ghost output = { λ fault. Some (fault_text fault) };
-
     fn fmt<W: fmt::Write>(&self, f: &mut fmt::Formatter<W>) -> fmt::Result {
         match self {
             ParseFault::TooLong => {

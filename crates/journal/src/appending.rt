@@ -27,11 +27,6 @@ pub enum AppendFault {
 }
 
 impl fmt::Display for AppendFault {
-    ghost use Rattle.std.specs.Prelude.{Some};
-    ghost use Rattle.journal.specs.Faults.{append_fault_text};
-
-    ghost output = { λ fault. Some (append_fault_text fault) };
-
     fn fmt<W: fmt::Write>(&self, f: &mut fmt::Formatter<W>) -> fmt::Result {
         match self {
             AppendFault::Full { need, limit } => {

@@ -35,11 +35,6 @@ pub enum OpenFault {
 }
 
 impl fmt::Display for OpenFault {
-    ghost use Rattle.std.specs.Prelude.{Some};
-    ghost use Rattle.journal.specs.Faults.{open_fault_text};
-
-    ghost output = { λ fault. Some (open_fault_text fault) };
-
     fn fmt<W: fmt::Write>(&self, f: &mut fmt::Formatter<W>) -> fmt::Result {
         match self {
             OpenFault::Damaged(place) => write!(f, "the image is damaged at byte {place}"),

@@ -23,11 +23,6 @@ pub enum ImageFault {
 }
 
 impl fmt::Display for ImageFault {
-    ghost use Rattle.std.specs.Prelude.{Some};
-    ghost use Rattle.journal.specs.Faults.{image_fault_text};
-
-    ghost output = { λ fault. Some (image_fault_text fault) };
-
     fn fmt<W: fmt::Write>(&self, f: &mut fmt::Formatter<W>) -> fmt::Result {
         match self {
             ImageFault::Disk => f.write_str("the disk failed"),

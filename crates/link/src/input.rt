@@ -19,11 +19,6 @@ pub enum InputFault {
 }
 
 impl fmt::Display for InputFault {
-    ghost use Rattle.std.specs.Prelude.{Some};
-    ghost use Rattle.link.specs.Faults.{input_fault_text};
-
-    ghost output = { λ fault. Some (input_fault_text fault) };
-
     fn fmt<W: fmt::Write>(&self, f: &mut fmt::Formatter<W>) -> fmt::Result {
         match self {
             InputFault::Source => f.write_str("a read of the input failed"),

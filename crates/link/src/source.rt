@@ -12,10 +12,6 @@ use std::fmt;
 pub struct ReadFailed;
 
 impl fmt::Display for ReadFailed {
-    ghost use Rattle.std.specs.Prelude.{Some, codes};
-
-    ghost output = { λ _. Some (codes "a read failed") };
-
     fn fmt<W: fmt::Write>(&self, f: &mut fmt::Formatter<W>) -> fmt::Result {
         f.write_str("a read failed")
     }

@@ -14,11 +14,6 @@ pub enum PatternFault {
 }
 
 impl fmt::Display for PatternFault {
-    ghost use Rattle.std.specs.Prelude.{Some};
-    ghost use Rattle.query_range.specs.Faults.{pattern_fault_text};
-
-    ghost output = { λ fault. Some (pattern_fault_text fault) };
-
     fn fmt<W: fmt::Write>(&self, f: &mut fmt::Formatter<W>) -> fmt::Result {
         match self {
             PatternFault::WrongWidth => {

@@ -1,5 +1,4 @@
-use Rattle.std.specs.Prelude.{◌≡◌, ◌≤◌, ℕ, List, ◌++◌, codes, Result, Ok, Err}
-use Rattle.std.specs.Fmt.{decimal}
+use Rattle.std.specs.Prelude.{◌≡◌, ◌≤◌, ℕ, Result, Ok, Err}
 use Rattle.conflicts.specs.State.{Step}
 use Rattle.replica_state.specs.declared.step.Step.{Step as Held}
 use Rattle.replica_state.specs.Steps.{step_of}
@@ -29,8 +28,3 @@ abbrev pub IsBadWithin : {T : Type 0} → ℕ → Result T RecordFault → Type 
 IsBadWithin size (Ok read) = Unit {0}
 IsBadWithin size (Err (Bad place)) = place ≤ size
 IsBadWithin size (Err Memory) = Unit {0}
-
--- what a fault prints
-abbrev pub record_fault_text : RecordFault → List ℕ
-record_fault_text (Bad place) = codes "the body cannot be read from byte " ++ (decimal place ++ codes " on")
-record_fault_text Memory = codes "out of memory"

@@ -35,11 +35,6 @@ pub enum RecordFault {
 }
 
 impl fmt::Display for RecordFault {
-    ghost use Rattle.std.specs.Prelude.{Some};
-    ghost use Rattle.record_codec.specs.Decoding.{record_fault_text};
-
-    ghost output = { λ fault. Some (record_fault_text fault) };
-
     fn fmt<W: fmt::Write>(&self, f: &mut fmt::Formatter<W>) -> fmt::Result {
         match self {
             RecordFault::Bad(place) => write!(f, "the body cannot be read from byte {place} on"),

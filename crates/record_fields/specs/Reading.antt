@@ -1,5 +1,4 @@
-use Rattle.std.specs.Prelude.{◌≡◌, ℕ, List, ◌++◌, codes, map, Result, Ok, Err}
-use Rattle.std.specs.Fmt.{decimal}
+use Rattle.std.specs.Prelude.{◌≡◌, ℕ, List, map, Result, Ok, Err}
 use Rattle.expr_parser.specs.declared.expr.Expr.{Expr}
 use Rattle.expr_parser.specs.FormOf.{form_of}
 use Rattle.expr_parser.specs.Canonical.{canonical}
@@ -20,8 +19,3 @@ Reads view read (Err e) behind = Stops read e
 
 abbrev pub texts_of : List Expr → List Text
 texts_of es = map canonical (map form_of es)
-
--- what a stop prints
-abbrev pub stop_text : Stop → List ℕ
-stop_text (Bad left) = codes "no field can be read " ++ (decimal left ++ codes " bytes before the end")
-stop_text Memory = codes "out of memory"

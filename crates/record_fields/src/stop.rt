@@ -11,11 +11,6 @@ pub enum Stop {
 }
 
 impl fmt::Display for Stop {
-    ghost use Rattle.std.specs.Prelude.{Some};
-    ghost use Rattle.record_fields.specs.Reading.{stop_text};
-
-    ghost output = { λ stop. Some (stop_text stop) };
-
     fn fmt<W: fmt::Write>(&self, f: &mut fmt::Formatter<W>) -> fmt::Result {
         match self {
             Stop::Bad(left) => write!(f, "no field can be read {left} bytes before the end"),

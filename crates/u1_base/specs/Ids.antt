@@ -1,8 +1,7 @@
 -- Which texts are ids, which id a text is, and why another text is none.
 use Rattle.std.specs.Prelude.{◌≡◌, ◌≢◌, ◌↔◌, ℕ, ◌<◌, ◌≤◌, ◌==◌, ◌||◌, ◌&&◌, nat_le, Bool, true, IsTrue, not, List, []}
-use Rattle.std.specs.Prelude.{◌++◌, codes, length, position, Option, Some, None, Result, Ok, Err, if◌then◌else◌}
+use Rattle.std.specs.Prelude.{length, position, Option, Some, None, Result, Ok, Err, if◌then◌else◌}
 use Rattle.std.specs.List.{list_all}
-use Rattle.std.specs.Fmt.{decimal}
 use Rattle.std.specs.Ordering.{nat_cmp, eq_by_cmp}
 use Rattle.std.specs.declared.cmp.Ordering.{Ordering}
 use Rattle.std.specs.Cmp.Lexicographic.{slice_cmp}
@@ -51,13 +50,6 @@ IsFault form text (BadByte at) =
     (1 ≤ length text) × (length text ≤ longest form)
     × (position (λ b. not (is_allowed form b)) text ≡ Some at)
 IsFault form text Memory = Unit {0}
-
--- what a fault prints
-abbrev pub id_fault_text : IdFault → List ℕ
-id_fault_text Empty = codes "the id is empty"
-id_fault_text (TooLong n) = codes "the id has " ++ decimal n ++ codes " bytes, which is too long"
-id_fault_text (BadByte at) = codes "byte " ++ decimal at ++ codes " of the id is not allowed in it"
-id_fault_text Memory = codes "out of memory"
 
 -- a reader answers the id that the text is; at a fault there is none, unless memory ran out, and the fault says why
 abbrev pub ReadsId : Form → List ℕ → Result (List ℕ) IdFault → Type 0

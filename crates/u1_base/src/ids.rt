@@ -48,11 +48,6 @@ impl From<Memory> for IdFault {
 }
 
 impl fmt::Display for IdFault {
-    ghost use Rattle.std.specs.Prelude.{Some};
-    ghost use Rattle.u1_base.specs.Ids.{id_fault_text};
-
-    ghost output = { λ fault. Some (id_fault_text fault) };
-
     fn fmt<W: fmt::Write>(&self, f: &mut fmt::Formatter<W>) -> fmt::Result {
         match self {
             IdFault::Empty => f.write_str("the id is empty"),

@@ -1,6 +1,6 @@
 -- How a clock is written, which clock a text spells, and why another text spells none.
 use Rattle.std.specs.Prelude.{◌≡◌, ◌≢◌, ℕ, ◌+◌, ◌<◌, ◌≤◌, ◌==◌, Bool, false, not, ◌&&◌, IsTrue, nat_le, List, [], ◌∷◌}
-use Rattle.std.specs.Prelude.{◌++◌, codes, length, map, take, position, slice_index, Option, Some, None, Result, Ok}
+use Rattle.std.specs.Prelude.{◌++◌, length, map, take, position, slice_index, Option, Some, None, Result, Ok}
 use Rattle.std.specs.Prelude.{Err, if◌then◌else◌}
 use Rattle.std.specs.List.{list_all, join_with_byte, slice_split, before_first, after_first}
 use Rattle.std.specs.Char.{is_ascii_digit}
@@ -68,14 +68,6 @@ IsTextFault text Memory = Unit {0}
 -- the clock that a text spells, if it spells one: each part is an entry, and together they are a clock's
 abbrev pub clock_in : List ℕ → Option Clock
 clock_in text = if list_all is_entry_text (parts_of text) then clock_of (map entry_of (parts_of text)) else None
-
--- what a fault prints
-abbrev pub clock_fault_text : ClockFault → List ℕ
-clock_fault_text Empty = codes "the clock has no entry"
-clock_fault_text TooMany = codes "the clock has more than " ++ decimal MOST_CLOCK_ENTRIES ++ codes " entries"
-clock_fault_text (BadEntry i) = codes "entry " ++ decimal i ++ codes " of the clock is not a replica uid with a counter"
-clock_fault_text (NotSorted i) = codes "entry " ++ decimal i ++ codes " of the clock is not above the one before it"
-clock_fault_text Memory = codes "out of memory"
 
 -- a reader answers the clock that the text spells; at a fault there is none, unless memory ran out, and the fault says
 -- why

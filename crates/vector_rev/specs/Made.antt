@@ -1,7 +1,6 @@
 -- The clocks that are made of others: by counters, and when there is none.
-use Rattle.std.specs.Prelude.{◌≡◌, ◌≢◌, ℕ, ◌+◌, ◌<◌, max, ◌⊎◌, length, filter, is_none, List, codes, Result, Ok}
-use Rattle.std.specs.Prelude.{Err, ◌++◌}
-use Rattle.std.specs.Fmt.{decimal}
+use Rattle.std.specs.Prelude.{◌≡◌, ◌≢◌, ℕ, ◌+◌, ◌<◌, max, ◌⊎◌, length, filter, is_none, Result, Ok}
+use Rattle.std.specs.Prelude.{Err}
 use Rattle.std.specs.FinMap.Entries.{find}
 use Rattle.u1_base.specs.declared.limits.TheConstants.{GREATEST_COUNT, MOST_CLOCK_ENTRIES}
 use Rattle.vector_rev.specs.Counts.{Uid}
@@ -45,13 +44,3 @@ Raises x own (Err next_fault.Memory) = Unit {0}
 pub record IsFirst (own : Uid) (z : Clock) : Type 0 where
   pub one : count_of z own ≡ 1
   pub others : (u : Uid) → u ≢ own → count_of z u ≡ 0
-
--- what the faults print
-abbrev pub join_fault_text : JoinFault → List ℕ
-join_fault_text join_fault.TooMany =
-    codes "more than " ++ decimal MOST_CLOCK_ENTRIES ++ codes " replicas occur in the two clocks"
-join_fault_text join_fault.Memory = codes "out of memory"
-
-abbrev pub next_fault_text : NextFault → List ℕ
-next_fault_text next_fault.ClockFull = codes "the clock cannot count this replica further"
-next_fault_text next_fault.Memory = codes "out of memory"

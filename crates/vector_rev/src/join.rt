@@ -28,11 +28,6 @@ pub enum NextFault {
 }
 
 impl fmt::Display for JoinFault {
-    ghost use Rattle.std.specs.Prelude.{Some};
-    ghost use Rattle.vector_rev.specs.Made.{join_fault_text};
-
-    ghost output = { λ fault. Some (join_fault_text fault) };
-
     fn fmt<W: fmt::Write>(&self, f: &mut fmt::Formatter<W>) -> fmt::Result {
         match self {
             JoinFault::TooMany => {
@@ -49,11 +44,6 @@ impl fmt::Display for JoinFault {
 impl Error for JoinFault {}
 
 impl fmt::Display for NextFault {
-    ghost use Rattle.std.specs.Prelude.{Some};
-    ghost use Rattle.vector_rev.specs.Made.{next_fault_text};
-
-    ghost output = { λ fault. Some (next_fault_text fault) };
-
     fn fmt<W: fmt::Write>(&self, f: &mut fmt::Formatter<W>) -> fmt::Result {
         match self {
             NextFault::ClockFull => f.write_str("the clock cannot count this replica further"),

@@ -38,11 +38,6 @@ pub enum ClockFault {
 }
 
 impl fmt::Display for ClockFault {
-    ghost use Rattle.std.specs.Prelude.{Some};
-    ghost use Rattle.vector_rev.specs.ClockText.{clock_fault_text};
-
-    ghost output = { λ fault. Some (clock_fault_text fault) };
-
     fn fmt<W: fmt::Write>(&self, f: &mut fmt::Formatter<W>) -> fmt::Result {
         match self {
             ClockFault::Empty => f.write_str("the clock has no entry"),
