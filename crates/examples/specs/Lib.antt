@@ -1,4 +1,3 @@
 pub mod Printed
-pub mod Faults
 pub mod Notes
 pub mod Tags

@@ -26,11 +26,6 @@ pub enum PrintFault {
 }
 
 impl fmt::Display for PrintFault {
-    ghost use Rattle.std.specs.Prelude.{Some};
-    ghost use Rattle.examples.specs.Faults.{print_fault_text};
-
-    ghost output = { λ fault. Some (print_fault_text fault) };
-
     fn fmt<W: fmt::Write>(&self, f: &mut fmt::Formatter<W>) -> fmt::Result {
         match self {
             PrintFault::Content(fault) => fmt::Display::fmt(fault, f),
