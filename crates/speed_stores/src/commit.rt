@@ -1,6 +1,6 @@
-//! Commits on disks in memory, one by one or a batch together, beside the same writes and syncs of
-//! one such disk alone. What is committed or written is made right before, as a command makes it: a
-//! batch at a time.
+//! Commits on disks in memory, one by one or a batch together, beside the same bytes written to one
+//! such disk alone, with the two writes and the two syncs of each entry. What is committed or written
+//! is made right before, as a command makes it: a batch at a time.
 ghost use Rattle.std.specs.Prelude.{OnOk};
 
 use crate::image::{behind_header, first_entry};
@@ -27,7 +27,7 @@ pub fn measure(
     let mut volume = store(rt.alloc())?;
     let ours = committed(rt, &mut volume, size, grouped);
     let image = image_of(rt.alloc(), &volume.into_disks())?;
-    let peer = written(rt, image.as_slice(), grouped)?;
+    let peer = written(rt, image.as_slice())?;
     Ok(Report {
         name,
         size,
@@ -74,12 +74,12 @@ fn kept<R: Replica>(
 // ---- the same writes and syncs
 
 // Times the peer, which begins with the header and a closed gate, and has to leave the same image.
-fn written(rt: &HostRuntime, image: &[u8], grouped: bool) -> Result<Duration, Fault> {
+fn written(rt: &HostRuntime, image: &[u8]) -> Result<Duration, Fault> {
     let entries = behind_header(image);
     let header = image.len().saturating_sub(entries.len());
     let mut disk = disk_of(rt.alloc(), image.get(..header).unwrap_or(image))?;
     write(&mut disk, header, &[0])?;
-    let peer = write_entries(rt, &mut disk, entries, grouped)?;
+    let peer = write_entries(rt, &mut disk, entries)?;
     if disk.bytes() == image {
         Ok(peer)
     } else {
@@ -87,21 +87,12 @@ fn written(rt: &HostRuntime, image: &[u8], grouped: bool) -> Result<Duration, Fa
     }
 }
 
-fn write_entries(
-    rt: &HostRuntime,
-    disk: &mut MemDisk,
-    entries: &[u8],
-    grouped: bool,
-) -> Result<Duration, Fault> {
+fn write_entries(rt: &HostRuntime, disk: &mut MemDisk, entries: &[u8]) -> Result<Duration, Fault> {
     let mut time = Duration::ZERO;
     let mut rest = entries;
     for _ in 0..entries.len() {
         let mut pieces = Vec::new(rt.alloc());
-        rest = if grouped {
-            add_group(rt.alloc(), &mut pieces, rest)?
-        } else {
-            add_pieces(rt.alloc(), &mut pieces, rest)?
-        };
+        rest = add_pieces(rt.alloc(), &mut pieces, rest)?;
         if pieces.is_empty() {
             break;
         }
@@ -126,27 +117,6 @@ fn add_pieces<'a>(
         };
         pieces.push(piece_of(alloc, entry)?)?;
         rest = others;
-    }
-    Ok(rest)
-}
-
-// Adds what is written after the gate of the first of so many of these entries, as one piece, if
-// there is an entry: between the others stand open gates, and behind the last a closed one.
-fn add_group<'a>(
-    alloc: Global,
-    pieces: &mut Vec<Vec<u8>>,
-    entries: &'a [u8],
-) -> Result<&'a [u8], Fault> {
-    let mut rest = entries;
-    for _ in 0..BATCH {
-        let Some((_, others)) = first_entry(rest) else {
-            break;
-        };
-        rest = others;
-    }
-    let length = entries.len().saturating_sub(rest.len());
-    if let Some(group) = entries.get(1..length) {
-        pieces.push(piece_of(alloc, group)?)?;
     }
     Ok(rest)
 }
