@@ -9,7 +9,7 @@ ghost use Rattle.replica_state.specs.Waiting.{accepting};
 ghost use Rattle.replica_state.specs.declared.step.Step.{Step};
 ghost use Rattle.u1_base.specs.Ids.{same_id};
 
-use crate::places::{put_place, reserve_place};
+use crate::places::put_place;
 use crate::prepared::{Parts, Prepared};
 use crate::state::State;
 use conflicts::{Accept, Move};
@@ -47,8 +47,7 @@ impl State {
             (meaning self.new ≡ after (meaning self.old) (Gone doc trans moved)) }
         ensures indexes { (n : Text) → (meaning self.new).index n ≡ (meaning self.old).index n }
     {
-        self.log.reserve()?;
-        reserve_place(&mut self.known, &mut self.told, &moved)?;
+        self.reserve_entry(&moved)?;
         self.log.push(Entry { doc, trans });
         put_place(&mut self.known, &mut self.told, moved);
         Ok(())

@@ -3,12 +3,27 @@ ghost use Rattle.std.specs.Prelude.{◌≡◌, ◌≤◌, IfSome, OnOk, Some};
 ghost use Rattle.std.specs.FinMap.Entries.{put};
 ghost use Rattle.u1_base.specs.Ids.{id_cmp};
 ghost use Rattle.conflicts.specs.declared.moves.PosTable.TheVariants as which;
-ghost use Rattle.replica_state.specs.Held.{chosen};
+ghost use Rattle.replica_state.specs.Held.{chosen, lists_of};
 ghost use Rattle.replica_state.specs.Prepared.{places_with};
 
+use crate::state::State;
 use conflicts::{Move, PosTable};
 use doc_table::Table;
 use u1_base::{Memory, Position, Replica, ReplicaUid};
+
+impl State {
+    /// Makes room for an entry of the log and for the place of a move. What the state stands for
+    /// does not change, at an error either.
+    pub(crate) fn reserve_entry(&mut self, moved: &Option<Move>) -> Result<(), Memory>
+        ensures lists { lists_of self.new ≡ lists_of self.old }
+        ensures entry { OnOk result (1 ≤ self.new.log.room) }
+        ensures place { OnOk result
+            (IfSome moved.now (λ m. 1 ≤ (chosen m.table self.new.known self.new.told).room)) }
+    {
+        self.log.reserve()?;
+        reserve_place(&mut self.known, &mut self.told, moved)
+    }
+}
 
 /// Makes room for the place of a move.
 pub(crate) fn reserve_place(

@@ -57,8 +57,7 @@ impl State {
         ensures parts { IfOk result (IsPartsOf self.new (steps.Accept doc accept trans moved)) }
         ensures ready { IfOk result (IsReady self.new) }
     {
-        self.log.reserve()?;
-        reserve_place(&mut self.known, &mut self.told, &moved)?;
+        self.reserve_entry(&moved)?;
         let replacement = self.collection.accept(&doc, accept)?;
         let parts = Parts {
             replacement,
@@ -78,8 +77,7 @@ impl State {
         ensures parts { IfOk result (IsPartsOf self.new (steps.Gone doc trans moved)) }
         ensures ready { IfOk result (IsReady self.new) }
     {
-        self.log.reserve()?;
-        reserve_place(&mut self.known, &mut self.told, &moved)?;
+        self.reserve_entry(&moved)?;
         let parts = Parts {
             replacement: Replacement::Nothing,
             entry: Some(Entry { doc, trans }),

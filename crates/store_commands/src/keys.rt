@@ -9,10 +9,9 @@ ghost use Rattle.store_commands.specs.Carries.{Carries};
 ghost use Rattle.store_commands.specs.Deeds.{over_replica};
 
 use crate::Ended;
-use crate::uncounted::distinct_keys;
 use command_lines::{Outcome, PrintFault, Refusal, print_key};
 use link::Sink;
-use replica_core::{Replica, index_table};
+use replica_core::{Replica, index_table, list_index_keys};
 use std::alloc::Global;
 use u1_base::{IndexName, Key};
 
@@ -26,7 +25,7 @@ pub fn keys<R: Replica, K: Sink>(alloc: Global, name: &IndexName, replica: &R, o
     let Some(index) = index_table(replica.state(), name) else {
         return Err(Outcome::Refused(Refusal::IndexUnknown));
     };
-    let keys = distinct_keys(alloc, index)?;
+    let keys = list_index_keys(alloc, index)?;
     Ok(print_keys(alloc, keys.as_slice(), out)?)
 }
 

@@ -28,7 +28,6 @@ mod range;
 mod resolve;
 mod store;
 mod top;
-mod uncounted;
 
 use command_lines::Outcome;
 pub use memory::{MemOpened, MemStore};

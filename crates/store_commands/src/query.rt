@@ -6,10 +6,9 @@ ghost use Rattle.store_commands.specs.Deeds.{over_replica};
 
 use crate::Ended;
 use crate::listing::print_documents;
-use crate::uncounted::queried_ids;
 use command_lines::{Outcome, Refusal};
 use link::Sink;
-use replica_core::{Replica, index_table};
+use replica_core::{Replica, index_table, query_index};
 use std::alloc::Global;
 use u1_base::{IndexName, Text};
 
@@ -29,6 +28,6 @@ pub fn query<R: Replica, K: Sink>(
     let Some(index) = index_table(replica.state(), name) else {
         return Err(Outcome::Refused(Refusal::IndexUnknown));
     };
-    let ids = queried_ids(alloc, index, values)?;
+    let ids = query_index(alloc, index, values)?;
     Ok(print_documents(replica.state(), false, ids.as_slice(), out)?)
 }

@@ -6,10 +6,9 @@ ghost use Rattle.store_commands.specs.Deeds.{over_replica};
 
 use crate::Ended;
 use crate::listing::print_documents;
-use crate::uncounted::ranged_ids;
 use command_lines::{Outcome, Refusal};
 use link::Sink;
-use replica_core::{Replica, index_table};
+use replica_core::{Replica, index_table, query_index_range};
 use std::alloc::Global;
 use u1_base::{IndexName, Key};
 
@@ -32,6 +31,6 @@ pub fn range<R: Replica, K: Sink>(
     let Some(index) = index_table(replica.state(), name) else {
         return Err(Outcome::Refused(Refusal::IndexUnknown));
     };
-    let ids = ranged_ids(alloc, index, start.as_ref(), end.as_ref())?;
+    let ids = query_index_range(alloc, index, start.as_ref(), end.as_ref())?;
     Ok(print_documents(replica.state(), false, ids.as_slice(), out)?)
 }

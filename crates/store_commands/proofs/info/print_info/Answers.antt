@@ -68,8 +68,8 @@ returns-in_err-print_now g c =
     (head_broke (Now at) (known_lines known ++ told_lines told) (k c.print_database.new.out)
     (k c.print_now.new.out) c.in_err-print_now.field-0.0 c.in_err-print_now.ensures))))
 
-pub returns-in_err-print_all_known : goal.returns-in_err-print_all_known
-returns-in_err-print_all_known g c =
+pub returns-in_err-print_places : goal.returns-in_err-print_places
+returns-in_err-print_places g c =
     let k = g.K.Sink.known in
     let st = c.args.state.now in
     let uid = c.uid.result.now in
@@ -77,22 +77,22 @@ returns-in_err-print_all_known g c =
     let at = c.args.at.now in
     let known = c.positions.result.now.pairs in
     let told = st.told.pairs in
-    let p = err_from_is_err_and c.from_residual-in_err-print_all_known.result
-    c.from_residual-in_err-print_all_known.ensures.1 in
+    let p = err_from_is_err_and c.from_residual-in_err-print_places.result
+    c.from_residual-in_err-print_places.ensures.1 in
     rw (p.1, p.2)
-    (puts_as _ _ (k c.args.out.now) (k c.print_all_known.new.out) (Err c.in_err-print_all_known.field-0.0)
+    (puts_as _ _ (k c.args.out.now) (k c.print_places.new.out) (Err c.in_err-print_places.field-0.0)
     (same_info uid st.uid name st.name at known st.known.pairs told st.told.pairs c.uid.ensures c.name.ensures
     (ap (λ (t : Listed Place). t.pairs) c.positions.ensures) refl)
     (head_then (OfReplica uid) (OfDatabase name ∷ Now at ∷ known_lines known ++ told_lines told) (k c.args.out.now)
-    (k c.print_replica.new.out) (k c.print_all_known.new.out)
-    (Err c.in_err-print_all_known.field-0.0) c.in_ok-print_replica.ensures
+    (k c.print_replica.new.out) (k c.print_places.new.out)
+    (Err c.in_err-print_places.field-0.0) c.in_ok-print_replica.ensures
     (head_then (OfDatabase name) (Now at ∷ known_lines known ++ told_lines told) (k c.print_replica.new.out)
-    (k c.print_database.new.out) (k c.print_all_known.new.out)
-    (Err c.in_err-print_all_known.field-0.0) c.in_ok-print_database.ensures
+    (k c.print_database.new.out) (k c.print_places.new.out)
+    (Err c.in_err-print_places.field-0.0) c.in_ok-print_database.ensures
     (head_then (Now at) (known_lines known ++ told_lines told) (k c.print_database.new.out) (k c.print_now.new.out)
-    (k c.print_all_known.new.out) (Err c.in_err-print_all_known.field-0.0) c.in_ok-print_now.ensures
+    (k c.print_places.new.out) (Err c.in_err-print_places.field-0.0) c.in_ok-print_now.ensures
     (front_broke (known_lines known) (told_lines told) (k c.print_now.new.out)
-    (k c.print_all_known.new.out) c.in_err-print_all_known.field-0.0 c.in_err-print_all_known.ensures)))))
+    (k c.print_places.new.out) c.in_err-print_places.field-0.0 c.in_err-print_places.ensures)))))
 
 pub returns : goal.returns
 returns g c =
@@ -103,14 +103,14 @@ returns g c =
     let at = c.args.at.now in
     let known = c.positions.result.now.pairs in
     let told = c.positions-2.result.now.pairs in
-    puts_as _ _ (k c.args.out.now) (k c.print_all_told.new.out) c.print_all_told.result
+    puts_as _ _ (k c.args.out.now) (k c.print_places-2.new.out) c.print_places-2.result
     (same_info uid st.uid name st.name at known st.known.pairs told st.told.pairs c.uid.ensures c.name.ensures
     (ap (λ (t : Listed Place). t.pairs) c.positions.ensures) (ap (λ (t : Listed Place). t.pairs) c.positions-2.ensures))
     (head_then (OfReplica uid) (OfDatabase name ∷ Now at ∷ known_lines known ++ told_lines told) (k c.args.out.now)
-    (k c.print_replica.new.out) (k c.print_all_told.new.out) c.print_all_told.result c.in_ok-print_replica.ensures
+    (k c.print_replica.new.out) (k c.print_places-2.new.out) c.print_places-2.result c.in_ok-print_replica.ensures
     (head_then (OfDatabase name) (Now at ∷ known_lines known ++ told_lines told) (k c.print_replica.new.out)
-    (k c.print_database.new.out) (k c.print_all_told.new.out) c.print_all_told.result c.in_ok-print_database.ensures
+    (k c.print_database.new.out) (k c.print_places-2.new.out) c.print_places-2.result c.in_ok-print_database.ensures
     (head_then (Now at) (known_lines known ++ told_lines told) (k c.print_database.new.out) (k c.print_now.new.out)
-    (k c.print_all_told.new.out) c.print_all_told.result c.in_ok-print_now.ensures
-    (both_then (known_lines known) (told_lines told) (k c.print_now.new.out) (k c.print_all_known.new.out)
-    (k c.print_all_told.new.out) c.print_all_told.result c.in_ok-print_all_known.ensures c.print_all_told.ensures))))
+    (k c.print_places-2.new.out) c.print_places-2.result c.in_ok-print_now.ensures
+    (both_then (known_lines known) (told_lines told) (k c.print_now.new.out) (k c.print_places.new.out)
+    (k c.print_places-2.new.out) c.print_places-2.result c.in_ok-print_places.ensures c.print_places-2.ensures))))

@@ -42,7 +42,8 @@ returns-in_err-print_keys g c =
     (over_found ((meaning_of l).index c.args.name.now) exprs
     (λ exprs. prints (map Keyed (keys_by (keyed exprs l.docs)))) lent.0
     ∙ ap (λ (ks : List Key). over_replica (prints (map Keyed ks)))
-    (sym (c.as_slice.ensures ∙ c.in_ok-keys.ensures (r.known c.args.replica.now).state.collection.docs lent.1)))
+    (sym (c.as_slice.ensures
+    ∙ c.in_ok-keys.ensures.documents (r.known c.args.replica.now).state.collection.docs lent.1)))
     (k c.args.out.now) (k c.print_keys.new.out) c.in_err-print_keys.field-0.0
     c.in_err-print_keys.ensures)
 
@@ -58,6 +59,7 @@ returns g c =
     (over_found ((meaning_of l).index c.args.name.now) exprs
     (λ exprs. prints (map Keyed (keys_by (keyed exprs l.docs)))) lent.0
     ∙ ap (λ (ks : List Key). over_replica (prints (map Keyed ks)))
-    (sym (c.as_slice.ensures ∙ c.in_ok-keys.ensures (r.known c.args.replica.now).state.collection.docs lent.1)))
+    (sym (c.as_slice.ensures
+    ∙ c.in_ok-keys.ensures.documents (r.known c.args.replica.now).state.collection.docs lent.1)))
     (k c.args.out.now) (k c.print_keys.new.out)
     c.in_ok-print_keys.ensures

@@ -31,7 +31,7 @@ returns-in_err-ids g c =
     (queried exprs l.docs c.args.values.now) c.in_err-ids.field-0.0 (k c.args.out.now)
     (over_found ((meaning_of l).index c.args.name.now) exprs
     (λ exprs. answer_effect l (queried exprs l.docs c.args.values.now)) lent.0)
-    (c.in_err-ids.ensures (r.known c.args.replica.now).state.collection.docs lent.1))
+    (c.in_err-ids.ensures.documents (r.known c.args.replica.now).state.collection.docs lent.1))
 
 pub returns-in_err-print_documents : goal.returns-in_err-print_documents
 returns-in_err-print_documents g c =
@@ -51,7 +51,7 @@ returns-in_err-print_documents g c =
     (queried exprs l.docs c.args.values.now) c.in_ok-ids.ids
     (over_found ((meaning_of l).index c.args.name.now) exprs
     (λ exprs. answer_effect l (queried exprs l.docs c.args.values.now)) lent.0)
-    (c.in_ok-ids.ensures (r.known c.args.replica.now).state.collection.docs lent.1)))
+    (c.in_ok-ids.ensures.documents (r.known c.args.replica.now).state.collection.docs lent.1)))
     (k c.args.out.now) (k c.print_documents.new.out) c.in_err-print_documents.field-0.0
     c.in_err-print_documents.ensures)
 
@@ -70,5 +70,5 @@ returns g c =
     (queried exprs l.docs c.args.values.now) c.in_ok-ids.ids
     (over_found ((meaning_of l).index c.args.name.now) exprs
     (λ exprs. answer_effect l (queried exprs l.docs c.args.values.now)) lent.0)
-    (c.in_ok-ids.ensures (r.known c.args.replica.now).state.collection.docs lent.1)))
+    (c.in_ok-ids.ensures.documents (r.known c.args.replica.now).state.collection.docs lent.1)))
     (k c.args.out.now) (k c.print_documents.new.out) c.in_ok-print_documents.ensures

@@ -35,7 +35,7 @@ returns-in_err-ids g c =
     (over_found ((meaning_of l).index c.args.name.now) exprs
     (λ exprs. answer_effect l (ranged exprs l.docs c.args.start.now c.args.end.now)) lent.0
     ∙ ranged_so l exprs c.args.start.now c.args.end.now start end c.as_ref.ensures.value c.as_ref-2.ensures.value)
-    (c.in_err-ids.ensures (r.known c.args.replica.now).state.collection.docs lent.1))
+    (c.in_err-ids.ensures.documents (r.known c.args.replica.now).state.collection.docs lent.1))
 
 pub returns-in_err-print_documents : goal.returns-in_err-print_documents
 returns-in_err-print_documents g c =
@@ -58,7 +58,7 @@ returns-in_err-print_documents g c =
     (over_found ((meaning_of l).index c.args.name.now) exprs
     (λ exprs. answer_effect l (ranged exprs l.docs c.args.start.now c.args.end.now)) lent.0
     ∙ ranged_so l exprs c.args.start.now c.args.end.now start end c.as_ref.ensures.value c.as_ref-2.ensures.value)
-    (c.in_ok-ids.ensures (r.known c.args.replica.now).state.collection.docs lent.1)))
+    (c.in_ok-ids.ensures.documents (r.known c.args.replica.now).state.collection.docs lent.1)))
     (k c.args.out.now) (k c.print_documents.new.out) c.in_err-print_documents.field-0.0
     c.in_err-print_documents.ensures)
 
@@ -80,5 +80,5 @@ returns g c =
     (over_found ((meaning_of l).index c.args.name.now) exprs
     (λ exprs. answer_effect l (ranged exprs l.docs c.args.start.now c.args.end.now)) lent.0
     ∙ ranged_so l exprs c.args.start.now c.args.end.now start end c.as_ref.ensures.value c.as_ref-2.ensures.value)
-    (c.in_ok-ids.ensures (r.known c.args.replica.now).state.collection.docs lent.1)))
+    (c.in_ok-ids.ensures.documents (r.known c.args.replica.now).state.collection.docs lent.1)))
     (k c.args.out.now) (k c.print_documents.new.out) c.in_ok-print_documents.ensures

@@ -4,55 +4,27 @@ use Rattle.replica_state.specs.Held.{named}
 use Rattle.replica_state.proofs.Steps.{accept_parts}
 use Rattle.replica_state.proofs.state.State.prepare_accept.Goals as goal
 
-pub returns-in_err-reserve-clause-lists : goal.returns-in_err-reserve-clause-lists
-returns-in_err-reserve-clause-lists c =
-    rw (← c.self.view_is) (λ i. record {
-      name = c.self.inside.name;
-      uid = c.self.inside.uid;
-      docs =
-          c.self.inside.collection.docs.pairs;
-      log = c.reserve.ensures.entries i;
-      known = c.self.inside.known.pairs;
-      told = c.self.inside.told.pairs;
-      indexes = named c.self.inside.collection.indexes;
-    })
-
-pub returns-in_err-reserve_place-clause-lists : goal.returns-in_err-reserve_place-clause-lists
-returns-in_err-reserve_place-clause-lists c =
-    rw (← c.self.view_is) (λ i. record {
-      name = c.self.inside.name;
-      uid = c.self.inside.uid;
-      docs =
-          c.self.inside.collection.docs.pairs;
-      log = c.reserve.ensures.entries i;
-      known = c.reserve_place.ensures.known i;
-      told = c.reserve_place.ensures.told i;
-      indexes = named c.self.inside.collection.indexes;
-    })
-
 pub returns-in_err-replacement-clause-lists : goal.returns-in_err-replacement-clause-lists
 returns-in_err-replacement-clause-lists c =
-    rw (← c.self.view_is) (λ i. record {
+    rw (← c.reserve_entry.ensures.lists, ← c.self.view_is) (λ i. record {
       name = c.self.inside.name;
       uid = c.self.inside.uid;
-      docs =
-          c.accept.ensures.docs i;
-      log = c.reserve.ensures.entries i;
-      known = c.reserve_place.ensures.known i;
-      told = c.reserve_place.ensures.told i;
+      docs = c.accept.ensures.docs i;
+      log = c.self.inside.log.entries;
+      known = c.self.inside.known.pairs;
+      told = c.self.inside.told.pairs;
       indexes = c.accept.ensures.indexes i;
     })
 
 pub returns-clause-lists : goal.returns-clause-lists
 returns-clause-lists c =
-    rw (← c.self.view_is) (λ i. record {
+    rw (← c.reserve_entry.ensures.lists, ← c.self.view_is) (λ i. record {
       name = c.self.inside.name;
       uid = c.self.inside.uid;
-      docs =
-          c.accept.ensures.docs i;
-      log = c.reserve.ensures.entries i;
-      known = c.reserve_place.ensures.known i;
-      told = c.reserve_place.ensures.told i;
+      docs = c.accept.ensures.docs i;
+      log = c.self.inside.log.entries;
+      known = c.self.inside.known.pairs;
+      told = c.self.inside.told.pairs;
       indexes = c.accept.ensures.indexes i;
     })
 
@@ -63,19 +35,19 @@ returns-clause-parts c =
       name = c.self.inside.name;
       uid = c.self.inside.uid;
       docs = c.accept.new.self.docs.pairs;
-      log = c.reserve.new.self.entries;
-      known = c.reserve_place.new.known.pairs;
-      told = c.reserve_place.new.told.pairs;
+      log = c.self.inside.log.entries;
+      known = c.self.inside.known.pairs;
+      told = c.self.inside.told.pairs;
       indexes = named c.accept.new.self.indexes;
     })
-    c.in_ok-replacement.replacement c.args.doc c.args.accept c.args.trans c.args.moved c.in_ok-replacement.ensures.after)) c.of.ensures
+    c.in_ok-replacement.replacement c.args.doc c.args.accept c.args.trans c.args.moved
+    c.in_ok-replacement.ensures.after)) c.of.ensures
 
 pub returns-clause-ready : goal.returns-clause-ready
 returns-clause-ready c =
     IfOk-weaker c.of.result _ _ (λ prepared is. rw (is)
     (record {
       collection = c.in_ok-replacement.ensures.ready;
-      log = c.in_ok-reserve.ensures.room;
-      moved =
-          c.in_ok-reserve_place.ensures.room;
+      log = rw (← c.self.view_is) at c.in_ok-reserve_entry.ensures.entry;
+      moved = rw (← c.self.view_is) at c.in_ok-reserve_entry.ensures.place;
     })) c.of.ensures

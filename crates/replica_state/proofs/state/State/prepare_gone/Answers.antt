@@ -1,64 +1,22 @@
 -- Only the room changes, and what is prepared are the parts of the step.
 use Rattle.std.proofs.lemmas.Result.{IfOk-weaker}
-use Rattle.replica_state.specs.Held.{named}
+use Rattle.replica_state.specs.Held.{lists_of}
 use Rattle.replica_state.proofs.Steps.{gone_parts}
 use Rattle.replica_state.proofs.state.State.prepare_gone.Goals as goal
 
-pub returns-in_err-reserve-clause-lists : goal.returns-in_err-reserve-clause-lists
-returns-in_err-reserve-clause-lists c =
-    rw (← c.self.view_is) (λ i. record {
-      name = c.self.inside.name;
-      uid = c.self.inside.uid;
-      docs =
-          c.self.inside.collection.docs.pairs;
-      log = c.reserve.ensures.entries i;
-      known = c.self.inside.known.pairs;
-      told = c.self.inside.told.pairs;
-      indexes = named c.self.inside.collection.indexes;
-    })
-
-pub returns-in_err-reserve_place-clause-lists : goal.returns-in_err-reserve_place-clause-lists
-returns-in_err-reserve_place-clause-lists c =
-    rw (← c.self.view_is) (λ i. record {
-      name = c.self.inside.name;
-      uid = c.self.inside.uid;
-      docs =
-          c.self.inside.collection.docs.pairs;
-      log = c.reserve.ensures.entries i;
-      known = c.reserve_place.ensures.known i;
-      told = c.reserve_place.ensures.told i;
-      indexes = named c.self.inside.collection.indexes;
-    })
-
 pub returns-clause-lists : goal.returns-clause-lists
-returns-clause-lists c =
-    rw (← c.self.view_is) (λ i. record {
-      name = c.self.inside.name;
-      uid = c.self.inside.uid;
-      docs =
-          c.self.inside.collection.docs.pairs;
-      log = c.reserve.ensures.entries i;
-      known = c.reserve_place.ensures.known i;
-      told = c.reserve_place.ensures.told i;
-      indexes = named c.self.inside.collection.indexes;
-    })
+returns-clause-lists c = c.reserve_entry.ensures.lists
 
 pub returns-clause-parts : goal.returns-clause-parts
 returns-clause-parts c =
     IfOk-weaker c.of.result _ _ (λ prepared is. rw (is)
-    (gone_parts (record {
-      name = c.self.inside.name;
-      uid = c.self.inside.uid;
-      docs =
-          c.self.inside.collection.docs.pairs;
-      log = c.reserve.new.self.entries;
-      known = c.reserve_place.new.known.pairs;
-      told = c.reserve_place.new.told.pairs;
-      indexes = named c.self.inside.collection.indexes;
-    })
-    c.args.doc c.args.trans c.args.moved)) c.of.ensures
+    (gone_parts (lists_of c.reserve_entry.new.self) c.args.doc c.args.trans c.args.moved)) c.of.ensures
 
 pub returns-clause-ready : goal.returns-clause-ready
 returns-clause-ready c =
     IfOk-weaker c.of.result _ _ (λ prepared is. rw (is)
-    (record { collection = tt; log = c.in_ok-reserve.ensures.room; moved = c.in_ok-reserve_place.ensures.room })) c.of.ensures
+    (record {
+      collection = tt;
+      log = c.in_ok-reserve_entry.ensures.entry;
+      moved = c.in_ok-reserve_entry.ensures.place;
+    })) c.of.ensures

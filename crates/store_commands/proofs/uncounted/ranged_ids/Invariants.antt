@@ -1,5 +1,0 @@
--- Who counts nothing counts under the name of the blank.
-use Rattle.store_commands.proofs.uncounted.ranged_ids.Given as goal
-
-abbrev pub ghosts-counted_range : goal.ghosts-counted_range
-ghosts-counted_range a = record { name = a.blank.name; parts = a.blank.parts }
