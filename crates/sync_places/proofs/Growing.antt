@@ -7,8 +7,8 @@ use Rattle.conflicts.specs.Document.{Document}
 use Rattle.conflicts.specs.State.{State, position_kept}
 use Rattle.conflicts.specs.declared.moves.PosTable.TheVariants.{Known, Told}
 use Rattle.sync_stream.specs.declared.line.SyncDoc.{SyncDoc}
-use Rattle.sync_places.specs.Last.{last_of}
-use Rattle.sync_places.specs.Facts.{Later, KnownUpTo, ToldTo, ToldUpTo, Listed, Returned, Recorded}
+use Rattle.sync_places.specs.inner.Last.{last_of}
+use Rattle.sync_places.specs.inner.Facts.{Later, KnownUpTo, ToldTo, ToldUpTo, Listed, Returned, Recorded}
 use Rattle.sync_places.proofs.LastPlaces.{last_in-within}
 use Rattle.sync_places.proofs.Laters.{fits_within, current_before}
 

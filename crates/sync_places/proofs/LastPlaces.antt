@@ -4,10 +4,10 @@ use Rattle.std.specs.Prelude.{◌++◌, length, drop, Option, Some, None, refl}
 use Rattle.std.specs.List.{list_any, slice_get}
 use Rattle.std.specs.Option.{option_map}
 use Rattle.std.proofs.Common.{sym, ◌∙◌, ap, subst, inl, inr, arith, lt-ltb, ltb-true}
-use Rattle.std.proofs.lemmas.Bool.{and_parts, and_from}
+use Rattle.std.proofs.lemmas.Bool.{and_parts, and_from, cases_lt}
 use Rattle.u1_base.specs.Ids.{same_id}
 use Rattle.u1_base.proofs.SameIds.{same_id_is, is_same_id}
-use Rattle.u1_base.proofs.Booleans.{not_true}
+use Rattle.u1_base.proofs.Booleans.{not_both, not_true}
 use Rattle.translog.specs.Entries.{change_at, changes_since, is_last, numbered, trans_at}
 use Rattle.translog.specs.Log.{FitsLog}
 use Rattle.translog.specs.declared.entry.Change.{Change}
@@ -15,7 +15,8 @@ use Rattle.translog.specs.declared.entry.Entry.{Entry}
 use Rattle.conflicts.specs.Lists.{In}
 use Rattle.conflicts.specs.State.{Text}
 use Rattle.conflicts.proofs.Members.{In-filter, from_filter}
-use Rattle.sync_places.specs.Last.{last_from, last_in}
+use Rattle.sync_places.specs.Paired.{IsUnchangedSince}
+use Rattle.sync_places.specs.inner.Last.{last_from, last_in}
 
 -- ---- one entry more
 
@@ -85,12 +86,15 @@ last_from-finds : (d : Text) (found n : ℕ) (es : List Entry)
     ⊎ ((place : ℕ) × LastAt es d place)
 last_from-finds d found n [] = inl (refl, refl)
 last_from-finds d found n (x ∷ es) = elim (last_from-finds d (cond (same_id d x.doc) n found) (suc n) es) [
-  | inr later ↦ inr (suc later.0, record {
-    entry = later.1.entry;
-    stands = later.1.stands;
-    is = later.1.is;
-    alone = later.1.alone;
-  })
+  | inr later ↦ inr (
+    suc later.0,
+    record {
+      entry = later.1.entry;
+      stands = later.1.stands;
+      is = later.1.is;
+      alone = later.1.alone;
+    },
+  )
   | inl none ↦ elim (same_id d x.doc) as
       (λ b. same_id d x.doc ≡ b → ((last_from d found n (x ∷ es) ≡ found)
       × (list_any (λ e. same_id d e.doc) (x ∷ es) ≡ false)) ⊎ ((place : ℕ) × LastAt (x ∷ es) d place)) [
@@ -159,6 +163,9 @@ pub record ChangeIs (es : List Entry) (g : ℕ) (c : Change) : Type 0 where
   pub last : c.generation ≡ last_in es c.doc
   pub fits : FitsLog es (record { generation = c.generation; trans = Some c.trans })
 
+one_more : (n : ℕ) → 1 + n ≡ suc n
+one_more n = omega arith
+
 pub change_is : (es : List Entry) (g : ℕ) (c : Change) → In c (changes_since es g) → ChangeIs es g c
 change_is es g c i =
     let f = from_filter (λ c. nat_lt g c.generation && is_last es c) c (numbered 1 es) i in
@@ -167,8 +174,9 @@ change_is es g c i =
     let generation : c.generation ≡ 1 + at.0 = ap (λ (z : Change). z.generation) at.3 in
     let doc : c.doc ≡ at.1.doc = ap (λ (z : Change). z.doc) at.3 in
     let trans : c.trans ≡ at.1.trans = ap (λ (z : Change). z.trans) at.3 in
-    let alone : list_any (λ e. same_id c.doc e.doc) (drop (1 + at.0) es) ≡ false =
-    subst (λ k. list_any (λ e. same_id c.doc e.doc) (drop k es) ≡ false) generation (not_true _ parts.1) in
+    let place : c.generation ≡ suc at.0 = generation ∙ one_more at.0 in
+    let alone : list_any (λ e. same_id c.doc e.doc) (drop (suc at.0) es) ≡ false =
+    subst (λ (k : ℕ). list_any (λ e. same_id c.doc e.doc) (drop k es) ≡ false) place (not_true _ parts.1) in
     record {
       after = ltb-true g c.generation parts.0;
       last = generation ∙ sym (last_from-at c.doc 0 1 at.0 es (record {
@@ -178,8 +186,8 @@ change_is es g c i =
         alone = alone;
       }));
       fits = inr (
-        subst (λ k. k ≤ length es) (sym generation) (place_within es at.0 at.1 at.2),
-        ap (trans_at es) generation ∙ ap (option_map (λ e. e.trans)) at.2 ∙ ap Some (sym trans),
+        subst (λ (k : ℕ). k ≤ length es) (sym place) (place_within es at.0 at.1 at.2),
+        ap (trans_at es) place ∙ ap (option_map (λ e. e.trans)) at.2 ∙ ap Some (sym trans),
       );
     }
 
@@ -196,8 +204,57 @@ change_of es g d after = elim (last_from-finds d 0 1 es) [
         In-filter (λ c. nat_lt g c.generation && is_last es c) (change_at e (1 + at.0)) (numbered 1 es)
             (in_numbered 1 es at.0 e at.1.stands)
             (and_from (nat_lt g (1 + at.0)) _ (lt-ltb g (1 + at.0) (omega (arith, after, place)))
-            (ap not (subst (λ z. list_any (λ x. same_id z x.doc) (drop (1 + at.0) es) ≡ false) doc at.1.alone))),
+            (ap not (subst (λ (k : ℕ). list_any (λ x. same_id e.doc x.doc) (drop k es) ≡ false)
+            (sym (one_more at.0))
+            (subst (λ (z : Text). list_any (λ x. same_id z x.doc) (drop (suc at.0) es) ≡ false) doc at.1.alone)))),
         sym doc,
         sym place,
       )
+]
+
+-- ---- a document that did not change since a generation
+
+or_first : (p q : Bool) → p ≡ true → (p || q) ≡ true
+or_first true q e = refl
+or_first false q e = absurd cc
+
+or_second : (p q : Bool) → q ≡ true → (p || q) ≡ true
+or_second true q e = refl
+or_second false q e = e
+
+any_at : (p : Entry → Bool) (es : List Entry) (place : ℕ) (e : Entry) → slice_get es place ≡ Some e → p e ≡ true
+    → list_any p es ≡ true
+any_at p [] place e is t = absurd (no_entry is)
+  where
+    no_entry : slice_get [] place ≡ Some e → ⊥
+    no_entry is = cc
+any_at p (x ∷ es) zero e is t =
+    or_first (p x) (list_any p es) (subst (λ (z : Entry). p z ≡ true) (sym (same_entry is)) t)
+  where
+    same_entry : Some x ≡ Some e → x ≡ e
+    same_entry is = cc
+any_at p (x ∷ es) (suc place) e is t = or_second (p x) (list_any p es) (any_at p es place e is t)
+
+any_after : (p : Entry → Bool) (g : ℕ) (es : List Entry) (place : ℕ) (e : Entry) → slice_get es place ≡ Some e
+    → p e ≡ true → g ≤ place → list_any p (drop g es) ≡ true
+any_after p zero es place e is t low = any_at p es place e is t
+any_after p (suc g) [] place e is t low = absurd (no_entry is)
+  where
+    no_entry : slice_get [] place ≡ Some e → ⊥
+    no_entry is = cc
+any_after p (suc g) (x ∷ es) zero e is t low = absurd (omega (arith, low))
+any_after p (suc g) (x ∷ es) (suc place) e is t low = any_after p g es place e is t (omega (arith, low))
+
+-- its last entry is at or before the generation
+pub last_before : (es : List Entry) (g : ℕ) (d : Text) → IsUnchangedSince es g d
+    → (1 ≤ last_in es d) × (last_in es d ≤ g)
+last_before es g d h = elim (last_from-finds d 0 1 es) [
+  | inl none ↦ absurd (not_both (list_any (λ e. same_id d e.doc) es) h.there none.1)
+  | inr at ↦
+      let place : last_in es d ≡ 1 + at.0 = last_from-at d 0 1 at.0 es at.1 in
+      elim (cases_lt at.0 g) [
+        | inl before ↦ (omega (arith, place), omega (arith, place, before))
+        | inr later ↦ absurd (not_both (list_any (λ e. same_id d e.doc) (drop g es))
+            (any_after (λ e. same_id d e.doc) g es at.0 at.1.entry at.1.stands at.1.is later) h.not_later)
+      ]
 ]

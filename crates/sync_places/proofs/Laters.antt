@@ -23,8 +23,8 @@ use Rattle.conflicts.specs.declared.moves.Move.{Move}
 use Rattle.conflicts.specs.declared.moves.PosTable.{PosTable}
 use Rattle.conflicts.specs.declared.moves.PosTable.TheVariants.{Known, Told}
 use Rattle.conflicts.proofs.Documents.{stays_covered}
-use Rattle.sync_places.specs.Last.{last_in, last_of}
-use Rattle.sync_places.specs.Facts.{CoversRev, NotOlder, Later, MovesOn}
+use Rattle.sync_places.specs.inner.Last.{last_in, last_of}
+use Rattle.sync_places.specs.inner.Facts.{CoversRev, NotOlder, Later, MovesOn}
 use Rattle.sync_places.proofs.LastPlaces.{last_in-push}
 
 -- ---- members

@@ -22,8 +22,8 @@ use Rattle.conflicts.specs.declared.moves.PosTable.{PosTable}
 use Rattle.conflicts.proofs.LeftByReceipts as receipts
 use Rattle.sync_stream.specs.Serving.{steps_for, steps_to, taken_of}
 use Rattle.sync_stream.specs.declared.line.SyncDoc.{SyncDoc}
-use Rattle.sync_places.specs.Last.{last_in, last_of}
-use Rattle.sync_places.specs.Facts.{CoversRev, NotOlder, AllDocuments, Later, MovesOn}
+use Rattle.sync_places.specs.inner.Last.{last_in, last_of}
+use Rattle.sync_places.specs.inner.Facts.{CoversRev, NotOlder, AllDocuments, Later, MovesOn}
 use Rattle.sync_places.proofs.LastPlaces.{last_in-push}
 use Rattle.sync_places.proofs.Laters.{kept_after, later_after, later_itself, same_table-itself}
 

@@ -29,9 +29,9 @@ use Rattle.sync_stream.specs.declared.line.SyncDoc.{SyncDoc}
 use Rattle.translog.specs.Log.{end_of}
 use Rattle.translog.proofs.PlaceTests.{end_fits}
 use Rattle.sync_phases.specs.Phases.{count_by, count_of}
-use Rattle.sync_places.specs.Last.{last_of}
-use Rattle.sync_places.specs.Facts.{CoversRev, NotOlder, AllDocuments, Later, KnownUpTo, ToldTo, ToldUpTo}
-use Rattle.sync_places.specs.Facts.{Listed, Returned, AtLines, Recorded}
+use Rattle.sync_places.specs.inner.Last.{last_of}
+use Rattle.sync_places.specs.inner.Facts.{CoversRev, NotOlder, AllDocuments, Later, KnownUpTo, ToldTo, ToldUpTo}
+use Rattle.sync_places.specs.inner.Facts.{Listed, Returned, AtLines, Recorded}
 use Rattle.sync_places.proofs.LastPlaces.{last_in-within}
 use Rattle.sync_places.proofs.Laters.{fits_within, current_before}
 use Rattle.sync_places.proofs.Lines.{passes_on, Leaves, covered_then, not_older_then}

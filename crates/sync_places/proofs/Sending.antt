@@ -26,8 +26,8 @@ use Rattle.conflicts.specs.declared.moves.PosTable.TheVariants.{Known}
 use Rattle.conflicts.proofs.Members.{In-either, In-left, In-right, In-filter, from_filter, found}
 use Rattle.sync_stream.specs.Serving.{Held, is_held, sent, sent_if}
 use Rattle.sync_stream.specs.declared.line.SyncDoc.{SyncDoc}
-use Rattle.sync_places.specs.Last.{last_of}
-use Rattle.sync_places.specs.Facts.{CoversRev, NotOlder, AllDocuments, Rising, InDocs, Stands, Listed, Returned, AtLines}
+use Rattle.sync_places.specs.inner.Last.{last_of}
+use Rattle.sync_places.specs.inner.Facts.{CoversRev, NotOlder, AllDocuments, Rising, InDocs, Stands, Listed, Returned, AtLines}
 use Rattle.sync_places.proofs.LastPlaces.{ChangeIs, change_is, change_of, last_in-within}
 use Rattle.sync_places.proofs.Laters.{le_itself}
 

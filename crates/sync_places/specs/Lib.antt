@@ -1,2 +1,2 @@
-pub mod Last
-pub mod Facts
+pub mod Paired
+pub mod inner

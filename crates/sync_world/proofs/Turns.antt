@@ -56,7 +56,7 @@ module _ (of : Histories) (u : Uid) where
   makes_is (Some x) session lawful h = record { steps = inr (x, refl, lawful); session = h; sends = tt }
 
 -- what an info leads to: one of its two ends, or a fault
-by_info_is : {A : Type 0} (P : Result A SyncFault → Type 0) (s : State) (info : Info) (level send : A) → P (Ok level)
+pub by_info_is : {A : Type 0} (P : Result A SyncFault → Type 0) (s : State) (info : Info) (level send : A) → P (Ok level)
     → P (Ok send) → ((fault : SyncFault) → P (Err fault)) → P (by_info s info level send)
 by_info_is P s info level send p q none =
     elim (not (same_id info.source s.uid)) as

@@ -10,7 +10,7 @@ use Rattle.conflicts.specs.Lists.{In}
 use Rattle.conflicts.specs.State.{State, position_kept, state_of}
 use Rattle.conflicts.specs.declared.moves.PosTable.TheVariants.{Known, Told}
 use Rattle.conflicts.proofs.Members.{In-either}
-use Rattle.sync_places.specs.Facts.{Later, KnownUpTo, ToldUpTo}
+use Rattle.sync_places.specs.inner.Facts.{Later, KnownUpTo, ToldUpTo}
 use Rattle.sync_places.proofs.Growing.{known-later, told_up-later}
 use Rattle.sync_places.proofs.Laters.{later_itself}
 use Rattle.sync_world.specs.World.{World, Sent, Serving, Replica, state, with_replica}
@@ -41,7 +41,7 @@ module _ (s : States) (z : Uid) (t : State) where
   changed_other v other = ap (λ b. cond b t (s v)) other
 
 module _ (s : States) (w : World) (p : PlacedOver s w) (z : Uid) (t : State) (b : Becomes s z t) where
-  grows : (v : Uid) → Later (s v) (changed s z t v)
+  pub grows : (v : Uid) → Later (s v) (changed s z t v)
   grows v = elim (same_id v z) as (λ k. same_id v z ≡ k → Later (s v) (cond k t (s v))) [
     | true ↦ λ e. subst (λ (y : Uid). Later (s y) t) (sym (same_id_is v z e)) b.later
     | false ↦ λ _. later_itself (s v)
@@ -143,6 +143,17 @@ module _ (s : States) (w : World) (p : PlacedOver s w) (z : Uid) (t : State) (b 
           | false ↦ λ f. servings_then letters v f (w.replica v).serving (p.serving v)
         ] refl;
   }
+
+-- ---- nothing became another one
+
+pub still : (s : States) (z : Uid) → s ≡ changed s z (s z)
+still s z = λ i v. each v i
+  where
+    each : (v : Uid) → s v ≡ changed s z (s z) v
+    each v = elim (same_id v z) as (λ b. same_id v z ≡ b → s v ≡ cond b (s z) (s v)) [
+      | true ↦ λ e. ap s (same_id_is v z e)
+      | false ↦ λ _. refl
+    ] refl
 
 -- ---- the world after it
 

@@ -10,7 +10,7 @@ use Rattle.u1_base.specs.Places.{Place}
 use Rattle.sync_stream.specs.Replies as reply
 use Rattle.sync_stream.specs.Requests.{Question, ToExchange}
 use Rattle.sync_stream.specs.declared.line.SyncDoc.{SyncDoc}
-use Rattle.sync_places.specs.Facts.{NotOlder, Returned}
+use Rattle.sync_places.specs.inner.Facts.{NotOlder, Returned}
 use Rattle.sync_places.proofs.Pairs.{recorded_first, told_by_lines}
 use Rattle.sync_world.specs.Source.{Session, Idle, AwaitsInfo, HasInfo, AwaitsReturned, Taking, Settled, AwaitsKept}
 use Rattle.sync_world.specs.Source.{Complete, hears, info_in, kept_in, returned_in}

@@ -8,7 +8,7 @@ use Rattle.conflicts.specs.declared.moves.PosTable.TheVariants.{Known, Told}
 use Rattle.sync_stream.specs.Replies.{Reply, Tells, Keeps, Returns, Refuses}
 use Rattle.sync_stream.specs.Requests.{Question, ForInfo, ToKeep, ToExchange}
 use Rattle.sync_stream.specs.declared.line.SyncDoc.{SyncDoc}
-use Rattle.sync_places.specs.Facts.{Later}
+use Rattle.sync_places.specs.inner.Facts.{Later}
 use Rattle.sync_places.proofs.Growing.{told_to-later, told_up-later, listed-later, returned-later, recorded-later}
 use Rattle.sync_places.proofs.Laters.{later_itself}
 use Rattle.sync_world.specs.Source.{Session, Idle, AwaitsInfo, HasInfo, AwaitsReturned, Taking, Settled, AwaitsKept}

@@ -12,7 +12,7 @@ use Rattle.sync_http.specs.declared.info.Info.{Info}
 use Rattle.sync_stream.specs.Replies.{Reply, Tells, Keeps, Returns, Refuses}
 use Rattle.sync_stream.specs.Requests.{Question, ForInfo, ToKeep, ToExchange}
 use Rattle.sync_stream.specs.declared.line.SyncDoc.{SyncDoc}
-use Rattle.sync_places.specs.Facts.{NotOlder, Later, KnownUpTo, ToldTo, ToldUpTo, Listed, Returned, Recorded}
+use Rattle.sync_places.specs.inner.Facts.{NotOlder, Later, KnownUpTo, ToldTo, ToldUpTo, Listed, Returned, Recorded}
 use Rattle.sync_world.specs.Source.{Session, Idle, AwaitsInfo, HasInfo, AwaitsReturned, Taking, Settled, AwaitsKept}
 use Rattle.sync_world.specs.Source.{Complete}
 use Rattle.sync_world.specs.World.{World, Sent, Serving}

@@ -23,7 +23,7 @@ use Rattle.sync_stream.specs.Requests.{Question, ForInfo, ToKeep, ToExchange, pu
 use Rattle.sync_stream.specs.Serving.{Held, Response, asked, exchanged, held_after, passing, refused, serve, steps_for}
 use Rattle.sync_stream.specs.Serving.{steps_to, taken_of}
 use Rattle.sync_stream.specs.declared.line.SyncDoc.{SyncDoc}
-use Rattle.sync_places.specs.Facts.{AllDocuments, ToldUpTo, Listed, AtLines}
+use Rattle.sync_places.specs.inner.Facts.{AllDocuments, ToldUpTo, Listed, AtLines}
 use Rattle.sync_places.proofs.Growing.{told_up-later}
 use Rattle.sync_places.proofs.Laters.{later_itself, le_itself}
 use Rattle.sync_places.proofs.Lines.{Leaves, MovedTo, leaves, moved_to}

@@ -21,7 +21,7 @@ use Rattle.sync_stream.specs.Requests.{ToKeep, ToExchange}
 use Rattle.sync_stream.specs.Serving.{sent, steps_for, steps_to, taken_of}
 use Rattle.sync_stream.specs.declared.line.SyncDoc.{SyncDoc}
 use Rattle.sync_phases.specs.Phases.{count_of, has_all, known_to, posted_to}
-use Rattle.sync_places.specs.Facts.{AllDocuments, KnownUpTo, Later, Returned, ToldUpTo}
+use Rattle.sync_places.specs.inner.Facts.{AllDocuments, KnownUpTo, Later, Returned, ToldUpTo}
 use Rattle.sync_places.proofs.Growing.{known-later, told_to-later, told_up-later, recorded-later}
 use Rattle.sync_places.proofs.Laters.{later_after, later_itself, le_itself}
 use Rattle.sync_places.proofs.Lines.{leaves, moved_to}
@@ -30,7 +30,7 @@ use Rattle.sync_places.proofs.Sending.{listed}
 use Rattle.sync_world.specs.Source.{Idle, HasInfo, AwaitsReturned, Taking, Settled, Complete, Turn, goes, posts, takes_by}
 use Rattle.sync_world.specs.Source.{settles_by, finishes_by}
 use Rattle.sync_world.specs.World.{World, Sent, posted}
-use Rattle.world_laws.proofs.PairFacts.{PlacedOver, QuestionOk, RepliedOk, SessionAt, States}
+use Rattle.world_laws.proofs.PairFacts.{Lists, PlacedOver, QuestionOk, RepliedOk, SessionAt, States}
 use Rattle.world_laws.proofs.Kept.{sent_last}
 use Rattle.world_laws.proofs.Becoming.{Becomes}
 
@@ -80,8 +80,8 @@ module _ (s : States) (w : World) (p : PlacedOver s w) (u : Uid) where
       let l : Later (s u) t = later_after (s u) x (λ m e. absurd (none_some (sym none ∙ e))) in
       let same : (table : PosTable) (z : Uid) → position_kept t table z ≡ position_kept (s u) table z =
       λ table z.
-          ap (λ (o : Option Move). unwrap_or (last_or ((s u).position table z) (positions_by table z o)) nowhere)
-          none in
+      ap (λ (o : Option Move). unwrap_or (last_or ((s u).position table z) (positions_by table z o)) nowhere)
+      none in
       record {
         later = l;
         known = λ v apart.
@@ -105,7 +105,11 @@ module _ (s : States) (w : World) (p : PlacedOver s w) (u : Uid) where
     posts_at info h =
         let from = info.source_at.generation in
         let docs : List SyncDoc = sent (s u) (changes_since (s u).log from) in
-        let lists = record { from = from; listed = listed (s u) from documents; told = h.1 } in
+        let lists : Lists u (s u) (s info.target) (length (s u).log) docs = record {
+          from = from;
+          listed = listed (s u) from documents;
+          told = h.1;
+        } in
         record {
           becomes = stays;
           session = record {
@@ -144,13 +148,15 @@ module _ (s : States) (w : World) (p : PlacedOver s w) (u : Uid) where
         let l = leaves a seed true doc (known_to v doc.at) ok in (
           knows v t doc.at l.later l.kept l.others
               (take_known a t (s v) v base taken doc docs top documents pair returned ok l),
-          record {
-            apart = h.apart;
-            told = told_to-later a (s v) t (s v) l.later (later_itself (s v)) base h.told;
-            recorded =
-                take_recorded a t (s v) v base taken doc docs top documents pair returned ok l h.recorded;
-          },
-          take_returned a t (s v) v base taken doc docs top documents pair returned ok l,
+          (
+            record {
+              apart = h.apart;
+              told = told_to-later a (s v) t (s v) l.later (later_itself (s v)) base h.told;
+              recorded =
+                  take_recorded a t (s v) v base taken doc docs top documents pair returned ok l h.recorded;
+            },
+            take_returned a t (s v) v base taken doc docs top documents pair returned ok l,
+          ),
         )
 
   -- the known place moves to the end of the target's log

@@ -15,7 +15,7 @@ use Rattle.conflicts.specs.declared.moves.PosTable.{PosTable}
 use Rattle.conflicts.specs.declared.moves.PosTable.TheVariants.{Known}
 use Rattle.sync_stream.specs.Serving.{Held}
 use Rattle.sync_stream.specs.declared.line.SyncDoc.{SyncDoc}
-use Rattle.sync_places.specs.Last.{last_of}
+use Rattle.sync_places.specs.inner.Last.{last_of}
 
 -- a member covers the revision
 abbrev pub CoversRev : Document → Clock → Type 0

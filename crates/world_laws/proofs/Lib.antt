@@ -1,0 +1,9 @@
+pub mod PairFacts
+pub mod Kept
+pub mod Becoming
+pub mod Serving
+pub mod Turning
+pub mod Phases
+pub mod Hearing
+pub mod Placing
+pub mod Paired

@@ -1,0 +1,13 @@
+//! What holds of every world, each as the contract of a function that does nothing.
+ghost use Rattle.std.specs.Prelude.{◌≢◌, List};
+ghost use Rattle.vector_rev.specs.Counts.{Uid};
+ghost use Rattle.conflicts.specs.State.{Text};
+ghost use Rattle.sync_places.specs.Paired.{Paired};
+ghost use Rattle.sync_world.specs.World.{WorldStep, after_all, start, state};
+
+/// Every two replicas are paired, each way round: the places that one keeps of the other fit the
+/// other's log, and up to them it has what it was given.
+pub fn law_positions()
+    ensures { (name : Text) (steps : List WorldStep) (u v : Uid) → u ≢ v
+        → Paired (state (after_all (start name) steps) u) (state (after_all (start name) steps) v) }
+{}
