@@ -1,11 +1,11 @@
 -- What holds of two states holds of those that they may become.
-use Rattle.std.specs.Prelude.{◌≡◌, ℕ, ◌+◌, ◌<◌, ◌≤◌, ◌⊎◌, List, length, Some}
+use Rattle.std.specs.Prelude.{◌≡◌, ℕ, ◌+◌, ◌<◌, ◌≤◌, List, length}
 use Rattle.std.proofs.Common.{sym, ◌∙◌, ap, subst, inl, inr, arith, le_trans}
 use Rattle.u1_base.specs.Places.{Place}
 use Rattle.vector_rev.specs.Counts.{Uid}
 use Rattle.conflicts.specs.Document.{Document}
 use Rattle.conflicts.specs.State.{State, position_kept}
-use Rattle.conflicts.specs.declared.moves.PosTable.TheVariants.{Known, Told}
+use Rattle.conflicts.specs.declared.moves.PosTable.TheVariants.{Known}
 use Rattle.sync_stream.specs.declared.line.SyncDoc.{SyncDoc}
 use Rattle.sync_places.specs.inner.Last.{last_of}
 use Rattle.sync_places.specs.inner.Facts.{Later, KnownUpTo, ToldTo, ToldUpTo, Listed, Returned, Recorded}

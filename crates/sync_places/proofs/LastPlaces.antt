@@ -1,6 +1,6 @@
 -- The last place of a document in a log: what one entry more changes, and which changes the log tells by it.
 use Rattle.std.specs.Prelude.{◌≡◌, ℕ, zero, suc, ◌+◌, ◌<◌, ◌≤◌, ◌⊎◌, Bool, true, false, cond, not, ◌&&◌, ◌||◌, nat_lt, List, [], ◌∷◌}
-use Rattle.std.specs.Prelude.{◌++◌, length, drop, Option, Some, None, refl}
+use Rattle.std.specs.Prelude.{◌++◌, length, drop, Some, refl}
 use Rattle.std.specs.List.{list_any, slice_get}
 use Rattle.std.specs.Option.{option_map}
 use Rattle.std.proofs.Common.{sym, ◌∙◌, ap, subst, inl, inr, arith, lt-ltb, ltb-true}
@@ -212,7 +212,15 @@ change_of es g d after = elim (last_from-finds d 0 1 es) [
       )
 ]
 
--- ---- a document that did not change since a generation
+-- ---- a document that is not in the log, or did not change since a generation
+
+pub none_last : (es : List Entry) (d : Text) → last_in es d ≡ 0 → list_any (λ e. same_id d e.doc) es ≡ false
+none_last es d zero_there = elim (last_from-finds d 0 1 es) [
+  | inl none ↦ none.1
+  | inr at ↦
+      let place : last_in es d ≡ 1 + at.0 = last_from-at d 0 1 at.0 es at.1 in
+      absurd (omega (arith, place, zero_there))
+]
 
 or_first : (p q : Bool) → p ≡ true → (p || q) ≡ true
 or_first true q e = refl

@@ -13,7 +13,7 @@ use Rattle.translog.proofs.Growth.{FitsLog-append}
 use Rattle.vector_rev.specs.Counts.{Uid}
 use Rattle.vector_rev.specs.Clock.{Clock, covers, dominates}
 use Rattle.vector_rev.proofs.ClockLaws.{covers-itself, covers-trans}
-use Rattle.conflicts.specs.Lists.{In, last_or}
+use Rattle.conflicts.specs.Lists.{last_or}
 use Rattle.conflicts.specs.Document.{Document, document_after, document_after_all}
 use Rattle.conflicts.specs.State.{State, Step, Text, Accepted, Gone, Moved, IndexCreated, IndexDeleted, accepts_in, after}
 use Rattle.conflicts.specs.State.{entries_in, move_of, position_kept, positions_by, same_table}

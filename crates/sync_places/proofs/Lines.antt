@@ -1,6 +1,6 @@
 -- What the steps of one document and of one move leave, by the definitions that both sides use.
-use Rattle.std.specs.Prelude.{◌≡◌, ◌≢◌, ℕ, ◌+◌, ◌≤◌, ◌⊎◌, Bool, true, false, cond, ◌&&◌, if◌then◌else◌, List, []}
-use Rattle.std.specs.Prelude.{◌∷◌, ◌++◌, length, option_to_list, Option, Some, None, is_some, unwrap_or, refl}
+use Rattle.std.specs.Prelude.{◌≡◌, ◌≢◌, ℕ, ◌+◌, ◌≤◌, Bool, true, false, cond, ◌&&◌, if◌then◌else◌, []}
+use Rattle.std.specs.Prelude.{◌∷◌, length, option_to_list, Option, Some, None, is_some, unwrap_or, refl}
 use Rattle.std.proofs.Common.{sym, ◌∙◌, ap, subst, inl, inr, arith, append-nil, length-append}
 use Rattle.u1_base.specs.Ids.{same_id}
 use Rattle.u1_base.specs.Places.{Place, nowhere, same_place}
@@ -11,11 +11,11 @@ use Rattle.translog.specs.Source.{passes}
 use Rattle.translog.specs.declared.entry.Entry.{Entry}
 use Rattle.translog.proofs.PlaceTests.{goes_on}
 use Rattle.vector_rev.specs.Counts.{Uid}
-use Rattle.conflicts.specs.Document.{Document, document_after, document_after_all}
+use Rattle.conflicts.specs.Document.{Document, document_after_all}
 use Rattle.conflicts.specs.Lists.{last_or}
 use Rattle.conflicts.specs.Receipts.{after_taken}
 use Rattle.conflicts.specs.State.{State, Step, Text, Accepted, Moved, after, after_all, move_of, position_kept, same_table}
-use Rattle.conflicts.specs.Writing.{kept_place, move_step, next_trans, take_step}
+use Rattle.conflicts.specs.Writing.{kept_place, next_trans, take_step}
 use Rattle.conflicts.specs.declared.accept.Accept.{Accept}
 use Rattle.conflicts.specs.declared.moves.Move.{Move}
 use Rattle.conflicts.specs.declared.moves.PosTable.{PosTable}

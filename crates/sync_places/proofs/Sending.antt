@@ -1,7 +1,6 @@
 -- What a replica sends of its changes: which documents stand in the list, and at which places.
 use Rattle.std.specs.Prelude.{◌≡◌, ℕ, suc, ◌<◌, ◌≤◌, ◌⊎◌, Bool, true, false, not, cond, ◌&&◌, nat_le, List, [], ◌∷◌, ◌++◌}
 use Rattle.std.specs.Prelude.{length, filter, Option, Some, None, refl}
-use Rattle.std.specs.List.{list_any}
 use Rattle.std.specs.Option.{option_map}
 use Rattle.std.proofs.Common.{sym, ◌∙◌, ap, subst, inl, inr, arith, leb-true}
 use Rattle.std.proofs.lemmas.Bool.{and_parts}
@@ -9,8 +8,8 @@ use Rattle.u1_base.specs.Ids.{same_id}
 use Rattle.u1_base.specs.Places.{Place}
 use Rattle.u1_base.proofs.Booleans.{none_true}
 use Rattle.u1_base.proofs.SameIds.{same_id_is}
-use Rattle.translog.specs.Entries.{change_at, changes_since, numbered, is_last}
-use Rattle.translog.specs.Log.{FitsLog, end_of}
+use Rattle.translog.specs.Entries.{changes_since, numbered}
+use Rattle.translog.specs.Log.{end_of}
 use Rattle.translog.specs.declared.entry.Change.{Change}
 use Rattle.translog.specs.declared.entry.Entry.{Entry}
 use Rattle.translog.proofs.PlaceTests.{end_fits}
@@ -28,7 +27,7 @@ use Rattle.sync_stream.specs.Serving.{Held, is_held, sent, sent_if}
 use Rattle.sync_stream.specs.declared.line.SyncDoc.{SyncDoc}
 use Rattle.sync_places.specs.inner.Last.{last_of}
 use Rattle.sync_places.specs.inner.Facts.{CoversRev, NotOlder, AllDocuments, Rising, InDocs, Stands, Listed, Returned, AtLines}
-use Rattle.sync_places.proofs.LastPlaces.{ChangeIs, change_is, change_of, last_in-within}
+use Rattle.sync_places.proofs.LastPlaces.{change_is, change_of, last_in-within}
 use Rattle.sync_places.proofs.Laters.{le_itself}
 
 -- ---- changes rise

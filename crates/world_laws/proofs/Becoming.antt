@@ -1,6 +1,5 @@
 -- One replica goes on: what is kept over all replicas stays, if it says what it becomes.
-use Rattle.std.specs.Prelude.{◌≡◌, ◌≢◌, ℕ, true, false, cond, List, ◌++◌, Option, Some, None, IfSome, refl}
-use Rattle.std.specs.List.{slice_get}
+use Rattle.std.specs.Prelude.{◌≡◌, ◌≢◌, true, false, cond, List, ◌++◌, Option, Some, None, IfSome, refl}
 use Rattle.std.proofs.Common.{sym, ◌∙◌, ap, subst, inl, inr}
 use Rattle.u1_base.specs.Ids.{same_id}
 use Rattle.u1_base.proofs.Booleans.{none_true, not_both}

@@ -1,23 +1,22 @@
 -- A reply that comes to the session that waits for it leads on with what is kept.
-use Rattle.std.specs.Prelude.{◌≡◌, ◌≢◌, ◌==◌, ℕ, true, false, if◌then◌else◌, List, Option, Some, None, refl}
+use Rattle.std.specs.Prelude.{◌≡◌, ◌≢◌, ◌==◌, ℕ, true, false, if◌then◌else◌, List, Some, refl}
 use Rattle.std.specs.List.{slice_get}
 use Rattle.std.proofs.Common.{sym, ◌∙◌, ap, subst, eqb-true}
 use Rattle.vector_rev.specs.Counts.{Uid}
 use Rattle.conflicts.specs.Lists.{In}
-use Rattle.conflicts.specs.State.{State, position_kept}
-use Rattle.conflicts.specs.declared.moves.PosTable.TheVariants.{Told}
+use Rattle.conflicts.specs.State.{State}
 use Rattle.u1_base.specs.Places.{Place}
 use Rattle.sync_stream.specs.Replies as reply
-use Rattle.sync_stream.specs.Requests.{Question, ToExchange}
+use Rattle.sync_stream.specs.Requests.{ToExchange}
 use Rattle.sync_stream.specs.declared.line.SyncDoc.{SyncDoc}
 use Rattle.sync_places.specs.inner.Facts.{NotOlder, Returned}
 use Rattle.sync_places.proofs.Pairs.{recorded_first, told_by_lines}
 use Rattle.sync_world.specs.Source.{Session, Idle, AwaitsInfo, HasInfo, AwaitsReturned, Taking, Settled, AwaitsKept}
 use Rattle.sync_world.specs.Source.{Complete, hears, info_in, kept_in, returned_in}
 use Rattle.sync_world.specs.World.{World, Sent}
-use Rattle.world_laws.proofs.PairFacts.{AwaitsOk, InfoOk, PlacedOver, ReplyOk, ReturnsOk, SessionAt, States}
+use Rattle.world_laws.proofs.PairFacts.{AwaitsOk, InfoOk, PlacedOver, ReplyOk, SessionAt, States}
 
-same_sent : (x y : Sent) → Some x ≡ Some y → x ≡ y
+pub same_sent : (x y : Sent) → Some x ≡ Some y → x ≡ y
 same_sent x y e = cc
 
 same_posted : (p q : Place) (x y : List SyncDoc) → ToExchange p x ≡ ToExchange q y → x ≡ y

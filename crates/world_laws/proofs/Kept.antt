@@ -1,5 +1,5 @@
 -- What is kept of two replicas stays while both of them go on.
-use Rattle.std.specs.Prelude.{◌≡◌, ◌≢◌, ℕ, zero, suc, List, [], ◌∷◌, ◌++◌, length, Option, Some, None, refl}
+use Rattle.std.specs.Prelude.{◌≡◌, ℕ, zero, suc, List, [], ◌∷◌, ◌++◌, length, Some, refl}
 use Rattle.std.specs.List.{slice_get}
 use Rattle.std.proofs.Common.{le_trans}
 use Rattle.vector_rev.specs.Counts.{Uid}
@@ -14,7 +14,7 @@ use Rattle.sync_places.proofs.Laters.{later_itself}
 use Rattle.sync_world.specs.Source.{Session, Idle, AwaitsInfo, HasInfo, AwaitsReturned, Taking, Settled, AwaitsKept}
 use Rattle.sync_world.specs.Source.{Complete}
 use Rattle.sync_world.specs.World.{Sent}
-use Rattle.world_laws.proofs.PairFacts.{AwaitsOk, Lists, QuestionOk, RepliedOk, ReplyOk, Serves, SessionAt, States}
+use Rattle.world_laws.proofs.PairFacts.{Lists, QuestionOk, RepliedOk, ReplyOk, Serves, SessionAt, States}
 
 -- ---- two replicas
 
@@ -35,22 +35,26 @@ module _ (u v : Uid) (a b c d : State) (l : Later a c) (m : Later b d) where
     before = le_trans h.before (l.places Known v);
   }
 
-  pub reply-later : (q : Question) (said : Reply) → ReplyOk u v a b q said → ReplyOk u v c d q said
-  reply-later q (Tells info) h = (h.0, le_trans h.1 (m.places Told u))
-  reply-later q Keeps h = tt
-  reply-later q (Returns top docs) h = record {
-    known = h.known;
-    sent = h.sent;
-    is = h.is;
-    not_older = λ doc i. m.not_older doc.id doc.member.rev (h.not_older doc i);
-    returned = returned-later a b c d l m v docs top h.returned;
-  }
-  reply-later q (Refuses refusal) h = tt
+-- a reply stays good while its source goes on
+reply-later : (u v : Uid) (a c : State) → Later a c → (q : Question) (b : State) (said : Reply)
+    → ReplyOk u v a b q said → ReplyOk u v c b q said
+reply-later u v a c l q b (Tells info) h = h
+reply-later u v a c l q b Keeps h = tt
+reply-later u v a c l q b (Returns top docs) h = record {
+  known = h.known;
+  sent = h.sent;
+  is = h.is;
+  not_older = h.not_older;
+  returned = returned-later a b c b l (later_itself b) v docs top h.returned;
+  end = h.end;
+  now = h.now;
+}
+reply-later u v a c l q b (Refuses refusal) h = tt
 
 -- a serving stays good while its source goes on
 pub serves-later : (u v : Uid) (a c : State) → Later a c → (q : Question) (b : State) (steps : List Step) (said : Reply)
     → Serves u v a b q steps said → Serves u v c b q steps said
-serves-later u v a c l q b [] said h = reply-later u v a b c b l (later_itself b) q said h
+serves-later u v a c l q b [] said h = reply-later u v a c l q b said h
 serves-later u v a c l q b (x ∷ later) said h = (
   record {
     later = h.0.later;
@@ -58,6 +62,7 @@ serves-later u v a c l q b (x ∷ later) said h = (
         told_up-later a (after b x) c (after b x) l (later_itself (after b x)) (position_kept (after b x) Told u)
         h.0.told;
     others = h.0.others;
+    leaves = h.0.leaves;
   },
   serves-later u v a c l q (after b x) later said h.1,
 )

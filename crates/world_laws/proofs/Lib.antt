@@ -1,3 +1,4 @@
+pub mod Single
 pub mod PairFacts
 pub mod Kept
 pub mod Becoming
@@ -7,3 +8,6 @@ pub mod Phases
 pub mod Hearing
 pub mod Placing
 pub mod Paired
+pub mod Agreeing
+pub mod Quieted
+pub mod Quieting

@@ -1,11 +1,12 @@
 -- What is kept, over all replicas, of the places that each two keep of each other, and of all that is on its way.
-use Rattle.std.specs.Prelude.{◌≡◌, ◌≢◌, ℕ, ◌≤◌, ◌&&◌, false, List, [], ◌∷◌, Option, Some, None, IfSome}
+use Rattle.std.specs.Prelude.{◌≡◌, ◌≢◌, ℕ, ◌≤◌, ◌&&◌, false, List, [], ◌∷◌, length, Some, IfSome}
 use Rattle.std.specs.List.{slice_get}
 use Rattle.u1_base.specs.Ids.{same_id}
 use Rattle.u1_base.specs.Places.{Place}
 use Rattle.vector_rev.specs.Counts.{Uid}
 use Rattle.conflicts.specs.Lists.{In}
-use Rattle.conflicts.specs.State.{State, Step, after, position_kept, same_table}
+use Rattle.conflicts.specs.Document.{content_of}
+use Rattle.conflicts.specs.State.{State, Step, Text, after, position_kept, same_table}
 use Rattle.conflicts.specs.declared.moves.PosTable.{PosTable}
 use Rattle.conflicts.specs.declared.moves.PosTable.TheVariants.{Known, Told}
 use Rattle.sync_http.specs.declared.info.Info.{Info}
@@ -16,6 +17,7 @@ use Rattle.sync_places.specs.inner.Facts.{NotOlder, Later, KnownUpTo, ToldTo, To
 use Rattle.sync_world.specs.Source.{Session, Idle, AwaitsInfo, HasInfo, AwaitsReturned, Taking, Settled, AwaitsKept}
 use Rattle.sync_world.specs.Source.{Complete}
 use Rattle.sync_world.specs.World.{World, Sent, Serving}
+use Rattle.world_laws.proofs.Single.{Single}
 
 -- ---- two replicas: a with the uid u is the source, b with the uid v the target
 
@@ -43,31 +45,42 @@ QuestionOk u v a b (ToExchange known docs) = PostOk u v a b known docs
 abbrev pub InfoOk : Uid → State → Info → Type 0
 InfoOk u b info = info.source_at.generation ≤ (position_kept b Told u).generation
 
--- b took over what was sent, and a takes what b returned
+-- b took over what was sent, and a takes what b returned: all that b reads of it now, up to the end of b's log
 pub record ReturnsOk (v : Uid) (a b : State) (question : Question) (top : Place) (docs : List SyncDoc) : Type 0 where
   pub known : Place
   pub sent : List SyncDoc
   pub is : question ≡ ToExchange known sent
   pub not_older : (doc : SyncDoc) → In doc sent → NotOlder (b.document doc.id) doc.member.rev
   pub returned : Returned a b v docs top
+  pub end : top.generation ≡ length b.log
+  pub now : (doc : SyncDoc) → In doc docs → doc.member.content ≡ content_of (b.document doc.id)
 
 abbrev pub ReplyOk : Uid → Uid → State → State → Question → Reply → Type 0
-ReplyOk u v a b question (Tells info) = (info.target ≡ v) × InfoOk u b info
+ReplyOk u v a b question (Tells info) =
+    (info.target ≡ v) × InfoOk u b info × (info.target_at.generation ≡ length b.log)
 ReplyOk u v a b question Keeps = Unit {0}
 ReplyOk u v a b question (Returns top docs) = ReturnsOk v a b question top docs
 ReplyOk u v a b question (Refuses refusal) = Unit {0}
 
+-- what a step that serves this question leaves of the documents: of a place that is told, all as it was; else each is in
+-- conflict only if it was
+abbrev pub LeavesBy : Question → State → State → Type 0
+LeavesBy ForInfo b c = (d : Text) → Single (b.document d) → Single (c.document d)
+LeavesBy (ToKeep at) b c = (d : Text) → c.document d ≡ b.document d
+LeavesBy (ToExchange known docs) b c = (d : Text) → Single (b.document d) → Single (c.document d)
+
 -- a step of b that serves a moves what b was told by a, and no other place
-pub record StepOk (u : Uid) (a b : State) (x : Step) : Type 0 where
+pub record StepOk (u : Uid) (a b : State) (question : Question) (x : Step) : Type 0 where
   pub later : Later b (after b x)
   pub told : ToldUpTo a (after b x) (position_kept (after b x) Told u)
   pub others : (table : PosTable) (z : Uid) → (same_table table Told && same_id z u) ≡ false
       → position_kept (after b x) table z ≡ position_kept b table z
+  pub leaves : LeavesBy question b (after b x)
 
 -- each step where those before it are made, and then the reply
 abbrev pub Serves : Uid → Uid → State → State → Question → List Step → Reply → Type 0
 Serves u v a b question [] said = ReplyOk u v a b question said
-Serves u v a b question (x ∷ later) said = StepOk u a b x × Serves u v a (after b x) question later said
+Serves u v a b question (x ∷ later) said = StepOk u a b question x × Serves u v a (after b x) question later said
 
 -- ---- all replicas
 

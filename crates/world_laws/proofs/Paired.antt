@@ -27,7 +27,7 @@ begins_pair name u v = record {
   told = record { fits = inl refl; upto = record { within = omega arith; told = λ d r some. none_before some } };
 }
 
-begins : (name : Text) → Placed (start name)
+pub begins : (name : Text) → Placed (start name)
 begins name = record {
   pairs = λ u v _. begins_pair name u v;
   sent = λ r i. absurd i;
@@ -41,7 +41,7 @@ module _ (w : World) (p : Placed w) (descends : Descends (histories w)) (u v : U
   pair : Pair u v (state w u) (state w v)
   pair = p.pairs u v apart
 
-  one_content : (d : Text) (m n : Member) → In m ((state w u).document d).members
+  pub one_content : (d : Text) (m n : Member) → In m ((state w u).document d).members
       → In n ((state w v).document d).members → m.rev ≡ n.rev → m.content ≡ n.content
   one_content d m n i j e =
       let x = accepted_member (seen d (histories w u)) m i in

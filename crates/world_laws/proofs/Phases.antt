@@ -16,9 +16,9 @@ use Rattle.sync_phases.specs.declared.fault.SyncFault.TheVariants.{LogCheck}
 use Rattle.sync_places.specs.inner.Facts.{AllDocuments}
 use Rattle.sync_places.proofs.Laters.{later_itself}
 use Rattle.sync_world.specs.Source.{Session, Idle, AwaitsInfo, HasInfo, AwaitsReturned, Taking, Settled, AwaitsKept}
-use Rattle.sync_world.specs.Source.{Complete, Turn, asks, finish_turn, finishes_by, goes, makes, posts, send_turn}
+use Rattle.sync_world.specs.Source.{Complete, asks, finish_turn, finishes_by, goes, makes, posts, send_turn}
 use Rattle.sync_world.specs.Source.{settle_turn, settles_by, take_turn, takes_by, unless_fault}
-use Rattle.sync_world.specs.World.{World, Sent, Command, Put, Delete, Resolve, CreateIndex, DeleteIndex, command_step}
+use Rattle.sync_world.specs.World.{World, Command, Put, Delete, Resolve, CreateIndex, DeleteIndex, command_step}
 use Rattle.sync_world.proofs.Turns.{by_info_is}
 use Rattle.world_laws.proofs.Becoming.{Becomes}
 use Rattle.world_laws.proofs.Kept.{session-later, still_sent}
@@ -105,7 +105,7 @@ module _ (s : States) (w : World) (p : PlacedOver s w) (u : Uid) where
     send_at (AwaitsInfo m) h = goes_at (AwaitsInfo m) h
     send_at (HasInfo info) h =
         by_info_is (λ result. TurnAt s w.sent u (unless_fault result)) (s u) info (goes (Complete info.target))
-        (posts (s u) (length w.sent) info) (goes_at (Complete info.target) tt) (posts_at s w p u documents info h)
+        (posts (s u) (length w.sent) info) (λ _. goes_at (Complete info.target) tt) (posts_at s w p u documents info h)
         (λ fault. goes_at Idle tt)
     send_at (AwaitsReturned v base m) h = goes_at (AwaitsReturned v base m) h
     send_at (Taking v base taken docs top) h = goes_at (Taking v base taken docs top) h

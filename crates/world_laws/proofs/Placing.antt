@@ -1,5 +1,5 @@
 -- Each step of a world keeps what holds of places, and so does every list of steps.
-use Rattle.std.specs.Prelude.{◌≡◌, ◌≢◌, ℕ, true, false, cond, ◌&&◌, List, [], ◌∷◌, ◌++◌, length, Option, Some, None}
+use Rattle.std.specs.Prelude.{◌≡◌, ◌≢◌, ℕ, true, false, cond, List, [], ◌∷◌, ◌++◌, length, Option, Some, None}
 use Rattle.std.specs.Prelude.{IfSome, refl}
 use Rattle.std.specs.List.{slice_get}
 use Rattle.std.proofs.Common.{sym, ◌∙◌, ap, subst, inl, inr, append-nil}
@@ -15,7 +15,7 @@ use Rattle.conflicts.proofs.Apart.{In-get}
 use Rattle.conflicts.proofs.States.{goes_on}
 use Rattle.sync_stream.specs.Messages.{Asks}
 use Rattle.sync_stream.specs.Replies as reply
-use Rattle.sync_stream.specs.Requests.{ForInfo, purpose_of}
+use Rattle.sync_stream.specs.Requests.{Question, ForInfo, purpose_of}
 use Rattle.sync_stream.specs.Serving.{serve}
 use Rattle.sync_places.specs.inner.Facts.{AllDocuments, KnownUpTo, Later, ToldUpTo}
 use Rattle.sync_places.proofs.Growing.{known-later, told_up-later}
@@ -26,7 +26,7 @@ use Rattle.sync_world.specs.World.{Take, Settle, Finish, BreakSession, BreakServ
 use Rattle.sync_world.specs.World.{ask_turn, command_step, delivered, histories, posted, reached, replied, replies}
 use Rattle.sync_world.specs.World.{start, state, turned, with_replica, without_serving}
 use Rattle.sync_world.specs.World as world
-use Rattle.world_laws.proofs.PairFacts.{Pair, PlacedOver, QuestionOk, ReplyOk, SentOk, Serves, ServingOk, SessionAt}
+use Rattle.world_laws.proofs.PairFacts.{PlacedOver, QuestionOk, ReplyOk, SentOk, Serves, ServingOk, SessionAt}
 use Rattle.world_laws.proofs.PairFacts.{States, StepOk}
 use Rattle.world_laws.proofs.Kept.{question-later, serves-later, session-later, still_sent}
 use Rattle.world_laws.proofs.Becoming.{Becomes, Placed, changed, changed_own, grows, moved, placed_then, state_then, still}
@@ -62,7 +62,8 @@ module _ (s : States) (w : World) (p : PlacedOver s w) (z : Uid) (t : State) (b 
   )
 
 -- a step of a serving
-module _ (s : States) (w : World) (p : PlacedOver s w) (v u : Uid) (x : Step) (k : StepOk u (s u) (s v) x) where
+module _ (s : States) (w : World) (p : PlacedOver s w) (v u : Uid) (x : Step) (q : Question)
+    (k : StepOk u (s u) (s v) q x) where
   told_then : (z : Uid) → ToldUpTo (s z) (s v) (position_kept (s v) Told z)
       → ToldUpTo (s z) (after (s v) x) (position_kept (after (s v) x) Told z)
   told_then z h =
@@ -171,7 +172,7 @@ module _ (w : World) (p : Placed w) where
       let s : States = state w in
       let u : Uid = request.source in
       let t : State = after (s v) x in
-      let b : Becomes s v t = serves_becomes s w p v u x h.0 in
+      let b : Becomes s v t = serves_becomes s w p v u x request.question h.0 in
       let r : Replica = record {
         history = histories w v ++ x ∷ [];
         session = (w.replica v).session;
@@ -217,7 +218,7 @@ module _ (w : World) (p : Placed w) where
       (p.serving r.source)
 
 -- the states are the same where a serving is over
-states_without : (w : World) (v : Uid) → state w ≡ state (without_serving w v)
+pub states_without : (w : World) (v : Uid) → state w ≡ state (without_serving w v)
 states_without w v =
     still (state w) v
     ∙ (λ i z. state_then w v (state w v)

@@ -1,23 +1,22 @@
 -- What a source does in each phase is good for every other replica.
-use Rattle.std.specs.Prelude.{◌≡◌, ◌≢◌, ◌==◌, ℕ, ◌+◌, ◌≤◌, ◌&&◌, nat_le, Bool, true, false, not, if◌then◌else◌, List, [], ◌∷◌, ◌++◌}
-use Rattle.std.specs.Prelude.{length, Option, Some, None, IfSome, Result, Ok, Err, unwrap_or, refl}
-use Rattle.std.proofs.Common.{sym, ◌∙◌, ap, subst, inl, inr, eqb-true}
+use Rattle.std.specs.Prelude.{◌≡◌, ◌≢◌, ◌==◌, ℕ, ◌+◌, ◌&&◌, nat_le, true, false, List, [], ◌∷◌, ◌++◌}
+use Rattle.std.specs.Prelude.{length, Option, Some, None, IfSome, unwrap_or, refl}
+use Rattle.std.proofs.Common.{sym, ◌∙◌, ap, subst, eqb-true}
 use Rattle.std.proofs.lemmas.Bool.{and_parts}
 use Rattle.u1_base.specs.Ids.{same_id}
-use Rattle.u1_base.specs.Places.{Place, nowhere, same_place}
+use Rattle.u1_base.specs.Places.{Place, nowhere}
 use Rattle.u1_base.proofs.SameIds.{same_id_is}
 use Rattle.translog.specs.Entries.{changes_since}
-use Rattle.translog.specs.Log.{end_of, fits_log}
+use Rattle.translog.specs.Log.{end_of}
 use Rattle.translog.specs.Source.{passes}
 use Rattle.vector_rev.specs.Counts.{Uid}
 use Rattle.conflicts.specs.Lists.{last_or}
 use Rattle.conflicts.specs.State.{State, Step, after, after_all, move_of, position_kept, positions_by, same_table}
-use Rattle.conflicts.specs.Writing.{Answers, Refuses, kept_place, move_step, take_answers}
 use Rattle.conflicts.specs.declared.moves.Move.{Move}
 use Rattle.conflicts.specs.declared.moves.PosTable.{PosTable}
 use Rattle.conflicts.specs.declared.moves.PosTable.TheVariants.{Known, Told}
 use Rattle.sync_http.specs.declared.info.Info.{Info}
-use Rattle.sync_stream.specs.Requests.{ToKeep, ToExchange}
+use Rattle.sync_stream.specs.Requests.{ToKeep}
 use Rattle.sync_stream.specs.Serving.{sent, steps_for, steps_to, taken_of}
 use Rattle.sync_stream.specs.declared.line.SyncDoc.{SyncDoc}
 use Rattle.sync_phases.specs.Phases.{count_of, has_all, known_to, posted_to}
@@ -27,8 +26,7 @@ use Rattle.sync_places.proofs.Laters.{later_after, later_itself, le_itself}
 use Rattle.sync_places.proofs.Lines.{leaves, moved_to}
 use Rattle.sync_places.proofs.Pairs.{all_told, settle_known, take_known, take_recorded, take_returned}
 use Rattle.sync_places.proofs.Sending.{listed}
-use Rattle.sync_world.specs.Source.{Idle, HasInfo, AwaitsReturned, Taking, Settled, Complete, Turn, goes, posts, takes_by}
-use Rattle.sync_world.specs.Source.{settles_by, finishes_by}
+use Rattle.sync_world.specs.Source.{HasInfo, Taking, Settled, Turn, posts}
 use Rattle.sync_world.specs.World.{World, Sent, posted}
 use Rattle.world_laws.proofs.PairFacts.{Lists, PlacedOver, QuestionOk, RepliedOk, SessionAt, States}
 use Rattle.world_laws.proofs.Kept.{sent_last}

@@ -1,8 +1,8 @@
-//! What holds of the places that replicas keep of each other, after every list of steps of a world.
+//! What holds of the places that replicas keep of each other, and of a quiet session, in every world.
 //!
-//! The crate has laws; it runs nothing.
+//! The crate has definitions and laws; it runs nothing.
 #![tactic(auto)]
 
 mod laws;
 
-pub use laws::law_positions;
+pub use laws::{law_positions, law_quiet_sync};
