@@ -1,5 +1,6 @@
 -- The last place of a document in a log: what one entry more changes, and which changes the log tells by it.
-use Rattle.std.specs.Prelude.{◌≡◌, ℕ, zero, suc, ◌+◌, ◌<◌, ◌≤◌, ◌⊎◌, Bool, true, false, cond, not, ◌&&◌, ◌||◌, nat_lt, List, [], ◌∷◌}
+use Rattle.std.specs.Prelude.{◌≡◌, ℕ, zero, suc, ◌+◌, ◌<◌, ◌≤◌, ◌⊎◌, Bool, true, false, cond, not, ◌&&◌, ◌||◌, nat_lt}
+use Rattle.std.specs.Prelude.{List, [], ◌∷◌}
 use Rattle.std.specs.Prelude.{◌++◌, length, drop, Some, refl}
 use Rattle.std.specs.List.{list_any, slice_get}
 use Rattle.std.specs.Option.{option_map}
@@ -65,7 +66,8 @@ last_from-at d found n place [] l = absurd (no_entry l.entry l.stands)
     no_entry e is = cc
 last_from-at d found n zero (x ∷ es) l =
     last_from-none d (cond (same_id d x.doc) n found) (suc n) es l.alone
-    ∙ ap (λ b. cond b n found) (subst (λ (z : Entry). same_id d z.doc ≡ true) (sym (same_entry x l.entry l.stands)) l.is)
+    ∙ ap (λ b. cond b n found)
+    (subst (λ (z : Entry). same_id d z.doc ≡ true) (sym (same_entry x l.entry l.stands)) l.is)
     ∙ plus_zero n
   where
     same_entry : (x y : Entry) → Some x ≡ Some y → x ≡ y
@@ -99,7 +101,10 @@ last_from-finds d found n (x ∷ es) = elim (last_from-finds d (cond (same_id d 
       (λ b. same_id d x.doc ≡ b → ((last_from d found n (x ∷ es) ≡ found)
       × (list_any (λ e. same_id d e.doc) (x ∷ es) ≡ false)) ⊎ ((place : ℕ) × LastAt (x ∷ es) d place)) [
         | true ↦ λ t. inr (0, record { entry = x; stands = refl; is = t; alone = none.1 })
-        | false ↦ λ f. inl (none.0 ∙ ap (λ b. cond b n found) f, ap (λ b. b || list_any (λ e. same_id d e.doc) es) f ∙ none.1)
+        | false ↦ λ f. inl (
+          none.0 ∙ ap (λ b. cond b n found) f,
+          ap (λ b. b || list_any (λ e. same_id d e.doc) es) f ∙ none.1,
+        )
       ] refl
 ]
 

@@ -1,5 +1,6 @@
 -- A step leaves a state that the one before it may become, and what was covered or not older stays so.
-use Rattle.std.specs.Prelude.{◌≡◌, ℕ, ◌+◌, ◌<◌, ◌≤◌, ◌⊎◌, Bool, true, false, cond, not, ◌&&◌, List, [], ◌∷◌, ◌++◌, length}
+use Rattle.std.specs.Prelude.{◌≡◌, ℕ, ◌+◌, ◌<◌, ◌≤◌, ◌⊎◌, Bool, true, false, cond, not, ◌&&◌, List, [], ◌∷◌, ◌++◌}
+use Rattle.std.specs.Prelude.{length}
 use Rattle.std.specs.Prelude.{Option, Some, None, unwrap_or, refl}
 use Rattle.std.proofs.Common.{sym, ◌∙◌, ap, subst, inl, inr, arith, append-nil, length-append}
 use Rattle.std.proofs.lemmas.Bool.{and_parts, and_from}
@@ -15,7 +16,8 @@ use Rattle.vector_rev.specs.Clock.{Clock, covers, dominates}
 use Rattle.vector_rev.proofs.ClockLaws.{covers-itself, covers-trans}
 use Rattle.conflicts.specs.Lists.{last_or}
 use Rattle.conflicts.specs.Document.{Document, document_after, document_after_all}
-use Rattle.conflicts.specs.State.{State, Step, Text, Accepted, Gone, Moved, IndexCreated, IndexDeleted, accepts_in, after}
+use Rattle.conflicts.specs.State.{State, Step, Text, Accepted, Gone, Moved, IndexCreated, IndexDeleted, accepts_in}
+use Rattle.conflicts.specs.State.{after}
 use Rattle.conflicts.specs.State.{entries_in, move_of, position_kept, positions_by, same_table}
 use Rattle.conflicts.specs.declared.accept.Accept.{Accept}
 use Rattle.conflicts.specs.declared.member.Member.{Member}

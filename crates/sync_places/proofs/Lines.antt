@@ -14,7 +14,8 @@ use Rattle.vector_rev.specs.Counts.{Uid}
 use Rattle.conflicts.specs.Document.{Document, document_after_all}
 use Rattle.conflicts.specs.Lists.{last_or}
 use Rattle.conflicts.specs.Receipts.{after_taken}
-use Rattle.conflicts.specs.State.{State, Step, Text, Accepted, Moved, after, after_all, move_of, position_kept, same_table}
+use Rattle.conflicts.specs.State.{State, Step, Text, Accepted, Moved, after, after_all, move_of, position_kept}
+use Rattle.conflicts.specs.State.{same_table}
 use Rattle.conflicts.specs.Writing.{kept_place, next_trans, take_step}
 use Rattle.conflicts.specs.declared.accept.Accept.{Accept}
 use Rattle.conflicts.specs.declared.moves.Move.{Move}

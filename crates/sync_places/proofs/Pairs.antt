@@ -232,7 +232,9 @@ module _ (a t b : State) (v : Uid) (base taken : ℕ) (doc : SyncDoc) (docs : Li
       some_none e = cc
 
   inserted_some : (taken_of a doc true).outcome ≡ Inserted → (taken_of a doc true).accepted ≢ None
-  inserted_some i none = some_none (sym ((receipts.law (a.document doc.id) (documents doc.id) doc.member true a.uid).inserted i) ∙ none)
+  inserted_some i none =
+      some_none
+      (sym ((receipts.law (a.document doc.id) (documents doc.id) doc.member true a.uid).inserted i) ∙ none)
     where
       some_none : {z : Accept} → Some z ≡ None → ⊥
       some_none e = cc
@@ -249,7 +251,8 @@ module _ (a t b : State) (v : Uid) (base taken : ℕ) (doc : SyncDoc) (docs : Li
       by None e (inr c) = absurd (c.1 e)
       by None e (inl zero) =
           let len : length t.log ≡ length a.log =
-          l.log ∙ ap (λ (o : Option Accept). length a.log + (if is_some o then 1 else 0)) e ∙ plus_zero (length a.log) in
+          l.log ∙ ap (λ (o : Option Accept). length a.log + (if is_some o then 1 else 0)) e
+          ∙ plus_zero (length a.log) in
           record {
             grown = omega (arith, len, zero, h.grown);
             replied = λ all d r above is.

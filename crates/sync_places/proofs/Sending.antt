@@ -1,5 +1,6 @@
 -- What a replica sends of its changes: which documents stand in the list, and at which places.
-use Rattle.std.specs.Prelude.{◌≡◌, ℕ, suc, ◌<◌, ◌≤◌, ◌⊎◌, Bool, true, false, not, cond, ◌&&◌, nat_le, List, [], ◌∷◌, ◌++◌}
+use Rattle.std.specs.Prelude.{◌≡◌, ℕ, suc, ◌<◌, ◌≤◌, ◌⊎◌, Bool, true, false, not, cond, ◌&&◌, nat_le, List, [], ◌∷◌}
+use Rattle.std.specs.Prelude.{◌++◌}
 use Rattle.std.specs.Prelude.{length, filter, Option, Some, None, refl}
 use Rattle.std.specs.Option.{option_map}
 use Rattle.std.proofs.Common.{sym, ◌∙◌, ap, subst, inl, inr, arith, leb-true}
@@ -26,7 +27,8 @@ use Rattle.conflicts.proofs.Members.{In-either, In-left, In-right, In-filter, fr
 use Rattle.sync_stream.specs.Serving.{Held, is_held, sent, sent_if}
 use Rattle.sync_stream.specs.declared.line.SyncDoc.{SyncDoc}
 use Rattle.sync_places.specs.inner.Last.{last_of}
-use Rattle.sync_places.specs.inner.Facts.{CoversRev, NotOlder, AllDocuments, Rising, InDocs, Stands, Listed, Returned, AtLines}
+use Rattle.sync_places.specs.inner.Facts.{CoversRev, NotOlder, AllDocuments, Rising, InDocs, Stands, Listed, Returned}
+use Rattle.sync_places.specs.inner.Facts.{AtLines}
 use Rattle.sync_places.proofs.LastPlaces.{change_is, change_of, last_in-within}
 use Rattle.sync_places.proofs.Laters.{le_itself}
 

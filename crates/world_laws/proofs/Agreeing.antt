@@ -1,5 +1,6 @@
 -- Two documents of one member each, of which one is not older and the other one covers it, read the same.
-use Rattle.std.specs.Prelude.{◌≡◌, ℕ, zero, suc, ◌≤◌, Bool, true, false, cond, not, ◌||◌, List, [], ◌∷◌, ◌++◌, Option, Some}
+use Rattle.std.specs.Prelude.{◌≡◌, ℕ, zero, suc, ◌≤◌, Bool, true, false, cond, not, ◌||◌, List, [], ◌∷◌, ◌++◌, Option}
+use Rattle.std.specs.Prelude.{Some}
 use Rattle.std.specs.Prelude.{None, refl}
 use Rattle.std.specs.List.{flat_map, list_any}
 use Rattle.std.proofs.Common.{sym, ◌∙◌, ap, subst, inl, arith}

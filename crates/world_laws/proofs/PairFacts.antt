@@ -62,8 +62,8 @@ ReplyOk u v a b question Keeps = Unit {0}
 ReplyOk u v a b question (Returns top docs) = ReturnsOk v a b question top docs
 ReplyOk u v a b question (Refuses refusal) = Unit {0}
 
--- what a step that serves this question leaves of the documents: of a place that is told, all as it was; else each is in
--- conflict only if it was
+-- what a step that serves this question leaves of the documents: of a place that is told, all as they were; else each
+-- is in conflict only if it was
 abbrev pub LeavesBy : Question → State → State → Type 0
 LeavesBy ForInfo b c = (d : Text) → Single (b.document d) → Single (c.document d)
 LeavesBy (ToKeep at) b c = (d : Text) → c.document d ≡ b.document d

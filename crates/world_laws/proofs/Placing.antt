@@ -29,10 +29,12 @@ use Rattle.sync_world.specs.World as world
 use Rattle.world_laws.proofs.PairFacts.{PlacedOver, QuestionOk, ReplyOk, SentOk, Serves, ServingOk, SessionAt}
 use Rattle.world_laws.proofs.PairFacts.{States, StepOk}
 use Rattle.world_laws.proofs.Kept.{question-later, serves-later, session-later, still_sent}
-use Rattle.world_laws.proofs.Becoming.{Becomes, Placed, changed, changed_own, grows, moved, placed_then, state_then, still}
+use Rattle.world_laws.proofs.Becoming.{Becomes, Placed, changed, changed_own, grows, moved, placed_then, state_then}
+use Rattle.world_laws.proofs.Becoming.{still}
 use Rattle.world_laws.proofs.Serving.{documents_of, serve_ok}
 use Rattle.world_laws.proofs.Turning.{TurnAt, stays}
-use Rattle.world_laws.proofs.Phases.{asks_at, command_unmoved, finish_at, goes_at, send_at, settle_at, take_at, writes_at}
+use Rattle.world_laws.proofs.Phases.{asks_at, command_unmoved, finish_at, goes_at, send_at, settle_at, take_at}
+use Rattle.world_laws.proofs.Phases.{writes_at}
 use Rattle.world_laws.proofs.Hearing.{hears_ok}
 
 -- ---- a replica becomes another one

@@ -166,7 +166,8 @@ module _ (u v : Uid) (d : Text) (a b : State) (h : Between u v a b) where
   end_meets base top told returned all other (inr same) = same
 
 -- a document that comes back is what b reads; where it is accepted, a reads it then
-module _ (u v : Uid) (d : Text) (a t b : State) (doc : SyncDoc) (l : Leaves a t doc (taken_of a doc true).accepted (known_to v doc.at))
+module _ (u v : Uid) (d : Text) (a t b : State) (doc : SyncDoc)
+    (l : Leaves a t doc (taken_of a doc true).accepted (known_to v doc.at))
     (documents : AllDocuments a) (now : doc.member.content ≡ content_of (b.document doc.id)) where
   alike : (x y : Document) → x ≡ y → content_of x ≡ content_of y
   alike x y e = ap content_of e
@@ -319,7 +320,8 @@ module _ (u v : Uid) (d : Text) (a b : State) (sent : List Sent) (between : Betw
   finish_quiet (Taking t base taken docs top) h = stays_quiet (Taking t base taken docs top) h
   finish_quiet (Settled t base taken) h =
       elim (has_all a base taken) as
-      (λ k. LeavesQuiet u v d a b sent (finishes_by (length sent) t (if k then Some (ToKeep (end_of a.log)) else None))) [
+      (λ k. LeavesQuiet u v d a b sent
+      (finishes_by (length sent) t (if k then Some (ToKeep (end_of a.log)) else None))) [
         | true ↦ record { at = end_of a.log; asked = named; same = h.1 }
         | false ↦ h.1
       ]

@@ -1,5 +1,6 @@
 -- Each step of a quiet session keeps what holds of it, and at its end both sides read the same.
-use Rattle.std.specs.Prelude.{◌≡◌, ◌≢◌, ◌⊎◌, ℕ, ◌≤◌, ◌==◌, Bool, true, false, cond, if◌then◌else◌, List, [], ◌∷◌, ◌++◌, length}
+use Rattle.std.specs.Prelude.{◌≡◌, ◌≢◌, ◌⊎◌, ℕ, ◌≤◌, ◌==◌, Bool, true, false, cond, if◌then◌else◌, List, [], ◌∷◌}
+use Rattle.std.specs.Prelude.{◌++◌, length}
 use Rattle.std.specs.Prelude.{nat_lt, Option, Some, None, IfSome, refl}
 use Rattle.std.specs.List.{slice_get}
 use Rattle.std.proofs.Common.{sym, ◌∙◌, ap, subst, inl, inr, eqb-true, lt-ltb}
@@ -23,14 +24,15 @@ use Rattle.sync_places.specs.inner.Facts.{Returned, ToldTo}
 use Rattle.sync_places.specs.inner.Last.{last_of}
 use Rattle.sync_places.proofs.LastPlaces.{last_in-within}
 use Rattle.sync_world.specs.Source.{Session, Idle, AwaitsInfo, HasInfo, AwaitsReturned, Taking, Settled, AwaitsKept}
-use Rattle.sync_world.specs.Source.{Complete, Turn, asks, finish_turn, goes, hears, info_in, kept_in, makes, returned_in}
+use Rattle.sync_world.specs.Source.{Complete, Turn, asks, finish_turn, goes, hears, info_in, kept_in, makes}
+use Rattle.sync_world.specs.Source.{returned_in}
 use Rattle.sync_world.specs.Source.{send_turn, settle_turn, take_turn}
 use Rattle.sync_world.specs.World.{World, WorldStep, Sent, Serving, Replica, Local, Ask, Reach, Apply, Reply, Send}
 use Rattle.sync_world.specs.World.{Take, Settle, Finish, BreakSession, BreakServing, Stop, after, after_all, applied}
 use Rattle.sync_world.specs.World.{applies, ask_turn, command_step, delivered, histories, posted, reached, replied}
 use Rattle.sync_world.specs.World.{replies, start, state, turned, turns, with_replica, without_serving}
 use Rattle.sync_world.proofs.Traced.{IsTraced, after_all_is, after_is, start_is}
-use Rattle.world_laws.specs.Quiet.{Belongs, Passes, Quiet, waits_for}
+use Rattle.world_laws.specs.Quiet.{Belongs, Passes, Quiet, QuietAgrees, waits_for}
 use Rattle.world_laws.proofs.Agreeing.{read_logged}
 use Rattle.world_laws.proofs.Becoming.{Placed}
 use Rattle.world_laws.proofs.Hearing.{same_sent}
@@ -455,7 +457,8 @@ quiet_all : (u v : Uid) (d : Text) → u ≢ v → (w : World) → Placed w → 
 quiet_all u v d apart w p t h [] is =
     subst (λ (k : Session). QuietAt u v d (state w u) (state w v) w.sent k) is h
 quiet_all u v d apart w p t h (x ∷ later) q =
-    quiet_all u v d apart (after w x) (after_at w p x) (after_is w t x) (quiet_after w u v d apart h p t x q.0) later q.1
+    quiet_all u v d apart (after w x) (after_at w p x) (after_is w t x) (quiet_after w u v d apart h p t x q.0) later
+    q.1
 
 not_conflicted : (x : Document) → is_conflicted x ≡ false → Single x
 not_conflicted x e = elim (cases_lt 1 (length x.members)) [
@@ -481,14 +484,8 @@ module _ (w : World) (u v : Uid) (d : Text) (apart : u ≢ v) (one : Single ((st
       subst (λ (o : Option Serving). QuietHere (turned w u (ask_turn w u v) o) u v d) (sym free)
       (turn_none w u v d apart (ask_turn w u v) asks_leaves)
 
-pub quiet_sync : (name : Text) (before later : List WorldStep) (u v : Uid) → u ≢ v
-    → ((after_all (start name) before).replica u).serving ≡ None
-    → Quiet (after (after_all (start name) before) (Ask u v)) u v later
-    → (d : Text) → is_conflicted ((state (after_all (start name) before) u).document d) ≡ false
-    → is_conflicted ((state (after_all (start name) before) v).document d) ≡ false
-    → content_of ((state (after_all (after (after_all (start name) before) (Ask u v)) later) u).document d)
-    ≡ content_of ((state (after_all (after (after_all (start name) before) (Ask u v)) later) v).document d)
-quiet_sync name before later u v apart free quiet d mine theirs =
+pub quiet_agrees : (name : Text) (before : List WorldStep) → QuietAgrees (after_all (start name) before)
+quiet_agrees name before u v later apart free quiet d mine theirs =
     let w : World = after_all (start name) before in
     let p : Placed w = after_all_at (start name) (begins name) before in
     let t : IsTraced w = after_all_is (start name) (start_is name) before in

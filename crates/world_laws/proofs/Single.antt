@@ -165,7 +165,8 @@ at_covers own d w few (Some c) now m x = over_covers own d w few c now m x
 pub single_stays : (own : Uid) (d : Document) → IsDocument d → (x : Member) → Single d
     → Single (after_taken d (decides d x false own).accepted)
 single_stays own d w x few =
-    by (decides d x false own).accepted (decides_takes d w x false own) (at_covers own d w few d.current refl w.current x)
+    by (decides d x false own).accepted (decides_takes d w x false own)
+    (at_covers own d w few d.current refl w.current x)
   where
     by : (o : Option Accept) → IfSome o (TakesOf own d x)
         → IfSome o (λ a. (n : Member) → In n d.members → covers a.rev n.rev ≡ true) → Single (after_taken d o)

@@ -1,11 +1,14 @@
 -- A quiet session, which completes: from its beginning to its end nothing else changes the two replicas.
-use Rattle.std.specs.Prelude.{◌≡◌, ◌⊎◌, ℕ, Bool, false, List, [], ◌∷◌, Option, Some, None, IfSome}
+use Rattle.std.specs.Prelude.{◌≡◌, ◌≢◌, ◌⊎◌, ℕ, Bool, false, List, [], ◌∷◌, Option, Some, None, IfSome}
 use Rattle.u1_base.specs.Ids.{same_id}
+use Rattle.content.specs.Tree.{Tree}
 use Rattle.vector_rev.specs.Counts.{Uid}
+use Rattle.conflicts.specs.Document.{content_of, is_conflicted}
+use Rattle.conflicts.specs.State.{Text}
 use Rattle.sync_world.specs.Source.{Session, Idle, AwaitsInfo, HasInfo, AwaitsReturned, Taking, Settled, AwaitsKept}
 use Rattle.sync_world.specs.Source.{Complete}
 use Rattle.sync_world.specs.World.{World, WorldStep, Local, Ask, Reach, Apply, Reply, Send, Take, Settle, Finish}
-use Rattle.sync_world.specs.World.{BreakSession, BreakServing, Stop, after, histories}
+use Rattle.sync_world.specs.World.{BreakSession, BreakServing, Stop, after, after_all, histories, state}
 
 -- the request that a session waits for
 abbrev pub waits_for : Session → Option ℕ
@@ -62,3 +65,15 @@ pub record Passes (w : World) (u v : Uid) (x : WorldStep) : Type 0 where
 abbrev pub Quiet : World → Uid → Uid → List WorldStep → Type 0
 Quiet w u v [] = (w.replica u).session ≡ Complete v
 Quiet w u v (x ∷ later) = (Belongs w u v x ⊎ Passes w u v x) × Quiet (after w x) u v later
+
+-- what u reads of a document
+abbrev pub reads : World → Uid → Text → Option Tree
+reads w u d = content_of ((state w u).document d)
+
+-- A QUIET SESSION, begun in this world by u with v, leaves both with equal contents of each document that neither held
+-- in conflict
+abbrev pub QuietAgrees : World → Type 0
+QuietAgrees w = (u v : Uid) (later : List WorldStep) → u ≢ v → (w.replica u).serving ≡ None
+    → Quiet (after w (Ask u v)) u v later → (d : Text) → is_conflicted ((state w u).document d) ≡ false
+    → is_conflicted ((state w v).document d) ≡ false
+    → reads (after_all (after w (Ask u v)) later) u d ≡ reads (after_all (after w (Ask u v)) later) v d

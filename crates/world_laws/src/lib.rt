@@ -1,8 +1,8 @@
-//! What holds of the places that replicas keep of each other, and of a quiet session, in every world.
+//! What holds in every world of the places that replicas keep, and of quiet sessions.
 //!
 //! The crate has definitions and laws; it runs nothing.
 #![tactic(auto)]
 
 mod laws;
 
-pub use laws::{law_positions, law_quiet_sync};
+pub use laws::{law_positions, law_quiet_sync, law_quiet_worked};

@@ -40,7 +40,8 @@ pub record Later (s t : State) : Type 0 where
   pub fits : (p : Place) → FitsLog s.log p → FitsLog t.log p
   pub documents : (d : Text)
       → ((last_of t d ≡ last_of s d) × (t.document d ≡ s.document d)) ⊎ (length s.log < last_of t d)
-  pub places : (table : PosTable) (u : Uid) → (position_kept s table u).generation ≤ (position_kept t table u).generation
+  pub places : (table : PosTable) (u : Uid)
+      → (position_kept s table u).generation ≤ (position_kept t table u).generation
   pub covered : (d : Text) (r : Clock) → CoversRev (s.document d) r → CoversRev (t.document d) r
   pub not_older : (d : Text) (r : Clock) → NotOlder (s.document d) r → NotOlder (t.document d) r
 
