@@ -16,7 +16,7 @@ use Rattle.translog.specs.declared.entry.Entry.{Entry}
 use Rattle.conflicts.specs.Lists.{In}
 use Rattle.conflicts.specs.State.{Text}
 use Rattle.conflicts.proofs.Members.{In-filter, from_filter}
-use Rattle.sync_places.specs.Paired.{IsUnchangedSince}
+use Rattle.conflicts.specs.inner.Paired.{IsUnchangedSince}
 use Rattle.sync_places.specs.inner.Last.{last_from, last_in}
 
 -- ---- one entry more

@@ -1,2 +1,1 @@
-pub mod Paired
 pub mod inner

@@ -8,7 +8,7 @@ use Rattle.conflicts.specs.declared.member.Member.{Member}
 use Rattle.conflicts.specs.declared.moves.PosTable.TheVariants.{Known, Told}
 use Rattle.lineage.specs.Histories.{Descends, seen}
 use Rattle.lineage.proofs.Descended.{accepted_member, ancestry}
-use Rattle.sync_places.specs.Paired.{Paired}
+use Rattle.conflicts.specs.inner.Paired.{Paired}
 use Rattle.sync_places.proofs.LastPlaces.{last_before}
 use Rattle.sync_world.specs.World.{World, WorldStep, after_all, histories, start, state}
 use Rattle.sync_world.proofs.Traced.{after_all_is, start_is}

@@ -2,7 +2,7 @@
 ghost use Rattle.std.specs.Prelude.{◌≢◌, List};
 ghost use Rattle.vector_rev.specs.Counts.{Uid};
 ghost use Rattle.conflicts.specs.State.{Text};
-ghost use Rattle.sync_places.specs.Paired.{Paired};
+ghost use Rattle.conflicts.specs.inner.Paired.{Paired};
 ghost use Rattle.sync_world.specs.World.{WorldStep, after_all, start, state};
 ghost use Rattle.world_laws.specs.Quiet.{QuietAgrees};
 ghost use Rattle.world_laws.specs.Worked.{QuietAsWorked};
