@@ -56,8 +56,9 @@ module _ (of : Histories) (u : Uid) where
   makes_is (Some x) session lawful h = record { steps = inr (x, refl, lawful); session = h; sends = tt }
 
 -- what an info leads to: one of its two ends, or a fault
-by_info_is : {A : Type 0} (P : Result A SyncFault → Type 0) (s : State) (info : Info) (level send : A) → P (Ok level)
-    → P (Ok send) → ((fault : SyncFault) → P (Err fault)) → P (by_info s info level send)
+pub by_info_is : {A : Type 0} (P : Result A SyncFault → Type 0) (s : State) (info : Info) (level send : A)
+    → (is_level s info ≡ true → P (Ok level)) → P (Ok send) → ((fault : SyncFault) → P (Err fault))
+    → P (by_info s info level send)
 by_info_is P s info level send p q none =
     elim (not (same_id info.source s.uid)) as
     (λ b. P (if b then Err (Broken 1) else
@@ -68,14 +69,15 @@ by_info_is P s info level send p q none =
           (λ b. P (if b then Err (LogCheck (mine_of s.log info.source_at) info.source_at) else
           (if is_level s info then if_same s info level else Ok send))) [
             | true ↦ none (LogCheck (mine_of s.log info.source_at) info.source_at)
-            | false ↦ elim (is_level s info) as (λ b. P (if b then if_same s info level else Ok send)) [
-              | true ↦ elim (same_place (known_of s info.target) info.target_at) as
-                  (λ b. P (if b then Ok level else Err (LogCheck (known_of s info.target) info.target_at))) [
-                    | true ↦ p
-                    | false ↦ none (LogCheck (known_of s info.target) info.target_at)
-                  ]
-              | false ↦ q
-            ]
+            | false ↦ elim (is_level s info) as
+                (λ b. is_level s info ≡ b → P (if b then if_same s info level else Ok send)) [
+                  | true ↦ λ t. elim (same_place (known_of s info.target) info.target_at) as
+                      (λ b. P (if b then Ok level else Err (LogCheck (known_of s info.target) info.target_at))) [
+                        | true ↦ p t
+                        | false ↦ none (LogCheck (known_of s info.target) info.target_at)
+                      ]
+                  | false ↦ λ _. q
+                ] refl
           ]
     ]
 
@@ -91,7 +93,7 @@ module _ (name : Text) (of : Histories) (descends : Descends of) (u : Uid) where
   send_is n (HasInfo info) h =
       by_info_is (λ result. TurnIs of u (unless_fault result)) here info (goes (Complete info.target))
       (posts here n info)
-      (goes_is of u (Complete info.target) tt)
+      (λ _. goes_is of u (Complete info.target) tt)
       (asks_is of u (AwaitsReturned info.target (length here.log) n) info.target
       (posted_to here info.target info.source_at) tt
       (sent_were name of descends u (changes_since here.log info.source_at.generation)))

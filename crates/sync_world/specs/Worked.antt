@@ -23,13 +23,13 @@ use Rattle.sync_world.specs.World.{BreakSession, Local, Put, after_all, historie
 
 -- ---- what is spoken of: the replicas a and b, and the document d that a made
 
-abbrev a : List ℕ
+abbrev pub a : List ℕ
 a = codes "a"
 
-abbrev b : List ℕ
+abbrev pub b : List ℕ
 b = codes "b"
 
-abbrev d : List ℕ
+abbrev pub d : List ℕ
 d = codes "d"
 
 -- the clock a:1
@@ -37,7 +37,7 @@ abbrev at_a : Clock
 at_a = record { entries = (a, 1) ∷ []; well = tt }
 
 -- {"v":"a"}
-abbrev content : Tree
+abbrev pub content : Tree
 content = object (field (codes "v") (text a) no_fields)
 
 abbrev member : Member
@@ -67,7 +67,7 @@ between of_a of_b sent = record {
 }
 
 -- a has made the document, and b has nothing
-abbrev first : World
+abbrev pub first : World
 first = between (made ∷ []) [] []
 
 -- a's post, as the first request

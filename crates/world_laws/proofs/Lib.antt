@@ -1,0 +1,13 @@
+pub mod Single
+pub mod PairFacts
+pub mod Kept
+pub mod Becoming
+pub mod Serving
+pub mod Turning
+pub mod Phases
+pub mod Hearing
+pub mod Placing
+pub mod Paired
+pub mod Agreeing
+pub mod Quieted
+pub mod Quieting
