@@ -1,0 +1,10 @@
+pub mod Results
+pub mod Passed
+pub mod Room
+pub mod Given
+pub mod Taken
+pub mod Come
+pub mod Pushed
+pub mod Flushed
+pub mod Begun
+pub mod Ends

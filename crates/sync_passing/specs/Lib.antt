@@ -1,0 +1,5 @@
+pub mod Passed
+pub mod Refused
+pub mod Coming
+pub mod Bodies
+pub mod inner

@@ -1,0 +1,3 @@
+-- Words that no public contract cites: those of private contracts and of proofs.
+pub mod Taken
+pub mod Pieces

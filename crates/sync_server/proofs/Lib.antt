@@ -1,0 +1,4 @@
+mod Served
+mod Asked
+mod Still
+mod Exchanged

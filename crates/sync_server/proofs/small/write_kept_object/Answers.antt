@@ -1,0 +1,12 @@
+use Rattle.std.proofs.Common.{refl, append_assoc}
+use Rattle.sync_server.proofs.small.write_kept_object.Goals as goal
+
+pub returns-clause-tokens : goal.returns-clause-tokens
+returns-clause-tokens c =
+    rw (
+      c.in_ok-end_object.ensures.ok,
+      c.in_ok-boolean.ensures.ok,
+      c.in_ok-key.ensures.ok,
+      c.in_ok-begin_object.ensures.ok,
+    )
+    (simp append_assoc refl)

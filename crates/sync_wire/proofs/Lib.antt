@@ -1,0 +1,4 @@
+pub mod Flushed
+pub mod Lengths
+pub mod Nothing
+pub mod Opens
