@@ -1,5 +1,5 @@
 -- What was written stays where it is only handed on.
-use Rattle.std.proofs.Common.{◌≡◌, ℕ, List, ◌++◌, length, take, Option, Some, None, ◌∙◌, refl, sym, subst, arith}
+use Rattle.std.proofs.Common.{ℕ, List, length, take, Option, Some, None, ◌∙◌, refl, sym, subst, arith}
 use Rattle.std.specs.Io.KnownBytes.{Appends, Keeps}
 use Rattle.std.proofs.lemmas.List.{take_all}
 use Rattle.link.specs.Streams.{AppendsFront}

@@ -1,5 +1,5 @@
 -- A head is no longer than the bytes that begin with it.
-use Rattle.std.proofs.Common.{◌≡◌, ℕ, ◌+◌, ◌≤◌, min, List, ◌++◌, length, sym, ap, ◌∙◌, arith}
+use Rattle.std.proofs.Common.{◌≡◌, ℕ, ◌+◌, ◌≤◌, min, List, length, sym, ap, ◌∙◌, arith}
 use Rattle.std.proofs.lemmas.List.{length-append, length-take}
 use Rattle.httparse.specs.Grammar.{print_request}
 use Rattle.sync_http.specs.Hearing.{Said, SaysRequest, most_bytes}

@@ -1,4 +1,3 @@
 pub mod Flushed
 pub mod Lengths
-pub mod Nothing
 pub mod Opens

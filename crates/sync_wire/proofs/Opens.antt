@@ -1,8 +1,9 @@
 -- What reading a head comes to, by the bytes that were read before and the last piece.
-use Rattle.std.proofs.Common.{◌≡◌, ◌⊎◌, ℕ, ◌≤◌, List, [], ◌∷◌, ◌++◌, length, Option, Some, None, Ok, Err, Result}
+use Rattle.std.proofs.Common.{◌≡◌, ◌⊎◌, inl, ℕ, ◌+◌, ◌≤◌, List, [], ◌∷◌, ◌++◌, length, Option, Some, None, Ok, Err, Result}
 use Rattle.std.proofs.Common.{IfErr, refl, sym, ap, subst, ◌∙◌, append_assoc, append-nil, arith}
 use Rattle.std.specs.Prelude.{IfOk}
 use Rattle.std.specs.Io.KnownBytes.{Consumes, IsAtEnd, Keeps}
+use Rattle.std.proofs.lemmas.List.{length-append}
 use Rattle.std.proofs.KnownBytes.{Consumes-nil, Consumes-trans}
 use Rattle.link.specs.Pieces.{AddsNext}
 use Rattle.link.specs.declared.input.InputFault.{InputFault}
@@ -94,6 +95,14 @@ module _ (first old new : Option (List ℕ)) (start bytes : List ℕ) (has : Has
     next.added ∙ ap (λ (t : List ℕ). t ++ next.given) has.1 ∙ append_assoc start has.0 next.given,
     Consumes-trans first old new has.0 next.given has.2 next.consumed,
   )
+
+  -- it did not read behind the end
+  pub read_within : (end : ℕ) (grown : List ℕ) (n : ℕ) → AddsNext old new bytes grown n → length bytes + n ≤ end
+      → (length grown ≤ end) ⊎ (grown ≡ start)
+  read_within end grown n next fits =
+      let all = ap length next.added ∙ length-append bytes next.given in
+      let many = next.many in
+      inl (omega (arith, all, many, fits))
 
   pub read_all : (end : ℕ) → (end ≤ length bytes) ⊎ IsAtEnd old → ReadsUpTo end first old start bytes
   read_all end all = record { read = has.0; gone = has.2; added = has.1; all = all }

@@ -1,5 +1,5 @@
 //! The next bytes of a connection.
-ghost use Rattle.std.specs.Prelude.{◌≡◌, ◌≤◌, ◌<◌, IfErr, IfOk, OnErr, Err, List, ℕ, length};
+ghost use Rattle.std.specs.Prelude.{◌≡◌, ◌⊎◌, ◌≤◌, ◌<◌, IfErr, IfOk, OnErr, Err, List, ℕ, length};
 ghost use Rattle.std.specs.Io.KnownBytes.{Consumes, Keeps};
 ghost use Rattle.u1_base.specs.Causes.{HasCauseOf};
 ghost use Rattle.link.specs.Pieces.{AddsNext};
@@ -42,12 +42,15 @@ pub fn read_piece<C: Conn>(
     }
 }
 
-/// Reads on until there are so many bytes, or the source ends. It may have some more.
+/// Reads on until there are so many bytes, or the source ends. It never reads more, so there are
+/// more only if there were before.
+#[tactic(auto, using(crate::proofs::Opens::read_within))]
 pub fn read_up_to<C: Conn>(conn: &mut C, bytes: &mut Bytes, end: usize) -> Result<(), InputFault>
     ensures reads { IfOk result (λ _. ReadsUpTo end
         (C.Source.known conn.old).left (C.Source.known conn.new).left bytes.old bytes.new) }
     ensures lost { IfErr result (LosesPiece
         (C.Source.known conn.old).left (C.Source.known conn.new).left bytes.old bytes.new) }
+    ensures within { (length bytes.new ≤ end) ⊎ (bytes.new ≡ bytes.old) }
     ensures cause { HasCauseOf input.Source
         (C.Source.known conn.old).faults (C.Source.known conn.new).faults result }
     ensures sink { C.Sink.known conn.new ≡ C.Sink.known conn.old }

@@ -66,7 +66,7 @@ fn joined(alloc: Global, status: u16, stream: bool, body: &[u8]) -> Result<Bytes
 }
 
 /// Writes the text, and hands on what was written.
-#[tactic(auto, using(crate::proofs::Flushed::kept_all, crate::proofs::Flushed::kept_front))]
+#[tactic(auto, using(crate::proofs::Flushed::kept_all))]
 pub fn put_flushed<C: Conn>(conn: &mut C, text: &[u8]) -> Result<(), WriteFailed>
     ensures put { OnOk result (Appends (C.Sink.known conn.old).taken
         (C.Sink.known conn.new).taken text.now) }

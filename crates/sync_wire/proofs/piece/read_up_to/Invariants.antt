@@ -1,4 +1,4 @@
-use Rattle.std.proofs.Common.{◌≡◌, ◌≤◌, ◌-◌, length}
+use Rattle.std.proofs.Common.{◌≡◌, ◌⊎◌, ◌≤◌, ◌-◌, length}
 use Rattle.sync_wire.proofs.Opens.{HasRead}
 use Rattle.sync_wire.proofs.piece.read_up_to.Given as goal
 
@@ -6,6 +6,7 @@ use Rattle.sync_wire.proofs.piece.read_up_to.Given as goal
 abbrev pub invariant-loop-bytes : goal.invariant-loop-bytes
 invariant-loop-bytes g l = record {
   read : HasRead (g.C.Source.known l.initial.conn).left (g.C.Source.known l.conn).left l.initial.bytes l.bytes;
+  within : (length l.bytes ≤ l.end) ⊎ (l.bytes ≡ l.initial.bytes);
   later : (g.C.Source.known l.initial.conn).faults ≤ (g.C.Source.known l.conn).faults;
   sink : g.C.Sink.known l.conn ≡ g.C.Sink.known l.initial.conn;
 }

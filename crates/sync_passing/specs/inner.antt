@@ -1,3 +1,0 @@
--- Words that no public contract cites: those of private contracts and of proofs.
-pub mod Taken
-pub mod Pieces

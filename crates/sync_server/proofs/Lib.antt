@@ -1,4 +1,0 @@
-mod Served
-mod Asked
-mod Still
-mod Exchanged
