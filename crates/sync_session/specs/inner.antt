@@ -1,0 +1,4 @@
+-- Words that no public contract cites: those of private contracts and of proofs.
+pub mod Faults
+pub mod Posted
+pub mod Taken
