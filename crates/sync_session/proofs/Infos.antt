@@ -2,20 +2,20 @@
 use Rattle.std.proofs.Common.{◌≡◌, ℕ, List, inl, inr, Bool, true, false, cond, not, Result, Ok, Err, refl, sym, ap, ◌∙◌}
 use Rattle.u1_base.specs.Ids.{same_id}
 use Rattle.u1_base.specs.Places.{same_place}
-use Rattle.translog.specs.Log.{fits_log}
+use Rattle.translog.specs.Log.{fits_log, mine_of}
 use Rattle.conflicts.specs.State.{State}
 use Rattle.sync_http.specs.declared.info.Info.{Info}
 use Rattle.sync_phases.specs.Phase.{and_then}
 use Rattle.sync_link.specs.Links.{LinkKnown}
 use Rattle.sync_stream.specs.Messages.{SaysInfo}
 use Rattle.sync_stream.specs.Requests.{ForInfo}
-use Rattle.sync_phases.specs.Phases.{ask, by_info, if_same, informed, is_level, known_of, level_with, mine_of}
+use Rattle.sync_phases.specs.Phases.{ask, by_info, if_same, informed, is_level, known_of, level_with}
 use Rattle.sync_phases.specs.Phases.{small_heard}
 use Rattle.sync_phases.specs.Seen.{Begun, Informed}
 use Rattle.sync_phases.specs.declared.asked.Asked.{Asked}
 use Rattle.sync_phases.specs.declared.asked.Asked.TheVariants.{Level, Send}
 use Rattle.sync_phases.specs.declared.fault.SyncFault.{SyncFault}
-use Rattle.sync_phases.specs.declared.fault.SyncFault.TheVariants.{Broken, LogCheck, Memory}
+use Rattle.sync_phases.specs.declared.fault.SyncFault.TheVariants.{Broken, LogCheck}
 use Rattle.sync_session.specs.Asked.{Asks, ComesTo}
 use Rattle.sync_session.proofs.Replies.{then_comes, then_fails}
 
@@ -70,7 +70,7 @@ module _ {A : Type 0} (s : State) (info : Info) (level send : A) where
 
 -- ---- the first phase
 
-abbrev no_info : SyncFault → Result Info SyncFault
+abbrev pub no_info : SyncFault → Result Info SyncFault
 no_info fault = Err fault
 
 module _ (serves : ℕ → State → List ℕ → List ℕ → State → Type 0) (stops : ℕ → State → List ℕ → State → Type 0)

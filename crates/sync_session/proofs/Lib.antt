@@ -2,8 +2,3 @@ mod Replies
 mod Infos
 mod Settled
 mod Told
-mod Posts
-mod Takings
-mod Lined
-mod Flushes
-mod Exchanges

@@ -1,5 +1,5 @@
 -- A small body that came as bytes, by its reader.
-use Rattle.std.proofs.Common.{◌≡◌, ◌⊎◌, ℕ, Bool, true, false, cond, List, [], length, take, drop, Option, Some, Result}
+use Rattle.std.proofs.Common.{◌≡◌, ℕ, Bool, true, false, cond, List, [], length, take, drop, Option, Some, Result}
 use Rattle.std.proofs.Common.{Ok}
 use Rattle.std.proofs.Common.{Err}
 use Rattle.std.proofs.Common.{inl, inr, refl, sym, ap, ◌∙◌, nat_lt}
@@ -12,7 +12,6 @@ use Rattle.sync_stream.specs.Messages.{most_small, small_if, small_of}
 use Rattle.sync_phases.specs.Phase.{and_then}
 use Rattle.sync_phases.specs.Phases.{small_ends, small_heard}
 use Rattle.sync_phases.specs.declared.fault.SyncFault.{SyncFault}
-use Rattle.sync_phases.specs.declared.fault.SyncFault.TheVariants.{Memory}
 use Rattle.sync_asking.specs.Heard.{HearsSmall, SaysBytes}
 use Rattle.sync_session.specs.Asked.{ComesOf, ComesTo}
 

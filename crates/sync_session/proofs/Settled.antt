@@ -1,17 +1,15 @@
 -- A phase that decides once makes one step or none.
-use Rattle.std.proofs.Common.{◌≡◌, ◌≢◌, inl, inr, ℕ, Bool, true, false, true≢false, [], ◌∷◌, ◌++◌, Option, Some, None}
-use Rattle.std.proofs.Common.{Result, Ok, Err}
-use Rattle.std.proofs.Common.{refl, sym, ap, ap₂, subst, ◌∙◌, arith, append-nil}
+use Rattle.std.proofs.Common.{◌≡◌, inl, inr, ℕ, Bool, true, false, true≢false, [], ◌∷◌, ◌++◌, Option, Some, None}
+use Rattle.std.proofs.Common.{Ok, Err}
+use Rattle.std.proofs.Common.{refl, sym, ap, ap₂, subst, ◌∙◌, append-nil}
 use Rattle.std.proofs.lemmas.Bool.{cases_lt}
 use Rattle.std.specs.Prelude.{List}
-use Rattle.std.specs.Prelude.{◌<◌, ◌≤◌, IsTrue, option_to_list, if◌then◌else◌}
-use Rattle.u1_base.specs.Causes.{Rose}
+use Rattle.std.specs.Prelude.{◌<◌, ◌≤◌, if◌then◌else◌}
 use Rattle.conflicts.specs.State.{History, State, Step, after_all}
 use Rattle.conflicts.specs.Writing.{Answers, Decided, Refuses, kept_place, move_step}
-use Rattle.conflicts.specs.declared.moves.Move.{Move}
 use Rattle.translog.specs.Source.{passes}
-use Rattle.replica_state.specs.Held.{lists_of, meaning_of}
-use Rattle.replica_core.specs.Replica.{AddsOnly, Found, Known, MayStand, Stands, Stored, state_in, stored_after}
+use Rattle.replica_state.specs.Held.{meaning_of}
+use Rattle.replica_core.specs.Replica.{AddsOnly, Found, Known, MayStand, Stands, Stored, state_in}
 use Rattle.replica_core.specs.Replica.{stored_in}
 use Rattle.replica_core.specs.Runs.{StandsAfterFirst}
 use Rattle.replica_core.specs.Calls.{IsDone}
@@ -19,16 +17,16 @@ use Rattle.replica_core.specs.CallsDecide.{move_decides}
 use Rattle.replica_core.specs.CallsFaults.{take_failure}
 use Rattle.replica_core.specs.declared.calls.receipts.TakeFault.{TakeFault}
 use Rattle.replica_core.specs.declared.calls.receipts.TakeFault.TheVariants as take
-use Rattle.sync_exchange.specs.Served.{HadRoom, HasMade, IsOpenOrFailed}
+use Rattle.sync_exchange.specs.Served.{HadRoom, HasMade}
 use Rattle.sync_exchange.proofs.Renamed.{renamed}
-use Rattle.sync_phases.specs.Phase.{Phase, ended, unless_refused}
+use Rattle.sync_phases.specs.Phase.{ended, unless_refused}
 use Rattle.sync_phases.specs.Phases.{end_decides, known_to}
 use Rattle.sync_phases.specs.Phases as phases
 use Rattle.sync_phases.specs.Seen.{Exchanged}
 use Rattle.u1_base.specs.Places.{Place}
 use Rattle.vector_rev.specs.Counts.{Uid}
 use Rattle.sync_phases.specs.declared.fault.SyncFault.{SyncFault}
-use Rattle.sync_phases.specs.declared.fault.SyncFault.TheVariants.{LogCheck, Full, Disk, Memory}
+use Rattle.sync_phases.specs.declared.fault.SyncFault.TheVariants.{LogCheck, Full}
 use Rattle.sync_session.specs.Made.{Does, EndsSo}
 use Rattle.sync_session.specs.Made.EndsSo.{whole, full, failed, stopped}
 use Rattle.sync_session.specs.inner.Faults.{take_ends}
@@ -36,7 +34,7 @@ use Rattle.sync_session.specs.inner.Faults.{take_ends}
 -- ---- lists
 
 pub not_less : (a b : ℕ) → (b < a → ⊥) → a ≤ b
-not_less a b no = elim (cases_lt b a) [ inl less ↦ absurd (no less) | inr most ↦ most ]
+not_less a b never = elim (cases_lt b a) [ inl less ↦ absurd (never less) | inr most ↦ most ]
 
 pub head_is : {A : Type 0} {x y : A} {xs ys : List A} → x ∷ xs ≡ y ∷ ys → x ≡ y
 head_is e = cc
@@ -206,7 +204,7 @@ module _ {R : Type 0} (known : R → Known) (is_open : R → Type 0) (crash : R 
         later = done.later;
       };
       ends = failed done.cause done.left refl;
-      opened = λ no. absurd (no refl);
+      opened = λ other. absurd (other refl);
     }
     decided_err (Answers a step) take.Memory old new done =
         still (Answers a step) take.Memory step old new done done.left.0

@@ -4,7 +4,7 @@ use Rattle.vector_rev.specs.Counts.{Uid}
 use Rattle.conflicts.specs.State.{State}
 use Rattle.sync_http.specs.declared.address.Address.{Address}
 use Rattle.sync_link.specs.Links.{LinkKnown}
-use Rattle.sync_stream.specs.Messages.{HeardReply, NoReply, ReadsReply, SaysKept, Small}
+use Rattle.sync_stream.specs.Messages.{HeardReply, NoReply, ReadsReply, SaysKept}
 use Rattle.sync_stream.specs.Requests.{Question, request_text}
 use Rattle.sync_asking.specs.Carried.{Carries}
 use Rattle.sync_phases.specs.Phases.{finished}

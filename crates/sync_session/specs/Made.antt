@@ -1,10 +1,9 @@
 -- What a phase makes of a replica: its steps, all of them or some first ones, and why no more.
-use Rattle.std.specs.Prelude.{◌≡◌, ◌≢◌, ◌⊎◌, ℕ, ◌<◌, false, List, [], ◌∷◌, ◌++◌, Result, Err}
+use Rattle.std.specs.Prelude.{◌≡◌, ◌≢◌, ℕ, ◌<◌, false, [], ◌∷◌, ◌++◌, Result, Err}
 use Rattle.u1_base.specs.Causes.{Rose}
 use Rattle.conflicts.specs.State.{History, Step}
 use Rattle.replica_core.specs.Replica.{Found, Known, Stored}
 use Rattle.sync_stream.specs.Lines.{GoOn}
-use Rattle.sync_stream.specs.Messages.{HeardReply, ReadsReply}
 use Rattle.sync_exchange.specs.Served.{HasMade}
 use Rattle.sync_phases.specs.Phase.{Phase}
 use Rattle.sync_phases.specs.declared.fault.SyncFault.{SyncFault}
@@ -30,10 +29,3 @@ module _ {R : Type 0} (known : R → Known) (is_open : R → Type 0) (crash : R 
     pub makes : HasMade known is_open crash old new made phase.steps
     pub ends : EndsSo (known old) (known new) phase made result
     pub opened : result ≢ Err Disk → is_open new
-
-  -- the bytes say a reply, and the phase that is defined for it is done; or memory ran out before a head came
-  abbrev pub DoesOf : {A B : Type 0} → (List ℕ → ℕ → A → Type 0) → (HeardReply A → Phase B) → List ℕ → R → R
-      → Result B SyncFault → Type 0
-  DoesOf {A} says defined given old new result =
-      ((new ≡ old) × (result ≡ Err Memory))
-      ⊎ ((heard : HeardReply A) × ReadsReply says given heard × Does (defined heard) old new result)
