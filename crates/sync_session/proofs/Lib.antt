@@ -1,0 +1,4 @@
+mod Replies
+mod Infos
+mod Settled
+mod Told

@@ -1,0 +1,4 @@
+pub mod Made
+pub mod Seen
+pub mod Asked
+pub mod inner
