@@ -6,8 +6,6 @@ use Rattle.replica_core.specs.Replica.{AddsOnly, Found, Known, StandsAs, Stored,
 use Rattle.replica_core.specs.Calls.{IsDone, is_disk_failure}
 use Rattle.replica_core.specs.declared.fault.CommitFault.{CommitFault}
 
--- ---- one call
-
 abbrev pub no_crash : {R : Type 0} → R → ℕ → Found Stored → Type 0
 no_crash r k found = ⊥
 
@@ -24,7 +22,3 @@ module _ {R : Type 0} (known : R → Known) (stages : R → State → Type 0) (c
   -- whatever is kept
   abbrev pub Stages : Decided A F → R → R → Result A F → Type 0
   Stages decided old new result = (kept : State) → stages old kept → IsStaged decided kept old new result
-
--- ---- several calls
-
-module _ {R : Type 0} (known : R → Known) (stages : R → State → Type 0) (crash : R → ℕ → Found Stored → Type 0) where
