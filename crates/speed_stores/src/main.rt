@@ -18,7 +18,7 @@ use speed_common::{Fault, Report, end, read_words};
 use std::process::ExitCode;
 
 /// What is said where the words name no workload.
-const USAGE: &str = "usage: speed_stores commit|compact|first|open|open_indexed SIZE";
+const USAGE: &str = "usage: speed_stores commit|compact|first|group|open|open_indexed SIZE";
 
 fn main(rt: HostRuntime) -> ExitCode {
     let report = measured(&rt);
@@ -33,9 +33,10 @@ fn measured(rt: &HostRuntime) -> Result<Report, Fault> {
 
 fn workload(rt: &HostRuntime, name: &str, size: u32) -> Result<Report, Fault> {
     match name {
-        "commit" => commit::measure(rt, size),
+        "commit" => commit::measure(rt, "commit", size, false),
         "compact" => compact::measure(rt, size),
         "first" => first::measure(rt, size),
+        "group" => commit::measure(rt, "group", size, true),
         "open" => open::measure(rt, "open", size, false),
         "open_indexed" => open::measure(rt, "open_indexed", size, true),
         _ => Err(Fault::Words),

@@ -105,3 +105,52 @@ fn commit<R: Replica>(replica: &mut R, step: Step) -> Result<(), Fault>
         Err(_) => Err(Fault::Run),
     }
 }
+
+/// Stages steps, flushes them together, and times that.
+pub fn timed_group<R: Replica>(
+    rt: &HostRuntime,
+    replica: &mut R,
+    steps: Vec<Step>,
+) -> Result<Duration, Fault>
+    requires { R.is_open replica.old }
+    ensures { OnOk result (R.is_open replica.new) }
+{
+    let before = started(rt)?;
+    stage_all(replica, steps)?;
+    flush(replica)?;
+    elapsed(rt, before)
+}
+
+fn stage_all<R: Replica>(replica: &mut R, steps: Vec<Step>) -> Result<(), Fault>
+    requires { R.is_open replica.old }
+    ensures { OnOk result ((kept : _) × R.stages replica.new kept) }
+{
+    for step in steps {
+        stage(replica, step)?;
+    }
+    Ok(())
+}
+
+// Stages a step, which has to fit.
+fn stage<R: Replica>(replica: &mut R, step: Step) -> Result<(), Fault>
+    requires { (kept : _) × R.stages replica.old kept }
+    ensures { OnOk result ((kept : _) × R.stages replica.new kept) }
+{
+    if !replica.state().fits(&step) {
+        return Err(Fault::Run);
+    }
+    match replica.stage(step) {
+        Ok(()) => Ok(()),
+        Err(_) => Err(Fault::Run),
+    }
+}
+
+fn flush<R: Replica>(replica: &mut R) -> Result<(), Fault>
+    requires { (kept : _) × R.stages replica.old kept }
+    ensures { OnOk result (R.is_open replica.new) }
+{
+    match replica.flush() {
+        Ok(()) => Ok(()),
+        Err(_) => Err(Fault::Run),
+    }
+}
