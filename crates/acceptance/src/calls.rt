@@ -6,8 +6,8 @@ use content::Content;
 use expr_parser::{Expr, Exprs};
 use link::MemSink;
 use replica_core::{
-    CommitFault, MemReplica, Replica, create_index, delete_doc, delete_index, move_position,
-    put_doc, put_if_newer, resolve_doc,
+    CommitFault, MemReplica, Replica, TakeFault, create_index, delete_doc, delete_index,
+    move_position, put_doc, put_if_newer, resolve_doc, stage_if_newer, stage_position,
 };
 use replica_state::{IndexExprs, State};
 use std::alloc::Global;
@@ -22,6 +22,8 @@ enum Writing {
     ResolveDoc,
     PutIfNewer,
     MovePosition,
+    StageIfNewer,
+    StagePosition,
     CreateIndex,
     DeleteIndex,
 }
@@ -196,6 +198,8 @@ impl Writing {
             "resolve-doc" => Some(Writing::ResolveDoc),
             "put-if-newer" => Some(Writing::PutIfNewer),
             "move-position" => Some(Writing::MovePosition),
+            "stage-if-newer" => Some(Writing::StageIfNewer),
+            "stage-position" => Some(Writing::StagePosition),
             "create-index" => Some(Writing::CreateIndex),
             "delete-index" => Some(Writing::DeleteIndex),
             _ => None,
@@ -210,6 +214,11 @@ impl Writing {
             Writing::ResolveDoc => resolve(alloc, replica),
             Writing::PutIfNewer => take_equal(alloc, replica),
             Writing::MovePosition => { Ok(moved(replica, &first_of(alloc, PosTable::Told, "c")?)) }
+            Writing::StageIfNewer => stage_equal(alloc, replica),
+            Writing::StagePosition => {
+                let at = first_of(alloc, PosTable::Told, "c")?;
+                Ok(flushed(stage_move(replica, &at), replica))
+            }
             Writing::CreateIndex => create(alloc, replica, "by_word", "split_words(lower(t))"),
             Writing::DeleteIndex => drop_index(alloc, replica),
         }
@@ -281,6 +290,47 @@ fn moved(replica: &mut MemReplica, at: &Move) -> Answer {
     match move_position(replica, at) {
         Ok(()) => Ok(()),
         Err(fault) => Err(fault.failure()),
+    }
+}
+
+// The same revision as `take_equal` takes is staged and flushed.
+fn stage_equal(alloc: Global, replica: &mut MemReplica) -> Result<Answer, Memory> {
+    let id = doc(alloc, "d2")?;
+    let incoming = member(alloc, "c:1", r#"{"t":"y"}"#)?;
+    let at = first_of(alloc, PosTable::Told, "c")?;
+    let staged = stage_member(alloc, replica, &id, &incoming, &at);
+    Ok(flushed(staged, replica))
+}
+
+fn stage_member(
+    alloc: Global,
+    replica: &mut MemReplica,
+    id: &DocId,
+    incoming: &Member,
+    at: &Move,
+) -> Result<(), TakeFault> {
+    match stage_if_newer(alloc, replica, SEED, id, incoming, false, at) {
+        Ok(_) => Ok(()),
+        Err(fault) => Err(fault),
+    }
+}
+
+fn stage_move(replica: &mut MemReplica, at: &Move) -> Result<(), TakeFault> {
+    stage_position(replica, at)
+}
+
+// What was staged is flushed, and nothing where the call failed.
+fn flushed(staged: Result<(), TakeFault>, replica: &mut MemReplica) -> Answer {
+    match staged {
+        Ok(()) => flush(replica),
+        Err(fault) => Err(fault.failure()),
+    }
+}
+
+fn flush(replica: &mut MemReplica) -> Answer {
+    match replica.flush() {
+        Ok(()) => Ok(()),
+        Err(fault) => Err(Some(fault)),
     }
 }
 

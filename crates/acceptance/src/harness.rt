@@ -1,5 +1,6 @@
 //! One command over objects in memory.
 use command_lines::Outcome;
+use crash_harness::{Files, NO_FAILING, disks_of};
 use disk_model::MemDisk;
 use disks::{DiskName, Disks};
 use link::{MemSink, MemSource};
@@ -15,38 +16,12 @@ pub struct Ran {
     pub disks: Disks<MemDisk>,
 }
 
-/// The bytes of the three files of a store.
-#[derive(Clone, Copy)]
-pub struct Files<'a> {
-    pub root: &'a [u8],
-    pub left: &'a [u8],
-    pub right: &'a [u8],
-}
-
 /// There is no store.
-pub const BLANK: Files<'static> = Files {
-    root: b"",
-    left: b"",
-    right: b"",
-};
-
-pub fn bytes_of(alloc: Global, bytes: &[u8]) -> Result<Bytes, Memory> {
-    let mut list = Bytes::new(alloc);
-    list.extend(bytes)?;
-    Ok(list)
-}
-
-fn disk_of(alloc: Global, bytes: &[u8]) -> Result<MemDisk, Memory> {
-    Ok(MemDisk::new(alloc, bytes_of(alloc, bytes)?, Numbers::new(alloc)))
-}
+pub const BLANK: Files<'static> = Files(b"", b"", b"");
 
 /// Disks with these bytes.
-pub fn disks_of(alloc: Global, stored: Files<'_>) -> Result<Disks<MemDisk>, Memory> {
-    Ok(Disks::new(
-        disk_of(alloc, stored.root)?,
-        disk_of(alloc, stored.left)?,
-        disk_of(alloc, stored.right)?,
-    ))
+pub fn whole_disks(alloc: Global, stored: Files<'_>) -> Result<Disks<MemDisk>, Memory> {
+    disks_of(alloc, &stored, &NO_FAILING)
 }
 
 // The words of a command line, which blanks part, after the folder.
@@ -62,8 +37,9 @@ fn words_of(alloc: Global, words: &str) -> Result<Texts, Memory> {
 /// Runs one command over a store of these files. All bits of the seed are 0.
 pub fn run_on(alloc: Global, words: &str, stored: Files<'_>, input: &[u8]) -> Result<Ran, Memory> {
     let words = words_of(alloc, words)?;
-    let disks = disks_of(alloc, stored)?;
-    let mut source = MemSource::new(bytes_of(alloc, input)?, Numbers::new(alloc));
+    let disks = whole_disks(alloc, stored)?;
+    let input = Bytes::from_vec(input.to_vec(alloc)?);
+    let mut source = MemSource::new(input, Numbers::new(alloc));
     let mut printed = MemSink::new(alloc, Numbers::new(alloc));
     let (outcome, disks) = run(alloc, words.as_slice(), 0, disks, &mut source, &mut printed);
     Ok(Ran {
@@ -76,10 +52,10 @@ pub fn run_on(alloc: Global, words: &str, stored: Files<'_>, input: &[u8]) -> Re
 impl Ran {
     /// What the disks hold.
     pub fn files(&self) -> Files<'_> {
-        Files {
-            root: self.disks.disk(DiskName::Root).bytes(),
-            left: self.disks.disk(DiskName::Left).bytes(),
-            right: self.disks.disk(DiskName::Right).bytes(),
-        }
+        Files(
+            self.disks.disk(DiskName::Root).bytes(),
+            self.disks.disk(DiskName::Left).bytes(),
+            self.disks.disk(DiskName::Right).bytes(),
+        )
     }
 }

@@ -1,6 +1,6 @@
 //! Worked images, spelled by hand from the rules of entries: transaction ids are those of a seed
 //! whose bits are all 0, as Python's `uuid` makes them.
-use crate::harness::{Files, bytes_of};
+use crash_harness::Files;
 use std::alloc::Global;
 use u1_base::{Bytes, Memory};
 
@@ -32,7 +32,7 @@ const CHANGED: &[u8] =
 
 // The image of these entries, after the header.
 fn image(alloc: Global, entries: &[&[u8]]) -> Result<Bytes, Memory> {
-    let mut image = bytes_of(alloc, HEADER)?;
+    let mut image = Bytes::from_vec(HEADER.to_vec(alloc)?);
     for entry in entries {
         image.extend(entry)?;
     }
@@ -42,11 +42,7 @@ fn image(alloc: Global, entries: &[&[u8]]) -> Result<Bytes, Memory> {
 
 /// A store whose left image is this one.
 pub fn on_the_left(image: &[u8]) -> Files<'_> {
-    Files {
-        root: b"\0",
-        left: image,
-        right: b"",
-    }
+    Files(b"\0", image, b"")
 }
 
 /// The image of a store with three documents, of which one is in conflict, and an index.

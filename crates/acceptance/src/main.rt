@@ -9,11 +9,12 @@
 //! outside of the command it prints `unprepared`.
 //!
 //! Or it makes one writing call over a replica in memory, where standard input has `call` and its
-//! name, as `put-doc`. It prints `ANSWER STATE`: what the call answered, `ok`, `memory`, `refused`,
-//! `full` or `disk`; and whether the state is the one `before` the call, the one `after` it, or an
-//! `other`. Where memory ran out in the call it is made once more, and the line goes on with
-//! `ANSWER STATE` of that. Where memory ran out outside of the call it prints `unprepared`. The
-//! name `put-doc-on-disks` is of a put into a store on three disks in memory.
+//! name, as `put-doc`; what the call stages is flushed then. It prints `ANSWER STATE`: what the
+//! call answered, `ok`, `memory`, `refused`, `full` or `disk`; and whether the state is the one
+//! `before` the call, the one `after` it, or an `other`. Where memory ran out in the call it is
+//! made once more, and the line goes on with `ANSWER STATE` of that. Where memory ran out outside
+//! of the call it prints `unprepared`. The name `put-doc-on-disks` is of a put into a store on
+//! three disks in memory.
 #![tactic(auto)]
 
 mod calls;

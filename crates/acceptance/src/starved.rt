@@ -1,8 +1,9 @@
 //! One command after a number of calls for memory.
-use crate::harness::{BLANK, Files, Ran, run_on};
+use crate::harness::{BLANK, Ran, run_on};
 use crate::images::{on_the_left, prepared};
 use crate::table::{COMMANDS, Command, INIT};
 use command_lines::outcome_status;
+use crash_harness::Files;
 use std::alloc::Global;
 use u1_base::Memory;
 

@@ -1,11 +1,12 @@
 //! A document is put into a store on three disks in memory, and put once more where memory ran out.
 use crate::calls::{Wanted, word_of};
-use crate::harness::{Files, disks_of};
+use crate::harness::whole_disks;
 use crate::images::{changed, on_the_left, prepared};
 use crate::readings::readings_of;
 use content::Content;
+use crash_harness::{Files, got, hold};
 use disk_model::MemDisk;
-use disks::{DiskName, Disks};
+use disks::Disks;
 use link::MemSink;
 use replica_core::{PutFault, Replica, put_doc};
 use replica_volume::Volume;
@@ -28,9 +29,11 @@ pub fn line_of(alloc: Global) -> Result<String, Memory> {
         after: readings_over(alloc, on_the_left(image.as_slice()))?,
     };
     let put = Put::new(alloc)?;
-    let (disks, told) = put.told_on(alloc, disks_of(alloc, stored)?, &wanted);
+    let (disks, told) = put.told_on(alloc, whole_disks(alloc, stored)?, &wanted);
     let told = told?;
-    let once = were_called_once(&disks) && hold(&disks, on_the_left(image.as_slice()));
+    // To open the store takes a sync, a look and a read of the root and of the image, and one body
+    // is added to the image by four calls.
+    let once = got(&disks, 3, 7, 0) && hold(&disks, &on_the_left(image.as_slice()));
     let found = found_on(alloc, disks, &wanted)?;
     line(alloc, told.answers, state_by(told.state, found, once))
 }
@@ -134,20 +137,6 @@ impl Put {
 
 // ---- the disks
 
-// To open the store takes a sync, a look and a read of the root and of the image, and one body is
-// added to the image by four calls.
-fn were_called_once(disks: &Disks<MemDisk>) -> bool {
-    disks.disk(DiskName::Root).calls() == 3
-        && disks.disk(DiskName::Left).calls() == 7
-        && disks.disk(DiskName::Right).calls() == 0
-}
-
-fn hold(disks: &Disks<MemDisk>, files: Files<'_>) -> bool {
-    disks.disk(DiskName::Root).bytes() == files.root
-        && disks.disk(DiskName::Left).bytes() == files.left
-        && disks.disk(DiskName::Right).bytes() == files.right
-}
-
 // Which state is told: that of the volume, where the store that was opened again agrees.
 fn state_by(state: &str, found: &str, once: bool) -> &'static str {
     if state == "after" && found == "after" && once {
@@ -165,7 +154,7 @@ fn found_on(alloc: Global, disks: Disks<MemDisk>, wanted: &Wanted) -> Result<&'s
 }
 
 fn readings_over(alloc: Global, stored: Files<'_>) -> Result<MemSink, Memory> {
-    let (_disks, read) = read_on(alloc, disks_of(alloc, stored)?);
+    let (_disks, read) = read_on(alloc, whole_disks(alloc, stored)?);
     read
 }
 
