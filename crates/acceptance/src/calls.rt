@@ -358,7 +358,7 @@ fn uid(alloc: Global, text: &str) -> Result<ReplicaUid, Memory> {
     ReplicaUid::read(alloc, text).ok().ok_or(Memory)
 }
 
-fn doc(alloc: Global, text: &str) -> Result<DocId, Memory> {
+pub fn doc(alloc: Global, text: &str) -> Result<DocId, Memory> {
     DocId::read(alloc, text).ok().ok_or(Memory)
 }
 
@@ -374,15 +374,15 @@ fn content(alloc: Global, text: &str) -> Result<Content, Memory> {
     Content::read(alloc, text.as_bytes()).ok().ok_or(Memory)
 }
 
-fn member(alloc: Global, rev: &str, text: &str) -> Result<Member, Memory> {
+pub fn member(alloc: Global, rev: &str, text: &str) -> Result<Member, Memory> {
     Ok(Member {
         rev: clock(alloc, rev)?,
         content: Some(content(alloc, text)?),
     })
 }
 
-// The first place in the log of a peer.
-fn first_of(alloc: Global, table: PosTable, peer: &str) -> Result<Move, Memory> {
+/// The first place in the log of a peer.
+pub fn first_of(alloc: Global, table: PosTable, peer: &str) -> Result<Move, Memory> {
     let trans = TransId::read(alloc, "T-1").ok().ok_or(Memory)?;
     let at = Position {
         generation: 1,

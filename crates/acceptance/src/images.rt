@@ -29,6 +29,11 @@ const INDEX: &[u8] = b"\x01\0\0\0\x08\x04\0\x01i\x01\0\x01t";
 const CHANGED: &[u8] =
     b"\x01\0\0\0Y\x01\0\x02d2\x01\0\0\0\0\0\0\0\0\0\0\0\x02\0\0\0\0\x01\x01\0\0\0\0\0\0\0\0\0\0\0\
     \x01\x01\x01\0\0\0\x0a{\"t\":\"bc\"}\0\"T-5a58563efd525018a50d31c0d3f37e93\0";
+// `d2` at `a:1|b:1` with `{"t":"bc"}`, as the first entry of `c` is received, after these.
+const NEWER: &[u8] =
+    b"\x01\0\0\0l\x01\0\x02d2\x02\0\0\0\0\0\0\0\0\0\0\0\x01\0\0\0\x01\0\0\0\0\0\0\0\x01\x03\0\0\0\0\
+    \x01\x01\0\0\0\x0a{\"t\":\"bc\"}\0\"T-5a58563efd525018a50d31c0d3f37e93\x01\0\0\0\x02\0\x01c\
+    \0\0\0\0\0\0\0\x01\0\x03T-1";
 
 // The image of these entries, after the header.
 fn image(alloc: Global, entries: &[&[u8]]) -> Result<Bytes, Memory> {
@@ -53,4 +58,9 @@ pub fn prepared(alloc: Global) -> Result<Bytes, Memory> {
 /// The same, in which `d2` was put.
 pub fn changed(alloc: Global) -> Result<Bytes, Memory> {
     image(alloc, &[CREATED, SECOND, THIRD, RECEIVED, INDEX, CHANGED])
+}
+
+/// The same as `prepared`, in which `d2` was received.
+pub fn received(alloc: Global) -> Result<Bytes, Memory> {
+    image(alloc, &[CREATED, SECOND, THIRD, RECEIVED, INDEX, NEWER])
 }

@@ -14,13 +14,15 @@
 //! `before` the call, the one `after` it, or an `other`. Where memory ran out in the call it is
 //! made once more, and the line goes on with `ANSWER STATE` of that. Where memory ran out outside
 //! of the call it prints `unprepared`. The name `put-doc-on-disks` is of a put into a store on
-//! three disks in memory.
+//! three disks in memory, and `stage-on-disks` of a receipt that is staged and flushed there; where
+//! a disk fails in the flush the state is `staged`.
 #![tactic(auto)]
 
 mod calls;
 mod harness;
 mod images;
 mod readings;
+mod staging;
 mod starved;
 mod table;
 mod volumes;
@@ -48,6 +50,7 @@ fn main(rt: HostRuntime) -> ExitCode {
 fn line_of(alloc: Global, order: &str) -> Result<String, Memory> {
     match order.trim().split_once(' ') {
         Some(("call", "put-doc-on-disks")) => volumes::line_of(alloc),
+        Some(("call", "stage-on-disks")) => staging::line_of(alloc),
         Some(("call", name)) => calls::line_of(alloc, name),
         Some((command, spent)) => starved::line_of(alloc, command, spent),
         None => Ok(String::from_str(alloc, "no order")?),

@@ -38,7 +38,8 @@ pub fn line_of(alloc: Global) -> Result<String, Memory> {
     line(alloc, told.answers, state_by(told.state, found, once))
 }
 
-fn line(alloc: Global, answers: &str, state: &str) -> Result<String, Memory> {
+/// The line that is printed.
+pub fn line(alloc: Global, answers: &str, state: &str) -> Result<String, Memory> {
     let mut line = String::from_str(alloc, answers)?;
     line.push(' ')?;
     line.push_str(state)?;
@@ -55,11 +56,11 @@ struct Put {
     content: Content,
 }
 
-// What was answered, and which state the volume has then.
+/// What was answered, and which state the volume has then.
 #[derive(Clone, Copy)]
-struct Told {
-    answers: &'static str,
-    state: &'static str,
+pub struct Told {
+    pub answers: &'static str,
+    pub state: &'static str,
 }
 
 impl Put {
@@ -148,12 +149,18 @@ fn state_by(state: &str, found: &str, once: bool) -> &'static str {
     }
 }
 
-fn found_on(alloc: Global, disks: Disks<MemDisk>, wanted: &Wanted) -> Result<&'static str, Memory> {
+/// Which state the store of these disks has when it is opened.
+pub fn found_on(
+    alloc: Global,
+    disks: Disks<MemDisk>,
+    wanted: &Wanted,
+) -> Result<&'static str, Memory> {
     let (_disks, read) = read_on(alloc, disks);
     Ok(wanted.place_of(read?.bytes()))
 }
 
-fn readings_over(alloc: Global, stored: Files<'_>) -> Result<MemSink, Memory> {
+/// What is read of the store of these files.
+pub fn readings_over(alloc: Global, stored: Files<'_>) -> Result<MemSink, Memory> {
     let (_disks, read) = read_on(alloc, whole_disks(alloc, stored)?);
     read
 }
