@@ -1,8 +1,10 @@
 //! Worked images, spelled by hand from the rules of entries: transaction ids are those of a seed
 //! whose bits are all 0, as Python's `uuid` makes them.
-use crash_harness::Files;
 use std::alloc::Global;
 use u1_base::{Bytes, Memory};
+
+/// An image in pieces: the header, entries and the closed gate.
+pub type Pieces = &'static [&'static [u8]];
 
 // The image of database `db`, replica `a` and the greatest limit, up to its first gate.
 const HEADER: &[u8] = b"U1DBVOL\x02\0\x02db\0\x01a\0\0\x01\0\0\0\0\0";
@@ -35,32 +37,53 @@ const NEWER: &[u8] =
     \x01\x01\0\0\0\x0a{\"t\":\"bc\"}\0\"T-5a58563efd525018a50d31c0d3f37e93\x01\0\0\0\x02\0\x01c\
     \0\0\0\0\0\0\0\x01\0\x03T-1";
 
-// The image of these entries, after the header.
-fn image(alloc: Global, entries: &[&[u8]]) -> Result<Bytes, Memory> {
-    let mut image = Bytes::from_vec(HEADER.to_vec(alloc)?);
-    for entry in entries {
-        image.extend(entry)?;
+const CLOSED_GATE: &[u8] = b"\0";
+
+/// A store with three documents, of which one is in conflict, and an index. Its log has four
+/// entries, and no peer has told it of a place.
+pub const PREPARED: Pieces = &[HEADER, CREATED, SECOND, THIRD, RECEIVED, INDEX, CLOSED_GATE];
+
+/// The same, in which `d2` was put.
+pub const PUT: Pieces = &[
+    HEADER,
+    CREATED,
+    SECOND,
+    THIRD,
+    RECEIVED,
+    INDEX,
+    CHANGED,
+    CLOSED_GATE,
+];
+
+/// The same as `PREPARED`, in which `d2` was received.
+pub const NEWER_RECEIVED: Pieces = &[
+    HEADER,
+    CREATED,
+    SECOND,
+    THIRD,
+    RECEIVED,
+    INDEX,
+    NEWER,
+    CLOSED_GATE,
+];
+
+/// The bytes of an image.
+pub fn image_of(alloc: Global, pieces: Pieces) -> Result<Bytes, Memory> {
+    let mut image = Bytes::new(alloc);
+    for piece in pieces {
+        image.extend(piece)?;
     }
-    image.push(0)?;
     Ok(image)
 }
 
-/// A store whose left image is this one.
-pub fn on_the_left(image: &[u8]) -> Files<'_> {
-    Files(b"\0", image, b"")
-}
-
-/// The image of a store with three documents, of which one is in conflict, and an index.
-pub fn prepared(alloc: Global) -> Result<Bytes, Memory> {
-    image(alloc, &[CREATED, SECOND, THIRD, RECEIVED, INDEX])
-}
-
-/// The same, in which `d2` was put.
-pub fn changed(alloc: Global) -> Result<Bytes, Memory> {
-    image(alloc, &[CREATED, SECOND, THIRD, RECEIVED, INDEX, CHANGED])
-}
-
-/// The same as `prepared`, in which `d2` was received.
-pub fn received(alloc: Global) -> Result<Bytes, Memory> {
-    image(alloc, &[CREATED, SECOND, THIRD, RECEIVED, INDEX, NEWER])
+/// Whether these bytes are such an image.
+pub fn is_image(bytes: &[u8], pieces: Pieces) -> bool {
+    let mut rest = bytes;
+    for piece in pieces {
+        match rest.strip_prefix(*piece) {
+            Some(behind) => rest = behind,
+            None => return false,
+        }
+    }
+    rest.is_empty()
 }
