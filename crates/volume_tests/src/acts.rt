@@ -3,13 +3,13 @@
 ghost use Rattle.replica_volume.specs.Volume.{IsOpenVolume};
 
 use crate::plain_state_tests::PlainState;
-use conflicts::{Member, Outcome4, Taken};
+use conflicts::{Member, Outcome4};
 use content::Content;
 use crash_harness::{Files, NO_FAILING, disks_of};
 use disk_model::{Disk, MemDisk};
 use disks::{CompactFault, DiskName, Disks, MakeFault, OpenFault, Sizes};
 use journal::Header;
-use replica_core::{PutFault, Replica, TakeFault, put_doc, put_if_newer, stage_if_newer};
+use replica_core::{PutFault, Replica, TakeFault, put_doc, put_if_newer};
 use replica_state::{Move, PosTable, State};
 use replica_volume::Volume;
 use std::alloc::Global;
@@ -28,11 +28,6 @@ pub(crate) enum Act<'a> {
     /// Creates the document with a content of 8 bytes and so many letters.
     PutLetters(&'a str, usize),
     Take(&'a Entry),
-    /// Stages each of these entries, also behind one that is refused. The answer is the last fault,
-    /// or what the state has then.
-    Stage(&'a [Entry]),
-    /// The same, and all that is staged is flushed.
-    Flush(&'a [Entry]),
     Compact,
 }
 
@@ -171,14 +166,6 @@ fn place_of(generation: u64, trans: TransId) -> Position {
     }
 }
 
-// What the peer hands over.
-#[derive(Drop)]
-struct Receipt {
-    id: DocId,
-    theirs: Member,
-    moved: Move,
-}
-
 fn moved_to(alloc: Global, entry: &Entry) -> Result<Move, IdFault> {
     let uid = ReplicaUid::read(alloc, "b")?;
     let trans = TransId::read(alloc, entry.trans)?;
@@ -189,101 +176,58 @@ fn moved_to(alloc: Global, entry: &Entry) -> Result<Move, IdFault> {
     })
 }
 
-fn member(alloc: Global) -> Option<Member> {
-    let rev = Clock::read(alloc, "b:1").ok()?;
-    let content = Content::read(alloc, b"{}").ok()?;
-    Some(Member {
-        rev,
-        content: Some(content),
-    })
-}
-
-fn receipt_of(alloc: Global, entry: &Entry) -> Option<Receipt> {
-    let id = DocId::read(alloc, entry.doc).ok()?;
-    let theirs = member(alloc)?;
-    let moved = moved_to(alloc, entry).ok()?;
-    Some(Receipt { id, theirs, moved })
-}
-
-// A document that was not there is inserted.
-fn taken_answer(taken: &Result<Taken, TakeFault>, state: &State) -> Answer {
-    match taken {
-        Ok(taken) if taken.outcome == Outcome4::Inserted => has(state),
-        Err(TakeFault::Full { need, limit }) => Answer::Full(*need, *limit),
+fn take_at<R: Replica>(
+    alloc: Global,
+    replica: &mut R,
+    id: &DocId,
+    theirs: &Member,
+    moved: &Move,
+) -> Answer
+    requires { R.is_open replica.old }
+{
+    match put_if_newer(alloc, replica, 0, id, theirs, true, moved) {
+        Ok(taken) => {
+            let is_inserted = taken.outcome == Outcome4::Inserted;
+            drop(taken);
+            if is_inserted {
+                has(replica.state())
+            } else {
+                Answer::Other
+            }
+        }
         Err(TakeFault::Disk) => Answer::Disk,
-        _ => Answer::Other,
+        Err(_) => Answer::Other,
     }
 }
 
-fn take_over<R: Replica>(alloc: Global, replica: &mut R, receipt: &Receipt) -> Answer
+fn take_member<R: Replica>(alloc: Global, replica: &mut R, entry: &Entry, theirs: &Member) -> Answer
     requires { R.is_open replica.old }
 {
-    let Receipt { id, theirs, moved } = receipt;
-    let taken = put_if_newer(alloc, replica, 0, id, theirs, true, moved);
-    taken_answer(&taken, replica.state())
+    let Ok(moved) = moved_to(alloc, entry) else {
+        return Answer::Other;
+    };
+    match DocId::read(alloc, entry.doc) {
+        Ok(id) => take_at(alloc, replica, &id, theirs, &moved),
+        Err(_) => Answer::Other,
+    }
 }
 
 fn take<R: Replica>(alloc: Global, replica: &mut R, entry: &Entry) -> Answer
     requires { R.is_open replica.old }
 {
-    match receipt_of(alloc, entry) {
-        Some(receipt) => take_over(alloc, replica, &receipt),
-        None => Answer::Other,
-    }
-}
-
-// ---- groups
-
-fn stage_over<R: Replica>(alloc: Global, replica: &mut R, receipt: &Receipt) -> Answer
-    requires { (kept : _) × R.stages replica.old kept }
-    ensures { (kept : _) → R.stages replica.old kept → R.stages replica.new kept }
-{
-    let Receipt { id, theirs, moved } = receipt;
-    let taken = stage_if_newer(alloc, replica, 0, id, theirs, true, moved);
-    taken_answer(&taken, replica.state())
-}
-
-fn stage<R: Replica>(alloc: Global, replica: &mut R, entry: &Entry) -> Answer
-    requires { (kept : _) × R.stages replica.old kept }
-    ensures { (kept : _) → R.stages replica.old kept → R.stages replica.new kept }
-{
-    match receipt_of(alloc, entry) {
-        Some(receipt) => stage_over(alloc, replica, &receipt),
-        None => Answer::Other,
-    }
-}
-
-fn stage_all<R: Replica>(alloc: Global, replica: &mut R, entries: &[Entry]) -> Answer
-    requires { R.is_open replica.old }
-    ensures { (kept : _) × R.stages replica.new kept }
-{
-    let mut fault = None;
-    for entry in entries {
-        match stage(alloc, replica, entry) {
-            Answer::Has(_, _) => {}
-            answer => fault = Some(answer),
+    let Ok(rev) = Clock::read(alloc, "b:1") else {
+        return Answer::Other;
+    };
+    match Content::read(alloc, b"{}") {
+        Ok(content) => {
+            let theirs = Member {
+                rev,
+                content: Some(content),
+            };
+            take_member(alloc, replica, entry, &theirs)
         }
+        Err(_) => Answer::Other,
     }
-    match fault {
-        Some(answer) => answer,
-        None => has(replica.state()),
-    }
-}
-
-fn flush<R: Replica>(replica: &mut R, staged: Answer) -> Answer
-    requires { (kept : _) × R.stages replica.old kept }
-{
-    match replica.flush() {
-        Ok(()) => staged,
-        Err(_) => Answer::Disk,
-    }
-}
-
-fn flush_all<R: Replica>(alloc: Global, replica: &mut R, entries: &[Entry]) -> Answer
-    requires { R.is_open replica.old }
-{
-    let staged = stage_all(alloc, replica, entries);
-    flush(replica, staged)
 }
 
 // ---- volumes
@@ -306,8 +250,6 @@ fn does<D: Disk>(alloc: Global, volume: &mut Volume<D>, act: &Act) -> Answer
         Act::Put(id, rev, text) => put(alloc, volume, id, rev, text),
         Act::PutLetters(id, count) => put_letters(alloc, volume, id, *count),
         Act::Take(entry) => take(alloc, volume, entry),
-        Act::Stage(entries) => stage_all(alloc, volume, entries),
-        Act::Flush(entries) => flush_all(alloc, volume, entries),
         Act::Compact => compact(volume),
         Act::Look | Act::Make(_, _) => has(volume.state()),
     }

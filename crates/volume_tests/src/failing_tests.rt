@@ -4,7 +4,7 @@
 use crate::acts::{Act, Answer, Asked, Entry, answer_of, ask, ask_all};
 use crate::images::{CREATED, CREATED_FIRST, EMPTY, REPLACED};
 use crate::opening_tests::finds_plain;
-use crate::worked_tests::{CREATE, D1, D2, FIRST, SECOND};
+use crate::worked_tests::{CREATE, FIRST, SECOND};
 use crash_harness::{Failing, Files, Left as Images, NO_FAILING, disks_of};
 use disk_model::MemDisk;
 use disks::DiskName::{Left, Right, Root};
@@ -153,13 +153,11 @@ const COMPACTING: &[Row] = &[
 
 // ---- entries of a peer are taken, one after the other
 
-const D3: Entry = Entry {
+const THIRD: Act = Act::Take(&Entry {
     generation: 3,
     trans: "T-4a2f05bda87d5e5da1aec07f076e0982",
     doc: "d3",
-};
-
-const THIRD: Act = Act::Take(&D3);
+});
 
 const NO_FIRST: &[Asked] = &[Asked(FIRST, Answer::Disk)];
 
@@ -189,51 +187,6 @@ const TAKING: &[Row] = &[
     Row(Root, &[9], ONCE, ALL, &[THREE]),
 ];
 
-// ---- entries of a peer are staged, and flushed together
-
-const STAGED: &[Asked] = &[Asked(Act::Stage(&[D1, D2, D3]), THREE)];
-
-const GROUP: Act = Act::Flush(&[D1, D2, D3]);
-
-const FLUSHED: &[Asked] = &[Asked(GROUP, THREE)];
-
-const NOT_FLUSHED: &[Asked] = &[Asked(GROUP, Answer::Disk)];
-
-const NOT_FLUSHED_NOT_TAKEN: &[Asked] = &[Asked(GROUP, Answer::Disk), Asked(FIRST, Answer::Disk)];
-
-const FLUSHED_SHORTER: &[Asked] = &[
-    Asked(GROUP, Answer::Disk),
-    Asked(Act::Flush(&[D1, D2]), TWO),
-];
-
-const NOT_FLUSHED_TWICE: &[Asked] = &[
-    Asked(GROUP, Answer::Disk),
-    Asked(Act::Flush(&[D1, D2]), Answer::Disk),
-];
-
-// What is staged is lost at a stop. Three calls of the root and of the left disk open the store,
-// and four add all bodies: until the first gate is opened none is there, and then all are.
-const GROUPING: &[Row] = &[
-    Row(Left, ONCE, ONCE, STAGED, &[NONE]),
-    Row(Left, &[0, 1, 2, 3, 4], ONCE, NOT_FLUSHED, &[NONE]),
-    Row(Left, &[5, 6], ONCE, NOT_FLUSHED, &[NONE, THREE]),
-    Row(Left, &[7], ONCE, FLUSHED, &[THREE]),
-    Row(Root, &[0, 1, 2], ONCE, NOT_FLUSHED, &[NONE]),
-    Row(Root, &[3], ONCE, FLUSHED, &[THREE]),
-    Row(Right, &[0], ONCE, FLUSHED, &[THREE]),
-    Row(Left, &[3, 4, 5], &[4, 5], NOT_FLUSHED_NOT_TAKEN, &[NONE]),
-    Row(
-        Left,
-        &[3, 4, 5],
-        &[6, 7],
-        NOT_FLUSHED_NOT_TAKEN,
-        &[NONE, ONE],
-    ),
-    Row(Left, &[3, 4, 5], &[4, 5], NOT_FLUSHED_TWICE, &[NONE]),
-    Row(Left, &[3, 4, 5], &[6, 7], NOT_FLUSHED_TWICE, &[NONE, TWO]),
-    Row(Left, &[3, 4, 5], &[8], FLUSHED_SHORTER, &[TWO]),
-];
-
 // ---- all rows
 
 // The files of a store and its rows. After each, and after each stop then, all of this may be
@@ -257,8 +210,6 @@ const ADDITIONS: Group = Group(Files(&[0], EMPTY, CREATED), ADDING, &[], None);
 const COMPACTIONS: Group = Group(Files(&[0], REPLACED, b"old"), COMPACTING, &[], None);
 
 const RECEIPTS: Group = Group(Files(&[0], EMPTY, b""), TAKING, ALL, Some(THREE));
-
-const GROUPS: Group = Group(Files(&[0], EMPTY, b""), GROUPING, ALL, Some(THREE));
 
 // Asks all of it, and tells whether a look is answered so then.
 fn ends(alloc: Global, disks: Disks<MemDisk>, all: &[Asked], last: Answer) -> bool {
@@ -385,9 +336,4 @@ fn a_compaction_that_fails(rt: HostRuntime) {
 #[test]
 fn receipts_that_fail(rt: HostRuntime) {
     assert_eq!(rt; first_wrong(rt.alloc(), &RECEIPTS), TAKING.len());
-}
-
-#[test]
-fn groups_that_fail(rt: HostRuntime) {
-    assert_eq!(rt; first_wrong(rt.alloc(), &GROUPS), GROUPING.len());
 }

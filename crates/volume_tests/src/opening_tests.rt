@@ -109,10 +109,19 @@ fn finds_the_whole_state(rt: HostRuntime) {
     }
 }
 
+// The same with another file in the place of that of this disk.
+fn finds_with(alloc: Global, files: &Files, name: DiskName, file: &[u8]) -> bool {
+    match name {
+        DiskName::Root => finds_plain(alloc, &Files(file, files.1, files.2)),
+        DiskName::Left => finds_plain(alloc, &Files(files.0, file, files.2)),
+        DiskName::Right => finds_plain(alloc, &Files(files.0, files.1, file)),
+    }
+}
+
 fn finds_each_cut(alloc: Global, files: &Files, name: DiskName) -> bool {
     let file = files.file(name);
     for length in 0..file.len() {
-        if !finds_plain(alloc, &files.with(name, &file[..length])) {
+        if !finds_with(alloc, files, name, &file[..length]) {
             return false;
         }
     }
@@ -132,7 +141,7 @@ fn finds_what_is_cut(rt: HostRuntime) {
 
 fn finds_changed(alloc: Global, files: &Files, name: DiskName, place: usize, byte: u8) -> bool {
     match changed(alloc, files.file(name), place, &[byte]) {
-        Ok(file) => finds_plain(alloc, &files.with(name, &file)),
+        Ok(file) => finds_with(alloc, files, name, &file),
         Err(_) => false,
     }
 }

@@ -25,21 +25,17 @@ const LIMIT: u64 = GREATEST_IMAGE_LIMIT;
 pub(crate) const CREATE: Act = Act::Put("d1", "", b"{\"b\":1,\"a\":\"x\"}");
 
 // The ids are those of the seed 0.
-pub(crate) const D1: Entry = Entry {
+pub(crate) const FIRST: Act = Act::Take(&Entry {
     generation: 1,
     trans: "T-a12aa9bff3485ffcbd67876eea76a865",
     doc: "d1",
-};
+});
 
-pub(crate) const D2: Entry = Entry {
+pub(crate) const SECOND: Act = Act::Take(&Entry {
     generation: 2,
     trans: "T-98057cb70a845067a81e0635ab0cbc89",
     doc: "d2",
-};
-
-pub(crate) const FIRST: Act = Act::Take(&D1);
-
-pub(crate) const SECOND: Act = Act::Take(&D2);
+});
 
 const MAKE: &[Asked] = &[Asked(Act::Make(LIMIT, &Act::Look), Answer::Has(0, 0))];
 
@@ -57,12 +53,6 @@ const TAKE_TWO: &[Asked] = &[
     Asked(FIRST, Answer::Has(1, 1)),
     Asked(SECOND, Answer::Has(2, 2)),
 ];
-
-const STAGE_TWO: &[Asked] = &[Asked(Act::Stage(&[D1, D2]), Answer::Has(2, 2))];
-
-const FLUSH_TWO: &[Asked] = &[Asked(Act::Flush(&[D1, D2]), Answer::Has(2, 2))];
-
-const FLUSH_NONE: &[Asked] = &[Asked(Act::Flush(&[]), Answer::Has(1, 1))];
 
 const COMPACT: &[Asked] = &[Asked(Act::Compact, Answer::Sizes(196, 157))];
 
@@ -144,25 +134,6 @@ const ROWS: &[Row] = &[
         TAKE_TWO,
         Files(&[1], b"other", TAKEN_TWO),
         (6, 0, 14),
-    ),
-    // what is staged is in no file, and a flush writes what single bodies would be
-    Row(
-        Files(&[1], b"other", EMPTY),
-        STAGE_TWO,
-        Files(&[1], b"other", EMPTY),
-        (3, 0, 3),
-    ),
-    Row(
-        Files(&[1], b"other", EMPTY),
-        FLUSH_TWO,
-        Files(&[1], b"other", TAKEN_TWO),
-        (3, 0, 7),
-    ),
-    Row(
-        Files(&[0], TAKEN, b""),
-        FLUSH_NONE,
-        Files(&[0], TAKEN, b""),
-        (3, 3, 0),
     ),
     // a compaction writes the image on the other side, and so does a move of format 1
     Row(
@@ -276,44 +247,6 @@ const ROOM: &[Asked] = &[
     Asked(Act::PutLetters("d1", 788), Answer::Has(3, 2)),
 ];
 
-// The entry of `d1` takes 124 bytes, with the number that it gives the uid of b, and that of `d2`
-// behind it 121. They just fit.
-const GROUP_FITS: &[Asked] = &[
-    Asked(
-        Act::Make(1024, &Act::PutLetters("d9", 676)),
-        Answer::Has(1, 1),
-    ),
-    Asked(Act::Flush(&[D1, D2]), Answer::Has(3, 3)),
-    Asked(Act::Look, Answer::Has(3, 3)),
-];
-
-// The second one is too long, by as much as it is where it comes alone, and leaves the first one.
-const GROUP_FULL: &[Asked] = &[
-    Asked(
-        Act::Make(1024, &Act::PutLetters("d9", 677)),
-        Answer::Has(1, 1),
-    ),
-    Asked(Act::Flush(&[D1, D2]), Answer::Full(1025, 1024)),
-    Asked(SECOND, Answer::Full(1025, 1024)),
-    Asked(Act::Look, Answer::Has(2, 2)),
-];
-
-const LONGER: Entry = Entry {
-    generation: 1,
-    trans: "T-a12aa9bff3485ffcbd67876eea76a865",
-    doc: "d10",
-};
-
-// One that is refused gives its uid no number: the next one does, and just fits.
-const GROUP_NUMBERED: &[Asked] = &[
-    Asked(
-        Act::Make(1024, &Act::PutLetters("d9", 797)),
-        Answer::Has(1, 1),
-    ),
-    Asked(Act::Flush(&[LONGER, D1]), Answer::Full(1025, 1024)),
-    Asked(Act::Look, Answer::Has(2, 2)),
-];
-
 fn are_answered(alloc: Global, files: &Files, all: &[Asked]) -> bool {
     match disks_of(alloc, files, &NO_FAILING) {
         Ok(disks) => {
@@ -342,15 +275,6 @@ fn is_moved_and(alloc: Global, count: u16, all: &[Asked]) -> bool {
         Ok(()) => are_answered(alloc, &Files(&[0], image.as_slice(), b""), all),
         Err(_) => false,
     }
-}
-
-#[test]
-fn a_group_is_full_above_the_limit(rt: HostRuntime) {
-    let alloc = rt.alloc();
-    let none = Files(b"", b"", b"");
-    assert!(rt; are_answered(alloc, &none, GROUP_FITS));
-    assert!(rt; are_answered(alloc, &none, GROUP_FULL));
-    assert!(rt; are_answered(alloc, &none, GROUP_NUMBERED));
 }
 
 // In format 2 the image has eight bytes more, so it may come out longer than its limit. A body of
