@@ -1,8 +1,10 @@
 //! Worked images, spelled by hand from the rules of entries: transaction ids are those of a seed
 //! whose bits are all 0, as Python's `uuid` makes them.
-use crate::harness::{Files, bytes_of};
 use std::alloc::Global;
 use u1_base::{Bytes, Memory};
+
+/// An image in pieces: the header, entries and the closed gate.
+pub type Pieces = &'static [&'static [u8]];
 
 // The image of database `db`, replica `a` and the greatest limit, up to its first gate.
 const HEADER: &[u8] = b"U1DBVOL\x02\0\x02db\0\x01a\0\0\x01\0\0\0\0\0";
@@ -29,32 +31,59 @@ const INDEX: &[u8] = b"\x01\0\0\0\x08\x04\0\x01i\x01\0\x01t";
 const CHANGED: &[u8] =
     b"\x01\0\0\0Y\x01\0\x02d2\x01\0\0\0\0\0\0\0\0\0\0\0\x02\0\0\0\0\x01\x01\0\0\0\0\0\0\0\0\0\0\0\
     \x01\x01\x01\0\0\0\x0a{\"t\":\"bc\"}\0\"T-5a58563efd525018a50d31c0d3f37e93\0";
+// `d2` at `a:1|b:1` with `{"t":"bc"}`, as the first entry of `c` is received, after these.
+const NEWER: &[u8] =
+    b"\x01\0\0\0l\x01\0\x02d2\x02\0\0\0\0\0\0\0\0\0\0\0\x01\0\0\0\x01\0\0\0\0\0\0\0\x01\x03\0\0\0\0\
+    \x01\x01\0\0\0\x0a{\"t\":\"bc\"}\0\"T-5a58563efd525018a50d31c0d3f37e93\x01\0\0\0\x02\0\x01c\
+    \0\0\0\0\0\0\0\x01\0\x03T-1";
 
-// The image of these entries, after the header.
-fn image(alloc: Global, entries: &[&[u8]]) -> Result<Bytes, Memory> {
-    let mut image = bytes_of(alloc, HEADER)?;
-    for entry in entries {
-        image.extend(entry)?;
+const CLOSED_GATE: &[u8] = b"\0";
+
+/// A store with three documents, of which one is in conflict, and an index. Its log has four
+/// entries, and no peer has told it of a place.
+pub const PREPARED: Pieces = &[HEADER, CREATED, SECOND, THIRD, RECEIVED, INDEX, CLOSED_GATE];
+
+/// The same, in which `d2` was put.
+pub const PUT: Pieces = &[
+    HEADER,
+    CREATED,
+    SECOND,
+    THIRD,
+    RECEIVED,
+    INDEX,
+    CHANGED,
+    CLOSED_GATE,
+];
+
+/// The same as `PREPARED`, in which `d2` was received.
+pub const NEWER_RECEIVED: Pieces = &[
+    HEADER,
+    CREATED,
+    SECOND,
+    THIRD,
+    RECEIVED,
+    INDEX,
+    NEWER,
+    CLOSED_GATE,
+];
+
+/// The bytes of an image.
+pub fn image_of(alloc: Global, pieces: Pieces) -> Result<Bytes, Memory> {
+    let mut image = Bytes::new(alloc);
+    for piece in pieces {
+        image.extend(piece)?;
     }
-    image.push(0)?;
     Ok(image)
 }
 
-/// A store whose left image is this one.
-pub fn on_the_left(image: &[u8]) -> Files<'_> {
-    Files {
-        root: b"\0",
-        left: image,
-        right: b"",
+/// Whether these bytes are such an image.
+pub fn is_image(bytes: &[u8], pieces: Pieces) -> bool {
+    let mut rest = bytes;
+    for piece in pieces {
+        match rest.strip_prefix(*piece) {
+            Some(behind) => rest = behind,
+            None => return false,
+        }
     }
-}
-
-/// The image of a store with three documents, of which one is in conflict, and an index.
-pub fn prepared(alloc: Global) -> Result<Bytes, Memory> {
-    image(alloc, &[CREATED, SECOND, THIRD, RECEIVED, INDEX])
-}
-
-/// The same, in which `d2` was put.
-pub fn changed(alloc: Global) -> Result<Bytes, Memory> {
-    image(alloc, &[CREATED, SECOND, THIRD, RECEIVED, INDEX, CHANGED])
+    rest.is_empty()
 }
