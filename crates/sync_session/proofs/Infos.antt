@@ -16,7 +16,8 @@ use Rattle.sync_phases.specs.declared.asked.Asked.{Asked}
 use Rattle.sync_phases.specs.declared.asked.Asked.TheVariants.{Level, Send}
 use Rattle.sync_phases.specs.declared.fault.SyncFault.{SyncFault}
 use Rattle.sync_phases.specs.declared.fault.SyncFault.TheVariants.{Broken, LogCheck}
-use Rattle.sync_session.specs.Asked.{Asks, ComesTo}
+use Rattle.sync_session.specs.Asked.{Asks}
+use Rattle.sync_session.specs.inner.Asked.{ComesTo}
 use Rattle.sync_session.proofs.Replies.{then_comes, then_fails}
 
 module _ {A : Type 0} (s : State) (info : Info) (level send : A) where

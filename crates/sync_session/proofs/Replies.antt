@@ -13,7 +13,8 @@ use Rattle.sync_phases.specs.Phase.{and_then}
 use Rattle.sync_phases.specs.Phases.{small_ends, small_heard}
 use Rattle.sync_phases.specs.declared.fault.SyncFault.{SyncFault}
 use Rattle.sync_asking.specs.Heard.{HearsSmall, SaysBytes}
-use Rattle.sync_session.specs.Asked.{ComesOf, ComesTo}
+use Rattle.sync_session.specs.Asked.{ComesOf}
+use Rattle.sync_session.specs.inner.Asked.{ComesTo}
 
 ok_is : {A : Type 0} {x : A} {fault : SyncFault} → ◌≡◌ {A = Result A SyncFault} (Ok x) (Err fault) → ⊥
 ok_is e = cc

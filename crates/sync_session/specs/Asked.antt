@@ -13,10 +13,6 @@ use Rattle.sync_phases.specs.declared.fault.SyncFault.{SyncFault}
 use Rattle.sync_phases.specs.declared.fault.SyncFault.TheVariants.{Memory}
 use Rattle.sync_phases.specs.declared.summary.Summary.{Summary}
 
--- it comes to this, unless memory ran out
-abbrev pub ComesTo : {A : Type 0} → Result A SyncFault → Result A SyncFault → Type 0
-ComesTo defined result = (result ≡ Err Memory) ⊎ (result ≡ defined)
-
 -- the bytes say a reply, to which it is defined to come so
 abbrev pub ComesOf : {A B : Type 0} → (List ℕ → ℕ → A → Type 0) → (HeardReply A → Result B SyncFault) → List ℕ
     → Result B SyncFault → Type 0

@@ -1,2 +1,3 @@
 -- Words that no public contract cites: those of private contracts and of proofs.
 pub mod Faults
+pub mod Asked

@@ -14,7 +14,8 @@ ghost use Rattle.sync_phases.specs.Phases.{by_info, if_same, is_level, known_of,
 ghost use Rattle.sync_phases.specs.Phases.{small_ends, small_heard};
 ghost use Rattle.sync_phases.specs.Phases as phases;
 ghost use Rattle.sync_asking.specs.Carried.{Carries};
-ghost use Rattle.sync_session.specs.Asked.{Asks, ComesOf, ComesTo};
+ghost use Rattle.sync_session.specs.Asked.{Asks, ComesOf};
+ghost use Rattle.sync_session.specs.inner.Asked.{ComesTo};
 
 use crate::session::{Asking, Sending};
 use replica_core::{Replica, position_of};

@@ -9,7 +9,8 @@ ghost use Rattle.sync_stream.specs.Messages.{SaysKept, small_if};
 ghost use Rattle.sync_stream.specs.Requests.{ToKeep, request_text};
 ghost use Rattle.sync_phases.specs.Phases.{has_all, small_ends, small_heard, summary, told_by};
 ghost use Rattle.sync_asking.specs.Carried.{Carries};
-ghost use Rattle.sync_session.specs.Asked.{Asks, ComesOf, ComesTo, Finishes};
+ghost use Rattle.sync_session.specs.Asked.{Asks, ComesOf, Finishes};
+ghost use Rattle.sync_session.specs.inner.Asked.{ComesTo};
 ghost use Rattle.sync_session.specs.Seen.{exchanged_in};
 
 use crate::session::{Course, Recording};

@@ -14,7 +14,8 @@ use Rattle.sync_http.specs.declared.fault.WireFault.TheVariants as wire
 use Rattle.sync_http.specs.declared.heads.Heard.TheVariants.{NotYet}
 use Rattle.sync_http.specs.declared.heads.Heard.TheVariants as Heard
 use Rattle.sync_http.specs.declared.heads.RequestHead.{RequestHead}
-use Rattle.sync_wire.specs.Opened.{IsOpened, LosesHead, LosesPiece, ReadsUpTo, stops_at}
+use Rattle.sync_wire.specs.Opened.{IsOpened, LosesHead, LosesPiece, ReadsUpTo}
+use Rattle.sync_wire.specs.inner.Opened.{stops_at}
 use Rattle.sync_wire.specs.declared.head.Opening.TheVariants.{Early, Head}
 use Rattle.sync_wire.proofs.Lengths.{head_within}
 

@@ -1,5 +1,5 @@
 -- What was read of a connection: the head of its request, and bytes of its body.
-use Rattle.std.specs.Prelude.{◌≡◌, ◌≢◌, ◌⊎◌, ℕ, ◌≤◌, List, [], ◌++◌, length, Option, Result, Ok, Err}
+use Rattle.std.specs.Prelude.{◌≡◌, ◌≢◌, ◌⊎◌, ℕ, ◌≤◌, List, [], ◌++◌, length, Option, Ok, Err}
 use Rattle.std.specs.Io.KnownBytes.{Consumes, IsAtEnd}
 use Rattle.link.specs.declared.input.InputFault.{InputFault}
 use Rattle.link.specs.declared.input.InputFault.TheVariants.{Source, Memory}
@@ -25,15 +25,6 @@ IsOpened before after (Faulty fault) = (read : List ℕ) × Consumes before afte
 abbrev pub LosesHead : Option (List ℕ) → Option (List ℕ) → InputFault → Type 0
 LosesHead before after Source = (read : List ℕ) × Consumes before after read × HearsRequest read (Ok NotYet)
 LosesHead before after Memory = (lost : List ℕ) × Consumes before after lost
-
-abbrev pub stops_at : WireFault → Result Opening InputFault
-stops_at wire.TooLarge = Ok (Faulty wire.TooLarge)
-stops_at wire.BadHead = Ok (Faulty wire.BadHead)
-stops_at wire.BadPath = Ok (Faulty wire.BadPath)
-stops_at wire.BadMethod = Ok (Faulty wire.BadMethod)
-stops_at wire.Chunked = Ok (Faulty wire.Chunked)
-stops_at wire.NoLength = Ok (Faulty wire.NoLength)
-stops_at wire.Memory = Err Memory
 
 -- ---- further bytes
 

@@ -2,7 +2,8 @@
 ghost use Rattle.std.specs.Prelude.{◌≡◌, IfErr, IfOk};
 ghost use Rattle.u1_base.specs.Causes.{HasCauseOf};
 ghost use Rattle.link.specs.declared.input.InputFault.TheVariants as input;
-ghost use Rattle.sync_wire.specs.Opened.{IsOpened, LosesHead, stops_at};
+ghost use Rattle.sync_wire.specs.Opened.{IsOpened, LosesHead};
+ghost use Rattle.sync_wire.specs.inner.Opened.{stops_at};
 
 use crate::{PIECE, read_piece};
 use link::{Conn, InputFault};
