@@ -6,4 +6,4 @@ pub init-requires : goal.init-requires
 init-requires g c = rw c.in-Init.is at c.requires
 
 pub returns-in-Init : goal.returns-in-Init
-returns-in-Init g c = rw c.in-Init.is (c.init.ensures (g.S.Source.known c.args.input.now))
+returns-in-Init g c = rw c.in-Init.is c.init.ensures
