@@ -8,8 +8,7 @@ use Rattle.replica_state.specs.Held.{lists_of, meaning_of}
 use Rattle.replica_core.specs.Replica.{AddsOnly, Found, IsLeft, Known, NeedsBehind, Stands, StandsAsEither}
 use Rattle.replica_core.specs.Replica.{Stored, state_in, stored_as, stored_in}
 use Rattle.replica_core.specs.Runs.{StandsAfterFirst}
-use Rattle.replica_core.specs.Staging.{Stages}
-use Rattle.replica_core.specs.inner.Staging.{HasStaged}
+use Rattle.replica_core.specs.Staging.{HasStaged, Stages}
 use Rattle.replica_core.specs.declared.fault.CommitFault.{CommitFault}
 use Rattle.replica_core.proofs.CallsEnds.{Settled, adds_on, unchanged}
 use Rattle.replica_core.proofs.CommandsDone.{after_effect}

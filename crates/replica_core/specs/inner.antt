@@ -1,3 +1,2 @@
 -- Words that no public contract cites: those of private contracts and of proofs.
 pub mod Runs
-pub mod Staging

@@ -1,14 +1,14 @@
 -- The phases of a session: Ask, Send, Take, Settle, Finish. Each is a function of the state that it finds, of what the
 -- phases before it left, and of what came back. Whatever else changes the replica between two of them is in that state.
 -- Whether there is room for a step, and whether the disk and the memory last, is said where steps are made.
-use Rattle.std.specs.Prelude.{ℕ, ◌+◌, ◌==◌, ◌&&◌, min, nat_le, Bool, true, false, not, if◌then◌else◌, List, [], ◌∷◌}
+use Rattle.std.specs.Prelude.{ℕ, ◌+◌, ◌==◌, ◌&&◌, nat_le, Bool, true, false, not, if◌then◌else◌, List, [], ◌∷◌}
 use Rattle.std.specs.Prelude.{length, option_to_list, Option, Some, None, Result, Ok, Err}
 use Rattle.u1_base.specs.Ids.{same_id}
 use Rattle.u1_base.specs.Places.{Place, same_place}
 use Rattle.vector_rev.specs.Counts.{Uid}
 use Rattle.translog.specs.declared.entry.Entry.{Entry}
-use Rattle.translog.specs.Entries.{changes_since, trans_at}
-use Rattle.translog.specs.Log.{end_of, fits_log}
+use Rattle.translog.specs.Entries.{changes_since}
+use Rattle.translog.specs.Log.{end_of, fits_log, mine_of}
 use Rattle.conflicts.specs.State.{State, after_all, position_kept}
 use Rattle.conflicts.specs.Writing.{Decided, Answers, Refuses, move_decides, step_in, take_decides}
 use Rattle.conflicts.specs.declared.accept.Accept.{Accept}
@@ -69,12 +69,6 @@ small_heard heard = and_then (heard_ends heard) small_ends
 -- the place up to which this replica knows the target's log
 abbrev pub known_of : State → Uid → Place
 known_of s target = position_kept s Known target
-
--- the place of a log in answer to one that does not fit it: its end, where that one lies behind the end, else the place
--- at the same generation
-abbrev pub mine_of : List Entry → Place → Place
-mine_of es at =
-    let g = min at.generation (length es) in record { generation = g; trans = trans_at es g }
 
 -- nothing was written here since the told place, and nothing at the target since the known one
 abbrev pub is_level : State → Info → Bool

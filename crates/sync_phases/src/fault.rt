@@ -1,6 +1,6 @@
 //! Why a session ends early.
 use thiserror::Error;
-use u1_base::Position;
+use u1_base::{Memory, Position};
 
 /// Why a session ends before it is complete. The steps that were made stay.
 #[derive(Debug, Error, Drop)]
@@ -34,4 +34,15 @@ pub enum SyncFault {
     Disk,
     #[error("out of memory")]
     Memory,
+}
+
+impl From<Memory> for SyncFault {
+    ghost use Rattle.std.specs.Prelude.{◌≡◌};
+    ghost use Rattle.sync_phases.specs.declared.fault.SyncFault.TheVariants as sync;
+
+    ghost from_gives = { λ _ e. e ≡ sync.Memory };
+
+    fn from(_memory: Memory) -> SyncFault {
+        SyncFault::Memory
+    }
 }

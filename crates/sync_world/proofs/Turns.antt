@@ -6,7 +6,7 @@ use Rattle.u1_base.specs.Ids.{same_id}
 use Rattle.u1_base.specs.Places.{same_place}
 use Rattle.vector_rev.specs.Counts.{Uid}
 use Rattle.translog.specs.Entries.{changes_since}
-use Rattle.translog.specs.Log.{end_of, fits_log}
+use Rattle.translog.specs.Log.{end_of, fits_log, mine_of}
 use Rattle.translog.specs.Source.{passes}
 use Rattle.conflicts.specs.Laws.{MakesOf}
 use Rattle.conflicts.specs.Making.{deleted, edited, resolved}
@@ -20,7 +20,7 @@ use Rattle.sync_http.specs.declared.info.Info.{Info}
 use Rattle.sync_stream.specs.Replies as reply
 use Rattle.sync_stream.specs.Requests.{Question, ToKeep}
 use Rattle.sync_stream.specs.Serving.{taken_of}
-use Rattle.sync_phases.specs.Phases.{by_info, count_of, has_all, if_same, is_level, known_of, known_to, mine_of}
+use Rattle.sync_phases.specs.Phases.{by_info, count_of, has_all, if_same, is_level, known_of, known_to}
 use Rattle.sync_phases.specs.Phases.{posted_to}
 use Rattle.sync_phases.specs.declared.fault.SyncFault.{SyncFault}
 use Rattle.sync_phases.specs.declared.fault.SyncFault.TheVariants.{Broken, LogCheck}

@@ -1,5 +1,5 @@
 -- A log as contracts see it, the place at its end, and how a place stands to it.
-use Rattle.std.specs.Prelude.{◌≡◌, ℕ, ◌≤◌, ◌⊎◌, Bool, ◌==◌, ◌||◌, ◌&&◌, nat_le, nat_eq, List, length}
+use Rattle.std.specs.Prelude.{◌≡◌, ℕ, ◌≤◌, ◌⊎◌, Bool, ◌==◌, ◌||◌, ◌&&◌, min, nat_le, nat_eq, List, length}
 use Rattle.std.specs.Option.{option_eq}
 use Rattle.std.specs.Cmp.Lexicographic.{pointwise}
 use Rattle.u1_base.specs.Places.{Place}
@@ -29,3 +29,9 @@ abbrev pub fits_log : List Entry → Place → Bool
 fits_log es p =
     p.generation == 0
     || nat_le p.generation (length es) && option_eq (pointwise nat_eq) (trans_at es p.generation) p.trans
+
+-- the place of a log in answer to one that does not fit it: its end, where that one lies behind the end, else the place
+-- at the same generation
+abbrev pub mine_of : List Entry → Place → Place
+mine_of es at =
+    let g = min at.generation (length es) in record { generation = g; trans = trans_at es g }
