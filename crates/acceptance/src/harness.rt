@@ -3,13 +3,10 @@ use command_lines::Outcome;
 use disk_model::MemDisk;
 use disks::{DiskName, Disks};
 use link::{MemSink, MemSource};
-use outside::Outside;
+use outside::{NoDoor, NoLink, Outside};
 use replica_cli::run;
 use std::alloc::Global;
-use sync_link::{Conns, MemAcceptor, MemLink, Replies};
 use u1_base::{Bytes, Memory, Numbers, Text, Texts};
-
-type Around = Outside<MemSource, MemSink, MemLink, MemAcceptor>;
 
 /// What one command left: how it ended, what it printed, and the disks.
 #[derive(Drop)]
@@ -63,25 +60,16 @@ fn words_of(alloc: Global, words: &str) -> Result<Texts, Memory> {
     Ok(texts)
 }
 
-// What stands outside: this input and output, and no peer.
-fn around(alloc: Global, input: MemSource, out: MemSink) -> Result<Around, Memory> {
-    match MemAcceptor::new(Conns::new(alloc), Numbers::new(alloc)) {
-        Ok(door) => Ok(Outside {
-            input,
-            out,
-            link: MemLink::new(Replies::new(alloc), 1, Numbers::new(alloc)),
-            door,
-        }),
-        Err(Memory) => Err(Memory),
-    }
-}
-
 /// Runs one command over a store of these files. All bits of the seed are 0.
 pub fn run_on(alloc: Global, words: &str, stored: Files<'_>, input: &[u8]) -> Result<Ran, Memory> {
     let words = words_of(alloc, words)?;
     let disks = disks_of(alloc, stored)?;
-    let source = MemSource::new(bytes_of(alloc, input)?, Numbers::new(alloc));
-    let mut outside = around(alloc, source, MemSink::new(alloc, Numbers::new(alloc)))?;
+    let mut outside = Outside {
+        input: MemSource::new(bytes_of(alloc, input)?, Numbers::new(alloc)),
+        out: MemSink::new(alloc, Numbers::new(alloc)),
+        link: NoLink,
+        door: NoDoor,
+    };
     let (outcome, disks) = run(alloc, words.as_slice(), 0, disks, &mut outside);
     Ok(Ran {
         outcome,

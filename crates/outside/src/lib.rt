@@ -4,7 +4,10 @@
 //! The caller owns it and lends it. What contracts know of it is one record, `OutsideKnown`.
 #![tactic(auto)]
 
+mod peers;
+
 use link::{Sink, Source};
+pub use peers::{NoDoor, NoLink};
 use sync_link::{Acceptor, Link};
 
 /// The objects outside.

@@ -24,7 +24,7 @@ pub fn runs(
     let alloc = said.alloc();
     let requests = requests_of(alloc, words.get(2..).unwrap_or(&[]), input)?;
     let unread = MemSource::new(Bytes::new(alloc), Numbers::new(alloc));
-    let mut outside = around(alloc, unread, MemSink::new(alloc, Numbers::new(alloc)))?;
+    let mut outside = around(unread, MemSink::new(alloc, Numbers::new(alloc)));
     let disks = disks_of(alloc, &store.files(), &NO_FAILING)?;
     let (outcomes, disks) = run(alloc, requests, disks, &mut outside);
     store.put_files(alloc, files_on(&disks))?;

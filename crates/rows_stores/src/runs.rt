@@ -5,16 +5,15 @@ use crash_harness::{Failing, Files, NO_FAILING, disks_of};
 use disk_model::MemDisk;
 use disks::{DiskName, Disks};
 use link::{MemSink, MemSource};
-use outside::Outside;
+use outside::{NoDoor, NoLink, Outside};
 use replica_cli::run;
 use rows::Said;
 use std::alloc::Global;
 use std::str;
-use sync_link::{Conns, MemAcceptor, MemLink, Replies};
 use u1_base::{Bytes, Memory, Numbers, Text};
 
 /// What stands outside of one command.
-pub type Around = Outside<MemSource, MemSink, MemLink, MemAcceptor>;
+pub type Around = Outside<MemSource, MemSink, NoLink, NoDoor>;
 
 /// What one command left: how it ended, what it printed, and the disks.
 #[derive(Drop)]
@@ -82,16 +81,12 @@ fn sink_of(alloc: Global, broken: Broken) -> Result<MemSink, Memory> {
 }
 
 /// What stands outside: this input and output, and no peer.
-/// What stands outside: this input and output, and no peer.
-pub fn around(alloc: Global, input: MemSource, out: MemSink) -> Result<Around, Memory> {
-    match MemAcceptor::new(Conns::new(alloc), Numbers::new(alloc)) {
-        Ok(door) => Ok(Outside {
-            input,
-            out,
-            link: MemLink::new(Replies::new(alloc), 1, Numbers::new(alloc)),
-            door,
-        }),
-        Err(Memory) => Err(Memory),
+pub fn around(input: MemSource, out: MemSink) -> Around {
+    Outside {
+        input,
+        out,
+        link: NoLink,
+        door: NoDoor,
     }
 }
 
@@ -105,7 +100,7 @@ pub fn run_on(
 ) -> Result<Ran, Memory> {
     let disks = disks_with(alloc, stored, broken)?;
     let source = source_of(alloc, input, broken)?;
-    let mut outside = around(alloc, source, sink_of(alloc, broken)?)?;
+    let mut outside = around(source, sink_of(alloc, broken)?);
     let (outcome, disks) = run(alloc, words, 0, disks, &mut outside);
     Ok(Ran {
         outcome,

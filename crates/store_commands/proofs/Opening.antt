@@ -8,7 +8,7 @@ use Rattle.disks.specs.declared.fault.OpenFault.{OpenFault}
 use Rattle.disks.specs.declared.fault.OpenFault.TheVariants as fault
 use Rattle.link.proofs.Taking.{took_nothing}
 use Rattle.link.specs.Streams.{IsFront}
-use Rattle.outside.specs.Known.{LeavesPeers, OutsideKnown}
+use Rattle.outside.specs.Known.{OutsideKnown}
 use Rattle.replica_core.specs.Replica.{Found as Left, Known, Stored}
 use Rattle.replica_state.specs.Held.{Lists, lists_of, no_lists}
 use Rattle.command_lines.specs.Endings.{ending_of}

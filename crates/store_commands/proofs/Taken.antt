@@ -16,7 +16,7 @@ use Rattle.link.proofs.Taking.{took_nothing}
 use Rattle.link.specs.Streams.{Input, Output, Reads, Takes}
 use Rattle.link.specs.declared.input.InputFault.{InputFault}
 use Rattle.link.specs.declared.input.InputFault.TheVariants as input
-use Rattle.outside.specs.Known.{LeavesPeers, OutsideKnown}
+use Rattle.outside.specs.Known.{OutsideKnown}
 use Rattle.replica_core.specs.Replica.{Found as Left, Known, Stands as LeftStands, Stored, stored_in}
 use Rattle.replica_state.specs.Held.{Lists}
 use Rattle.command_lines.specs.Outcomes.{content_end, input_end}

@@ -6,13 +6,12 @@
 use cli_words::{Command, WordsFault, read_words};
 use command_lines::Outcome;
 use link::{MemSink, MemSource, read_at_most};
-use outside::Outside;
+use outside::{NoDoor, NoLink, Outside};
 use std::alloc::Global;
 use store_commands::{MemStore, run_over};
-use sync_link::{Conns, MemAcceptor, MemLink, Replies};
 use u1_base::{Bytes, Memory, Numbers, Text, Texts};
 
-type Around = Outside<MemSource, MemSink, MemLink, MemAcceptor>;
+type Around = Outside<MemSource, MemSink, NoLink, NoDoor>;
 
 // The words of a command after the directory, its input, what it prints, and what is left of the
 // input.
@@ -99,16 +98,12 @@ fn leaves(alloc: Global, input: &mut MemSource, left: &str) -> bool {
 
 // What stands outside: this input, an empty output, and no peer.
 fn around(alloc: Global, text: &str) -> Result<Around, Memory> {
-    let input = source_of(alloc, text)?;
-    match MemAcceptor::new(Conns::new(alloc), Numbers::new(alloc)) {
-        Ok(door) => Ok(Outside {
-            input,
-            out: MemSink::new(alloc, Numbers::new(alloc)),
-            link: MemLink::new(Replies::new(alloc), 1, Numbers::new(alloc)),
-            door,
-        }),
-        Err(Memory) => Err(Memory),
-    }
+    Ok(Outside {
+        input: source_of(alloc, text)?,
+        out: MemSink::new(alloc, Numbers::new(alloc)),
+        link: NoLink,
+        door: NoDoor,
+    })
 }
 
 fn source_of(alloc: Global, text: &str) -> Result<MemSource, Memory> {

@@ -6,19 +6,17 @@
 
 mod needs;
 mod output;
-mod peers;
 mod sentence;
 mod usage;
 
 use crate::needs::{Needs, needs_of};
 use crate::output::{InPieces, Output, hold_closed};
-use crate::peers::{NoDoor, NoLink};
 use crate::sentence::{damaged, disk_fault, failed, file_fault, folder_of, full, say};
 use crate::usage::usage;
 use command_lines::{Outcome, outcome_status};
 use disk_model::FileFault;
 use link::{StdSink, StdSource};
-use outside::Outside;
+use outside::{NoDoor, NoLink, Outside};
 use replica_cli::run;
 use std::alloc::Global;
 use std::env::{self, Args};

@@ -1,5 +1,4 @@
 -- init makes a store; any other command opens one.
-use Rattle.std.proofs.Common.{refl}
 use Rattle.store_commands.proofs.carrying.carry_out_built.Goals as goal
 
 pub init-requires : goal.init-requires

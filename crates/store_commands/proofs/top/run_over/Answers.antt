@@ -8,6 +8,7 @@ use Rattle.store_commands.proofs.top.run_over.Goals as goal
 pub returns : goal.returns
 returns g c =
     let carried = c.carry_out-ended.ensures in
+    let d = carried.decides in
     let before = outside_known g.S.Source.known g.K.Sink.known g.L.Link.known g.A.Acceptor.known
     g.A.Conn.Source.known g.A.Conn.Sink.known c.args.outside.now in
     let between = outside_known g.S.Source.known g.K.Sink.known g.L.Link.known g.A.Acceptor.known
@@ -23,7 +24,20 @@ returns g c =
     c.finish.result = record {
       decided = carried.decided;
       a = carried.a;
-      decides = carried.decides;
+      decides = record {
+        o = d.o;
+        is_command = d.is_command;
+        is_seed = d.is_seed;
+        exprs_read = d.exprs_read;
+        compacted = d.compacted;
+        told = d.told;
+        opened = d.opened;
+        read = d.read;
+        answers = d.answers;
+        does = d.does;
+        takes = d.takes;
+        is_read = d.is_read;
+      };
       untouched = carried.untouched;
       peers = record { link = carried.peers.link; door = carried.peers.door };
       prints = answered_then carried.a before.output between.output out c.finish.result

@@ -1,10 +1,10 @@
-//! No command asks a peer or listens yet: a link that refuses every ask, and a door by which no
+//! For a run that has to do with no peer: a link that refuses every ask, and a door by which no
 //! connection comes.
 use link::MemConn;
 use sync_http::Address;
 use sync_link::{AcceptFailed, Acceptor, AskFault, Link};
 
-/// Refuses every ask, and keeps none.
+/// Refuses every ask, as if memory ran out, and keeps none. It never counts a fault.
 #[derive(Drop)]
 pub struct NoLink;
 
@@ -44,7 +44,7 @@ impl Link for NoLink {
     }
 }
 
-/// Gives no connection.
+/// Gives no connection, and never fails.
 #[derive(Drop)]
 pub struct NoDoor;
 
