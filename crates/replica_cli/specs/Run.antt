@@ -12,29 +12,28 @@ use Rattle.disk_model.specs.Device.{Device}
 use Rattle.disks.specs.Disks.{disks_known}
 use Rattle.disks.specs.Joint.{Devices}
 use Rattle.disks.specs.declared.three.Disks.{Disks}
-use Rattle.link.specs.Streams.{Input, Output}
+use Rattle.outside.specs.Known.{LeavesPeers, OutsideKnown}
 use Rattle.store_commands.specs.Complete.{RunsWhole}
 use Rattle.store_commands.specs.Prints.{Prints}
 use Rattle.store_commands.specs.Run.{Seen}
 use Rattle.replica_cli.specs.Store.{image_seen, store_seen}
 
--- what is known of the three disks, of the input and of the output at a moment
+-- what is known of the three disks and of the objects outside at a moment
 pub record Surroundings : Type 0 where
   pub disks : Devices
-  pub input : Input
-  pub output : Output
+  pub outside : OutsideKnown
 
-abbrev pub around : {D : Type 0} → (D → Device) → Disks D → Input → Output → Surroundings
-around known disks input output = record { disks = disks_known known disks; input = input; output = output }
+abbrev pub around : {D : Type 0} → (D → Device) → Disks D → OutsideKnown → Surroundings
+around known disks outside = record { disks = disks_known known disks; outside = outside }
 
--- the store on the disks, its image, and the input
+-- the store on the disks, its image, and what is outside
 abbrev pub seen_in : Bool → Surroundings → Seen
-seen_in tells s = record { store = store_seen tells s.disks; image = image_seen tells s.disks; input = s.input }
+seen_in tells s = record { store = store_seen tells s.disks; image = image_seen tells s.disks; outside = s.outside }
 
 -- a command was run over the store on the disks
 abbrev pub RunsCommand : Bool → Command → ℕ → Surroundings → Surroundings → Outcome → Type 0
 RunsCommand tells command seed before after result =
-    RunsWhole command seed (seen_in tells before) (seen_in tells after) before.output after.output result
+    RunsWhole command seed (seen_in tells before) (seen_in tells after) result
 
 -- how a run ends whose words are no command
 abbrev pub words_end : WordsFault → Outcome
@@ -45,8 +44,9 @@ words_end words.Memory = Memory
 -- there was no command to run: only the last line was printed
 pub record TurnsAway (decided : Outcome) (before after : Surroundings) (result : Outcome) : Type 0 where
   pub disks : after.disks ≡ before.disks
-  pub input : after.input ≡ before.input
-  pub prints : Prints (last_line decided) before.output after.output decided result
+  pub input : after.outside.input ≡ before.outside.input
+  pub peers : LeavesPeers before.outside after.outside
+  pub prints : Prints (last_line decided) before.outside.output after.outside.output decided result
 
 -- words that are a command are run as this one; for others the run ends as they say
 abbrev pub RunsAs : Bool → Result Command WordsFault → ℕ → Surroundings → Surroundings → Outcome → Type 0

@@ -1,5 +1,5 @@
 //! Several runs over one store, one after the other.
-use crate::runs::{bytes_of, files_on, push_printed};
+use crate::runs::{Around, around, bytes_of, files_on, push_printed};
 use crate::store::Store;
 use command_lines::{Outcome, outcome_status};
 use crash_harness::{NO_FAILING, disks_of};
@@ -9,7 +9,7 @@ use link::{MemSink, MemSource};
 use rows::Said;
 use run_lists::{Request, run_all};
 use std::alloc::Global;
-use u1_base::{Memory, Numbers, Text, Texts};
+use u1_base::{Bytes, Memory, Numbers, Text, Texts};
 
 type Requests = Vec<Request<MemSource>>;
 
@@ -23,11 +23,12 @@ pub fn runs(
 ) -> Result<(), Memory> {
     let alloc = said.alloc();
     let requests = requests_of(alloc, words.get(2..).unwrap_or(&[]), input)?;
-    let mut out = MemSink::new(alloc, Numbers::new(alloc));
+    let unread = MemSource::new(Bytes::new(alloc), Numbers::new(alloc));
+    let mut outside = around(alloc, unread, MemSink::new(alloc, Numbers::new(alloc)));
     let disks = disks_of(alloc, &store.files(), &NO_FAILING)?;
-    let (outcomes, disks) = run(alloc, requests, disks, &mut out);
+    let (outcomes, disks) = run(alloc, requests, disks, &mut outside);
     store.put_files(alloc, files_on(&disks))?;
-    push_printed(said, out.bytes())?;
+    push_printed(said, outside.out.bytes())?;
     push_statuses(outcomes?.as_slice(), said)
 }
 
@@ -36,9 +37,9 @@ fn run(
     alloc: Global,
     requests: Requests,
     disks: Disks<MemDisk>,
-    out: &mut MemSink,
+    outside: &mut Around,
 ) -> (Result<Vec<Outcome>, Memory>, Disks<MemDisk>) {
-    run_all(alloc, requests, disks, out)
+    run_all(alloc, requests, disks, outside)
 }
 
 // The words of each run begin with one that stands for the store's folder.

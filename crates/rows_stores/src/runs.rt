@@ -5,11 +5,16 @@ use crash_harness::{Failing, Files, NO_FAILING, disks_of};
 use disk_model::MemDisk;
 use disks::{DiskName, Disks};
 use link::{MemSink, MemSource};
+use outside::{NoDoor, Outside};
 use replica_cli::run;
 use rows::Said;
 use std::alloc::Global;
 use std::str;
+use sync_link::{MemLink, Replies};
 use u1_base::{Bytes, Memory, Numbers, Text};
+
+/// What stands outside of one command.
+pub type Around = Outside<MemSource, MemSink, MemLink, NoDoor>;
 
 /// What one command left: how it ended, what it printed, and the disks.
 #[derive(Drop)]
@@ -76,6 +81,16 @@ fn sink_of(alloc: Global, broken: Broken) -> Result<MemSink, Memory> {
     Ok(MemSink::new(alloc, numbers(alloc, number)?))
 }
 
+/// What stands outside: this input and output, and no peer.
+pub fn around(alloc: Global, input: MemSource, out: MemSink) -> Around {
+    Outside {
+        input,
+        out,
+        link: MemLink::new(Replies::new(alloc), 1, Numbers::new(alloc)),
+        door: NoDoor,
+    }
+}
+
 /// Runs the command of the words over a store of these files. All bits of the seed are 0.
 pub fn run_on(
     alloc: Global,
@@ -85,12 +100,12 @@ pub fn run_on(
     broken: Broken,
 ) -> Result<Ran, Memory> {
     let disks = disks_with(alloc, stored, broken)?;
-    let mut source = source_of(alloc, input, broken)?;
-    let mut printed = sink_of(alloc, broken)?;
-    let (outcome, disks) = run(alloc, words, 0, disks, &mut source, &mut printed);
+    let source = source_of(alloc, input, broken)?;
+    let mut outside = around(alloc, source, sink_of(alloc, broken)?);
+    let (outcome, disks) = run(alloc, words, 0, disks, &mut outside);
     Ok(Ran {
         outcome,
-        printed,
+        printed: outside.out,
         disks,
     })
 }

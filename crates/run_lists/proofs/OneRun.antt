@@ -95,7 +95,7 @@ module _ (before after : Between) (same : after.disks ≡ before.disks) where
   pub does_nothing : Does Nothing before after
   does_nothing = record {
     proper = tt;
-    now = ap (λ d. found_at (record { disks = d; output = after.output })) same;
+    now = ap (λ d. found_at (record after { disks = d })) same;
     end = refl;
     later = omega (arith, ap (λ d. moments true d) same);
     earlier = λ k o early crash. subst (λ d. (store_seen true d).crash k o) same crash;

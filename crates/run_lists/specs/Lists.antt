@@ -1,4 +1,4 @@
--- Runs one after the other, on the same disks and the same output. Each has an input of its own.
+-- Runs one after the other, on the same disks, output, link and door. Each has an input of its own.
 use Rattle.std.specs.Prelude.{◌≡◌, ℕ, Bool, List, [], ◌∷◌}
 use Rattle.command_lines.specs.declared.outcome.Outcome.{Outcome}
 use Rattle.disk_model.specs.Device.{Device}
@@ -6,8 +6,11 @@ use Rattle.disks.specs.Disks.{disks_known}
 use Rattle.disks.specs.Joint.{Devices}
 use Rattle.disks.specs.declared.three.Disks.{Disks}
 use Rattle.link.specs.Streams.{Input, Output}
+use Rattle.outside.specs.Known.{ConnKnown, OutsideKnown}
 use Rattle.replica_cli.specs.Run.{Runs, Surroundings}
 use Rattle.run_lists.specs.declared.list.Request.{Request}
+use Rattle.sync_link.specs.Doors.{DoorKnown}
+use Rattle.sync_link.specs.Links.{LinkKnown}
 
 -- a run that is asked for: its words, its seed, and what is known of its input
 pub record Asked : Type 0 where
@@ -22,12 +25,23 @@ asked known r = record { words = r.words; seed = r.seed; input = known r.input }
 pub record Between : Type 0 where
   pub disks : Devices
   pub output : Output
+  pub link : LinkKnown
+  pub door : DoorKnown ConnKnown
 
-abbrev pub between : {D : Type 0} → (D → Device) → Disks D → Output → Between
-between known disks output = record { disks = disks_known known disks; output = output }
+-- whatever input stands there: it is that of a run that ended
+abbrev pub between : {D : Type 0} → (D → Device) → Disks D → OutsideKnown → Between
+between known disks outside = record {
+  disks = disks_known known disks;
+  output = outside.output;
+  link = outside.link;
+  door = outside.door;
+}
 
 abbrev pub with_input : Between → Input → Surroundings
-with_input m input = record { disks = m.disks; input = input; output = m.output }
+with_input m input = record {
+  disks = m.disks;
+  outside = record { input = input; output = m.output; link = m.link; door = m.door };
+}
 
 -- one run of the list
 pub record RunsOnce (tells : Bool) (a : Asked) (before after : Between) (outcome : Outcome) : Type 0 where

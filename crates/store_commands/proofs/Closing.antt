@@ -4,7 +4,7 @@ use Rattle.std.proofs.Common.{inl, inr, ⊎_elim, arith}
 use Rattle.std.specs.Prelude.{◌≢◌, ◌⊎◌}
 use Rattle.cli_words.specs.declared.command.Command.{Command}
 use Rattle.conflicts.specs.State.{History, Step}
-use Rattle.link.specs.Streams.{Input, Output}
+use Rattle.outside.specs.Known.{OutsideKnown}
 use Rattle.replica_core.specs.Replica.{Found as Left, Known, Stored}
 use Rattle.command_lines.specs.Endings.{ending_of}
 use Rattle.command_lines.specs.declared.outcome.Outcome.{Outcome}
@@ -149,15 +149,15 @@ module _ (found : Found) (a : Answer) (unread : Type 0) (before : Store) (known 
 pub within_closed : (command : Command) (seed : ℕ) (found : Found) (lists : Lists)
     (image_before image_open image_after : Option Image) (before : Store) (known : Known)
     (crash : ℕ → Left Stored → Type 0) (is_open : Type 0) (after : Store)
-    (input_before input_after : Input) (out_before out_after : Output) (result : Result (Unit {0}) Outcome)
+    (outside_before outside_after : OutsideKnown) (result : Result (Unit {0}) Outcome)
     → IsSettled (in_short found) before → Closes known crash is_open after → MayStay after after.found
     → image_after ≡ image_open
     → InStore command seed is_open found lists image_before image_open before
-    (opened_as known crash) input_before input_after out_before out_after result
+    (opened_as known crash) outside_before outside_after result
     → InStore command seed (Unit {0}) found lists image_before image_after before after
-    input_before input_after out_before out_after result
+    outside_before outside_after result
 within_closed command seed found lists image_before image_open image_after before known crash is_open after
-    input_before input_after out_before out_after result
+    outside_before outside_after result
     at_rest closes may same within = record {
       decided = within.decided;
       exprs = within.exprs;
@@ -173,5 +173,6 @@ within_closed command seed found lists image_before image_open image_after befor
       ready = λ no. tt;
       input = within.input;
       is_read = within.is_read;
+      peers = within.peers;
       answers = within.answers;
     }

@@ -4,7 +4,6 @@ use Rattle.std.specs.Prelude.{Bool, drop}
 use Rattle.std.proofs.lemmas.Bool.{cases_lt}
 use Rattle.std.proofs.lemmas.List.{drop_all}
 use Rattle.cli_words.specs.declared.command.Command.{Command}
-use Rattle.link.specs.Streams.{Output}
 use Rattle.command_lines.specs.declared.outcome.Outcome.{Outcome}
 use Rattle.command_lines.specs.Endings.{Ending, Finished, Answered, TooLong, DiskFailed, InputFailed, OutputFailed}
 use Rattle.command_lines.specs.Endings.{LinkFailed, DoorFailed, OutOfMemory, ending_of}
@@ -23,8 +22,7 @@ none_behind : {x : Change} (changes : List Change) (n : ℕ) → length changes 
 none_behind {x} changes n high rest is =
     let none : ◌≡◌ {A = List Change} [] (x ∷ rest) = rw (drop_all n changes high) at is in cc none
 
-module _ (o : Occasion) (a : Answer) (before after : Seen) (out_before out_after : Output)
-    (quiet : HasNoCause o before after out_before out_after) where
+module _ (o : Occasion) (a : Answer) (before after : Seen) (quiet : HasNoCause o before after) where
   abbrev IsEither : Outcome → Type 0
   IsEither outcome = (outcome ≡ Done) ⊎ (outcome ≡ Memory)
 
@@ -36,7 +34,8 @@ module _ (o : Occasion) (a : Answer) (before after : Seen) (out_before out_after
 
   module _ (opened : Bool) (read : List ℕ) (stood reached : ℕ) where
     abbrev CauseOf : Outcome → Ending → Type 0
-    CauseOf = Cause o.found opened a (IsUnread o before.input after.input) stood reached before.store after.store
+    CauseOf = Cause o.found opened a (IsUnread o before.outside.input after.outside.input) stood reached before.store
+        after.store
 
     -- with the answer
     by_answer : (decided : Outcome) (kind : Ending) → ending_of decided ≡ kind → IsOf kind decided → a ≡ answer o
@@ -76,13 +75,13 @@ module _ (o : Occasion) (a : Answer) (before after : Seen) (out_before out_after
     decided_done decided (inr broke) cause =
         by_none decided (ending_of decided) (of_kind decided) broke.broke cause
 
-pub run_done : (command : Command) (seed : ℕ) (before after : Seen) (out_before out_after : Output) (result : Outcome)
-    (runs : Runs command seed before after out_before out_after result)
-    → HasNoCause runs.decides.o before after out_before out_after → (result ≡ Done) ⊎ (result ≡ Memory)
-run_done command seed before after out_before out_after result runs quiet =
+pub run_done : (command : Command) (seed : ℕ) (before after : Seen) (result : Outcome)
+    (runs : Runs command seed before after result)
+    → HasNoCause runs.decides.o before after → (result ≡ Done) ⊎ (result ≡ Memory)
+run_done command seed before after result runs quiet =
     let d = runs.decides in
     let either : (runs.decided ≡ Done) ⊎ (runs.decided ≡ Memory) =
-    decided_done d.o runs.a before after out_before out_after quiet d.opened d.read d.does.stood d.does.reached
+    decided_done d.o runs.a before after quiet d.opened d.read d.does.stood d.does.reached
     runs.decided d.answers d.does.leaves.cause in
     ⊎_elim
     (λ ended. ⊎_elim (λ done. inl (ended.0 ∙ done)) (λ memory. inr (ended.0 ∙ memory)) either)

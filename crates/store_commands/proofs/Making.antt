@@ -10,7 +10,8 @@ use Rattle.conflicts.specs.State.{Text}
 use Rattle.disks.specs.declared.fault.MakeFault.{MakeFault}
 use Rattle.disks.specs.declared.fault.MakeFault.TheVariants as fault
 use Rattle.link.proofs.Taking.{took_nothing}
-use Rattle.link.specs.Streams.{Input, Output}
+use Rattle.link.specs.Streams.{Output}
+use Rattle.outside.specs.Known.{OutsideKnown}
 use Rattle.replica_state.specs.Held.{Lists, no_lists}
 use Rattle.vector_rev.specs.Counts.{Uid}
 use Rattle.command_lines.specs.Endings.{ending_of}
@@ -65,8 +66,8 @@ opens_by : (b : Result (Unit {0}) Outcome) (found : Found) (lists : Lists) → b
 opens_by b found lists is = rw is refl
 
 module _ (name : Text) (uid : Option Uid) (limit : Option ℕ) (seed : ℕ) (before after : Store)
-    (image_before image_after : Option Image) (input : Input)
-    (out_before out_after : Output) (result : Result (Unit {0}) Outcome)
+    (image_before image_after : Option Image) (outside : OutsideKnown) (out_after : Output)
+    (result : Result (Unit {0}) Outcome)
     (is_built : built (command.Init name uid limit) ≡ Ok tt) where
   abbrev of_init : Found → Occasion
   of_init found = record {
@@ -76,7 +77,7 @@ module _ (name : Text) (uid : Option Uid) (limit : Option ℕ) (seed : ℕ) (bef
     seed = seed;
     found = found;
     lists = no_lists [] [];
-    given = (took_nothing most_input input).0;
+    given = (took_nothing most_input outside.input).0;
   }
 
   abbrev deed : Answer
@@ -84,8 +85,9 @@ module _ (name : Text) (uid : Option Uid) (limit : Option ℕ) (seed : ℕ) (bef
 
   -- a run of init
   abbrev Ran : Type 0
-  Ran = Carried (command.Init name uid limit) seed (record { store = before; image = image_before; input = input })
-      (record { store = after; image = image_after; input = input }) out_before out_after result
+  Ran = Carried (command.Init name uid limit) seed
+      (record { store = before; image = image_before; outside = outside })
+      (record { store = after; image = image_after; outside = record outside { output = out_after } }) result
 
   opens_so : (found : Found) → opens_for (command.Init name uid limit) found (no_lists [] [])
       ≡ opens true found (no_lists [] [])
@@ -110,8 +112,8 @@ module _ (name : Text) (uid : Option Uid) (limit : Option ℕ) (seed : ℕ) (bef
 
   ran : (found : Found) (decided : Outcome) (a : Answer) (opened : Bool) → IsTold before.found found
       → IsAnswered (of_init found) opened [] a decided
-      → Does found opened a (IsUnread (of_init found) input input) before after decided
-      → Answers a.text out_before out_after decided result → Ran
+      → Does found opened a (IsUnread (of_init found) outside.input outside.input) before after decided
+      → Answers a.text outside.output out_after decided result → Ran
   ran found decided a opened told answers does prints = record {
     decided = decided;
     a = a;
@@ -126,24 +128,25 @@ module _ (name : Text) (uid : Option Uid) (limit : Option ℕ) (seed : ℕ) (bef
       read = [];
       answers = answers;
       does = does;
-      takes = (took_nothing most_input input).1;
+      takes = (took_nothing most_input outside.input).1;
       is_read = subst (λ (d : List ℕ). IsRead d [] decided)
           (sym (none_due (opens_for (command.Init name uid limit) found (no_lists [] [])) _)) (all_read [] decided);
     };
     untouched = untouched;
+    peers = record { link = refl; door = refl };
     answers = prints;
   }
     where
       untouched : LeavesUntouched (command.Init name uid limit)
-          (record { store = before; image = image_before; input = input })
-          (record { store = after; image = image_after; input = input })
+          (record { store = before; image = image_before; outside = outside })
+          (record { store = after; image = image_after; outside = record outside { output = out_after } })
       untouched not = true_not_false (rw is_built at not)
 
   -- what was only looked at is as it was
   left : (found : Found) (decided : Outcome) → Keeps found before after → IsUntouched before after
-      → Cause found false (ended decided) (IsUnread (of_init found) input input) 0 0 before after decided
-      (ending_of decided)
-      → Does found false (ended decided) (IsUnread (of_init found) input input) before after decided
+      → Cause found false (ended decided) (IsUnread (of_init found) outside.input outside.input) 0 0 before after
+      decided (ending_of decided)
+      → Does found false (ended decided) (IsUnread (of_init found) outside.input outside.input) before after decided
   left found decided keeps untouched cause = record {
     stood = 0;
     reached = 0;
@@ -160,7 +163,7 @@ module _ (name : Text) (uid : Option Uid) (limit : Option ℕ) (seed : ℕ) (bef
 
   -- there is a store
   exists : (found : Found) → IsTold before.found found → Keeps found before after → is_blank found ≡ false
-      → IsUntouched before after → (result ≡ Err (Refused DatabaseExists)) × (out_after ≡ out_before) → Ran
+      → IsUntouched before after → (result ≡ Err (Refused DatabaseExists)) × (out_after ≡ outside.output) → Ran
   exists Blank told keeps there untouched tells = true_not_false there
   exists (DamagedStore disk place) told keeps there untouched tells =
       ran (DamagedStore disk place) (Refused DatabaseExists) (ended (Refused DatabaseExists)) false told
@@ -175,7 +178,7 @@ module _ (name : Text) (uid : Option Uid) (limit : Option ℕ) (seed : ℕ) (bef
   on_disk : (found : Found) (a : Answer) (opened : Bool) (stood reached : ℕ)
       → Fit found a.changes reached → Passes found a.changes stood reached before after
       → Rose before.faults after.faults
-      → Does found opened a (IsUnread (of_init found) input input) before after DiskFault
+      → Does found opened a (IsUnread (of_init found) outside.input outside.input) before after DiskFault
   on_disk found a opened stood reached fits passes rose = record {
     stood = stood;
     reached = reached;
@@ -197,7 +200,7 @@ module _ (name : Text) (uid : Option Uid) (limit : Option ℕ) (seed : ℕ) (bef
   -- a disk failed where there was a store
   broke_off : (found : Found) (stood reached : ℕ) → IsTold before.found found
       → Passes found [] stood reached before after → Rose before.faults after.faults
-      → (result ≡ Err DiskFault) × (out_after ≡ out_before) → Ran
+      → (result ≡ Err DiskFault) × (out_after ≡ outside.output) → Ran
   broke_off found stood reached told passes rose tells =
       ran found DiskFault (ended DiskFault) false told
       (inr (record { broke = tt; is = refl; closed = refl; unread = refl }))
@@ -205,7 +208,7 @@ module _ (name : Text) (uid : Option Uid) (limit : Option ℕ) (seed : ℕ) (bef
 
   breaks : (found : Found) (stood reached : ℕ) → IsTold before.found found
       → Passes found (making name (uid_made seed uid) (limit_given limit) found) stood reached before after
-      → Rose before.faults after.faults → (result ≡ Err DiskFault) × (out_after ≡ out_before) → Ran
+      → Rose before.faults after.faults → (result ≡ Err DiskFault) × (out_after ≡ outside.output) → Ran
   breaks Blank stood reached told passes rose tells =
       ran Blank DiskFault deed true told (inl (answered Blank (λ goes_on. tt)))
       (on_disk Blank deed true stood reached (λ n need most low over. over.3) passes rose) tells
@@ -220,7 +223,7 @@ module _ (name : Text) (uid : Option Uid) (limit : Option ℕ) (seed : ℕ) (bef
 
   pub made_so : (made : Result (Unit {0}) MakeFault)
       → Makes name (uid_made seed uid) (limit_given limit) before after made
-      → TellsMade name (uid_made seed uid) made out_before out_after result → Ran
+      → TellsMade name (uid_made seed uid) made outside.output out_after result → Ran
   made_so (Ok done) makes tells =
       ran Blank Done deed true makes.told (inl (answered Blank (λ goes_on. tt)))
       (record {

@@ -7,7 +7,8 @@ use Rattle.cli_words.specs.declared.command.Command.TheVariants.{Compact}
 use Rattle.disks.specs.declared.fault.OpenFault.{OpenFault}
 use Rattle.disks.specs.declared.fault.OpenFault.TheVariants as fault
 use Rattle.link.proofs.Taking.{took_nothing}
-use Rattle.link.specs.Streams.{Input, IsFront, Output}
+use Rattle.link.specs.Streams.{IsFront}
+use Rattle.outside.specs.Known.{OutsideKnown}
 use Rattle.replica_core.specs.Replica.{Found as Left, Known, Stored}
 use Rattle.replica_state.specs.Held.{Lists, lists_of, no_lists}
 use Rattle.command_lines.specs.Endings.{ending_of}
@@ -64,19 +65,19 @@ is_so (Ok done) is not = cc
 is_so (Err outcome) is not = cc
 
 module _ (command : Command) (seed : ℕ) (before after : Store) (image_before image_after : Option Image)
-    (input_before input_after : Input) (out_before out_after : Output)
+    (outside_before outside_after : OutsideKnown)
     (is_built : built command ≡ Ok tt) (no_making : makes_store command ≡ false) where
-  untouched : LeavesUntouched command (record { store = before; image = image_before; input = input_before })
-      (record { store = after; image = image_after; input = input_after })
+  untouched : LeavesUntouched command (record { store = before; image = image_before; outside = outside_before })
+      (record { store = after; image = image_after; outside = outside_after })
   untouched not = absurd (is_so (built command) is_built not)
 
   pub opened_then : (known : Known) (crash : ℕ → Left Stored → Type 0) (is_open : Type 0) (image : Option Image)
       (result : Result (Unit {0}) Outcome)
       → Opens before known crash is_open → image ≡ image_before
       → InStore command seed (Unit {0}) (found_open known) (lists_of known.state) image image_after
-      (opened_as known crash) after input_before input_after out_before out_after result
-      → Carried command seed (record { store = before; image = image_before; input = input_before })
-      (record { store = after; image = image_after; input = input_after }) out_before out_after result
+      (opened_as known crash) after outside_before outside_after result
+      → Carried command seed (record { store = before; image = image_before; outside = outside_before })
+      (record { store = after; image = image_after; outside = outside_after }) result
   opened_then known crash is_open image result opened same within =
       let o : Occasion = record {
         command = command;
@@ -108,7 +109,7 @@ module _ (command : Command) (seed : ℕ) (before after : Store) (image_before i
                 (λ content. does seed within.exprs within.sizes command ls content))) lists);
             there = rw lists refl;
           });
-          does = looked_then (found_open known) within.a _ (IsUnread o input_before input_after) before
+          does = looked_then (found_open known) within.a _ (IsUnread o outside_before.input outside_after.input) before
               (opened_as known crash) after within.decided
               (λ unread. ((lists_of known.state, lists), unread.0, unread.1)) opened.keeps.passes within.store;
           read = within.read;
@@ -116,6 +117,7 @@ module _ (command : Command) (seed : ℕ) (before after : Store) (image_before i
           is_read = rw lists within.is_read;
         };
         untouched = untouched;
+        peers = within.peers;
         answers = within.answers;
       }
 
@@ -127,7 +129,7 @@ nothing_read reads given opened = (due_of opened reads given, refl)
 
 -- a command that finds no store that it wants, or of which nothing is known but that it was looked at
 module _ (command : Command) (seed : ℕ) (before after : Store) (image_before image_after : Option Image)
-    (input : Input) (out : Output)
+    (outside : OutsideKnown)
     (is_built : built command ≡ Ok tt) (no_making : makes_store command ≡ false) where
   abbrev occasion : Found → Occasion
   occasion found = record {
@@ -137,16 +139,17 @@ module _ (command : Command) (seed : ℕ) (before after : Store) (image_before i
     seed = seed;
     found = found;
     lists = no_lists [] [];
-    given = (took_nothing most_input input).0;
+    given = (took_nothing most_input outside.input).0;
   }
 
   -- nothing was opened, read or printed
   closed : (found : Found) (decided : Outcome) → IsTold before.found found → Keeps found before after
       → IsAnswered (occasion found) false [] (ended decided) decided → IsRead (due (occasion found)) [] decided
-      → Leaves found false (ended decided) (IsUnread (occasion found) input input) 0 0 before after decided
-      → Answers [] out out decided (Err decided)
-      → Carried command seed (record { store = before; image = image_before; input = input })
-      (record { store = after; image = image_after; input = input }) out out (Err decided)
+      → Leaves found false (ended decided) (IsUnread (occasion found) outside.input outside.input) 0 0 before after
+      decided
+      → Answers [] outside.output outside.output decided (Err decided)
+      → Carried command seed (record { store = before; image = image_before; outside = outside })
+      (record { store = after; image = image_after; outside = outside }) (Err decided)
   closed found decided told keeps answered read leaves prints = record {
     decided = decided;
     a = ended decided;
@@ -161,10 +164,11 @@ module _ (command : Command) (seed : ℕ) (before after : Store) (image_before i
       answers = answered;
       does = record { stood = 0; reached = 0; passes = keeps.passes; leaves = leaves };
       read = [];
-      takes = (took_nothing most_input input).1;
+      takes = (took_nothing most_input outside.input).1;
       is_read = read;
     };
-    untouched = untouched command seed before after image_before image_after input input out out is_built no_making;
+    untouched = untouched command seed before after image_before image_after outside outside is_built no_making;
+    peers = record { link = refl; door = refl };
     answers = prints;
   }
 
@@ -172,10 +176,11 @@ module _ (command : Command) (seed : ℕ) (before after : Store) (image_before i
   unwanted : (found : Found) (decided : Outcome) → opens_for command found (no_lists [] []) ≡ Err decided
       → HasLists found (no_lists [] [])
       → Finds found before after → IsRead [] [] decided
-      → Leaves found false (ended decided) (IsUnread (occasion found) input input) 0 0 before after decided
-      → Answers [] out out decided (Err decided)
-      → Carried command seed (record { store = before; image = image_before; input = input })
-      (record { store = after; image = image_after; input = input }) out out (Err decided)
+      → Leaves found false (ended decided) (IsUnread (occasion found) outside.input outside.input) 0 0 before after
+      decided
+      → Answers [] outside.output outside.output decided (Err decided)
+      → Carried command seed (record { store = before; image = image_before; outside = outside })
+      (record { store = after; image = image_after; outside = outside }) (Err decided)
   unwanted found decided none lists finds read leaves prints =
       closed found decided finds.told finds.keeps
       (inl (record { lists = λ goes_on. lists; is = rw none refl; there = rw none refl })) (rw none read) leaves prints
@@ -183,24 +188,26 @@ module _ (command : Command) (seed : ℕ) (before after : Store) (image_before i
   -- nothing is known but that it was looked at
   broken : (decided : Outcome) (finds : FindsSome before after) → BreaksOff (ending_of decided)
       → IsRead (due (occasion finds.found)) [] decided
-      → Leaves finds.found false (ended decided) (IsUnread (occasion finds.found) input input) 0 0 before after decided
-      → Answers [] out out decided (Err decided)
-      → Carried command seed (record { store = before; image = image_before; input = input })
-      (record { store = after; image = image_after; input = input }) out out (Err decided)
+      → Leaves finds.found false (ended decided) (IsUnread (occasion finds.found) outside.input outside.input) 0 0
+      before after decided
+      → Answers [] outside.output outside.output decided (Err decided)
+      → Carried command seed (record { store = before; image = image_before; outside = outside })
+      (record { store = after; image = image_after; outside = outside }) (Err decided)
   broken decided finds broke read leaves prints =
       closed finds.found decided finds.told finds.keeps
       (inr (record { broke = broke; is = refl; closed = refl; unread = refl })) read leaves prints
 
   unread_of : (found : Found) → IsFront [] (due (occasion found))
-  unread_of found = nothing_read (reads_input command) (took_nothing most_input input).0
+  unread_of found = nothing_read (reads_input command) (took_nothing most_input outside.input).0
       (opens_for command found (no_lists [] []))
 
   -- what was only looked at is as it was, but where a disk failed
   left : (found : Found) (decided : Outcome) → Keeps found before after
       → (decided ≢ DiskFault → IsUntouched before after)
-      → Cause found false (ended decided) (IsUnread (occasion found) input input) 0 0 before after decided
-      (ending_of decided)
-      → Leaves found false (ended decided) (IsUnread (occasion found) input input) 0 0 before after decided
+      → Cause found false (ended decided) (IsUnread (occasion found) outside.input outside.input) 0 0 before after
+      decided (ending_of decided)
+      → Leaves found false (ended decided) (IsUnread (occasion found) outside.input outside.input) 0 0 before after
+      decided
   left found decided keeps untouched cause = record {
     cause = cause;
     fits = none_fit found [];
@@ -211,8 +218,8 @@ module _ (command : Command) (seed : ℕ) (before after : Store) (image_before i
   }
 
   pub unopened : (given : OpenFault) → FailsToOpen before after given
-      → Carried command seed (record { store = before; image = image_before; input = input })
-      (record { store = after; image = image_after; input = input }) out out (Err (open_end given))
+      → Carried command seed (record { store = before; image = image_before; outside = outside })
+      (record { store = after; image = image_after; outside = outside }) (Err (open_end given))
   unopened fault.Blank finds =
       unwanted Blank (Refused NoDatabase) (rw (is_built, no_making) refl) tt finds refl
       (left Blank (Refused NoDatabase) finds.keeps (λ no. finds.untouched) (refl, refl)) (refl, refl)

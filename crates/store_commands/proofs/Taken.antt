@@ -16,6 +16,7 @@ use Rattle.link.proofs.Taking.{took_nothing}
 use Rattle.link.specs.Streams.{Input, Output, Reads, Takes}
 use Rattle.link.specs.declared.input.InputFault.{InputFault}
 use Rattle.link.specs.declared.input.InputFault.TheVariants as input
+use Rattle.outside.specs.Known.{OutsideKnown}
 use Rattle.replica_core.specs.Replica.{Found as Left, Known, Stands as LeftStands, Stored, stored_in}
 use Rattle.replica_state.specs.Held.{Lists}
 use Rattle.command_lines.specs.Outcomes.{content_end, input_end}
@@ -118,38 +119,40 @@ module _ {R : Type 0} (known : R → Known) (is_open : R → Type 0) (crash : R 
   sizes = Err Memory
 
   -- a command that reads no input
-  pub without_input : (a : Answer) (old new : R) (given : Input) (out_before out_after : Output)
+  pub without_input : (a : Answer) (old new : R) (outside : OutsideKnown) (out_after : Output)
       (result : Result (Unit {0}) Outcome)
       → reads_input command ≡ false → a ≡ does seed exprs sizes command lists null
-      → Carries known is_open crash a old new out_before out_after result
+      → Carries known is_open crash a old new outside.output out_after result
       → InStore command seed (is_open new) (found_open (known old)) lists image_before image_after (opened_as (known old) (crash old))
-      (opened_as (known new) (crash new)) given given out_before out_after result
-  without_input a old new given out_before out_after result reads is carries = record {
+      (opened_as (known new) (crash new)) outside (record outside { output = out_after }) result
+  without_input a old new outside out_after result reads is carries = record {
     decided = carries.decided;
     exprs = exprs;
     exprs_read = exprs_read;
     sizes = sizes;
     compacted = λ is. absurd (other is);
-    given = (took_nothing most_input given).0;
+    given = (took_nothing most_input outside.input).0;
     read = [];
     a = a;
     is = rw reads is;
     store = reads_free (found_open (known old)) true a _ (opened_as (known old) (crash old))
         (opened_as (known new) (crash new)) carries.decided carries.does;
     ready = carries.ready;
-    input = (took_nothing most_input given).1;
+    input = (took_nothing most_input outside.input).1;
     is_read = rw reads (all_read [] carries.decided);
+    peers = record { link = refl; door = refl };
     answers = carries.answers;
   }
 
   -- a command whose content was read
-  pub with_input : (tree : Tree) (a : Answer) (old new : R) (before after : Input)
-      (out_before out_after : Output) (result : Result (Unit {0}) Outcome)
-      → reads_input command ≡ true → TakesFor before after (Ok tree) → a ≡ does seed exprs sizes command lists tree
-      → Carries known is_open crash a old new out_before out_after result
+  pub with_input : (tree : Tree) (a : Answer) (old new : R) (outside : OutsideKnown) (after : Input)
+      (out_after : Output) (result : Result (Unit {0}) Outcome)
+      → reads_input command ≡ true → TakesFor outside.input after (Ok tree)
+      → a ≡ does seed exprs sizes command lists tree
+      → Carries known is_open crash a old new outside.output out_after result
       → InStore command seed (is_open new) (found_open (known old)) lists image_before image_after (opened_as (known old) (crash old))
-      (opened_as (known new) (crash new)) before after out_before out_after result
-  with_input tree a old new before after out_before out_after result reads taken is carries = record {
+      (opened_as (known new) (crash new)) outside (record outside { input = after; output = out_after }) result
+  with_input tree a old new outside after out_after result reads taken is carries = record {
     decided = carries.decided;
     exprs = exprs;
     exprs_read = exprs_read;
@@ -164,14 +167,17 @@ module _ {R : Type 0} (known : R → Known) (is_open : R → Type 0) (crash : R 
     ready = carries.ready;
     input = taken.1;
     is_read = rw reads (all_read taken.0 carries.decided);
+    peers = record { link = refl; door = refl };
     answers = carries.answers;
   }
 
   -- the input gave no content
-  module _ (r : R) (before after : Input) (out : Output) (ready : is_open r) (reads : reads_input command ≡ true) where
+  module _ (r : R) (outside : OutsideKnown) (after : Input) (ready : is_open r)
+      (reads : reads_input command ≡ true) where
     abbrev Ends : Outcome → Type 0
     Ends outcome = InStore command seed (is_open r) (found_open (known r)) lists image_before image_after
-        (opened_as (known r) (crash r)) (opened_as (known r) (crash r)) before after out out (Err outcome)
+        (opened_as (known r) (crash r)) (opened_as (known r) (crash r)) outside (record outside { input = after })
+        (Err outcome)
 
     abbrev by_content : List ℕ → Answer
     by_content given = go_on (takes (reads_input command) given)
@@ -179,7 +185,7 @@ module _ {R : Type 0} (known : R → Known) (is_open : R → Type 0) (crash : R 
 
     -- it is no content
     no_content_in : (outcome : Outcome) → ending_of outcome ≡ Answered → (given : List ℕ)
-        → Takes most_input given given before after → takes true given ≡ Err outcome → Ends outcome
+        → Takes most_input given given outside.input after → takes true given ≡ Err outcome → Ends outcome
     no_content_in outcome kind given taken why = record {
       decided = outcome;
       exprs = exprs;
@@ -199,15 +205,17 @@ module _ {R : Type 0} (known : R → Known) (is_open : R → Type 0) (crash : R 
       ready = λ no. ready;
       input = taken;
       is_read = rw reads (all_read given outcome);
+      peers = record { link = refl; door = refl };
       answers = rw kind (refl, refl);
     }
 
     -- it was not read to its end
-    broke_off : (outcome : Outcome) (given read : List ℕ) → (taken : Takes most_input given read before after)
+    broke_off : (outcome : Outcome) (given read : List ℕ) → (taken : Takes most_input given read outside.input after)
         → Cause (found_open (known r)) true (by_content given)
-        ((reads_input command ≡ true) × Rose before.faults after.faults) 0 0
+        ((reads_input command ≡ true) × Rose outside.input.faults after.faults) 0 0
         (opened_as (known r) (crash r)) (opened_as (known r) (crash r)) outcome (ending_of outcome)
-        → IsRead given read outcome → Answers (by_content given).text out out outcome (Err outcome) → Ends outcome
+        → IsRead given read outcome → Answers (by_content given).text outside.output outside.output outcome (Err outcome)
+        → Ends outcome
     broke_off outcome given read taken cause front answers = record {
       decided = outcome;
       exprs = exprs;
@@ -228,11 +236,12 @@ module _ {R : Type 0} (known : R → Known) (is_open : R → Type 0) (crash : R 
       ready = λ no. ready;
       input = taken;
       is_read = rw reads front;
+      peers = record { link = refl; door = refl };
       answers = answers;
     }
 
     untaken_by : (outcome : Outcome) (kind : Ending) → ending_of outcome ≡ kind → IsOf kind outcome
-        → TakesNone before after outcome kind → Ends outcome
+        → TakesNone outside.input after outcome kind → Ends outcome
     untaken_by outcome Answered is of taken = no_content_in outcome is taken.0 taken.1 taken.2
     untaken_by outcome InputFailed is of taken =
         rw of (broke_off SourceFault taken.0 taken.1 taken.2 ((reads, taken.3), refl) taken.2.front (refl, refl))
@@ -245,31 +254,33 @@ module _ {R : Type 0} (known : R → Known) (is_open : R → Type 0) (crash : R 
     untaken_by outcome LinkFailed is of taken = absurd taken
     untaken_by outcome DoorFailed is of taken = absurd taken
 
-    pub untaken : (outcome : Outcome) → TakesFor before after (Err outcome) → Ends outcome
+    pub untaken : (outcome : Outcome) → TakesFor outside.input after (Err outcome) → Ends outcome
     untaken outcome taken = untaken_by outcome (ending_of outcome) refl (of_kind outcome) taken
 
 -- ---- compact reads no input
 
 module _ {O : Type 0} (known : O → Known) (is_open : O → Type 0) (crash : O → ℕ → Left Stored → Type 0)
     (image : O → Option Image) (seed : ℕ) (lists : Lists) where
-  pub compacting : (old new : O) (given : Input) (out_before out_after : Output) (result : Result (Unit {0}) Outcome)
-      → CarriesCompacting known is_open crash image old new out_before out_after result
+  pub compacting : (old new : O) (outside : OutsideKnown) (out_after : Output) (result : Result (Unit {0}) Outcome)
+      → CarriesCompacting known is_open crash image old new outside.output out_after result
       → InStore Compact seed (is_open new) (found_open (known old)) lists (image old) (image new)
-      (opened_as (known old) (crash old)) (opened_as (known new) (crash new)) given given out_before out_after result
-  compacting old new given out_before out_after result done = record {
+      (opened_as (known old) (crash old)) (opened_as (known new) (crash new)) outside
+      (record outside { output = out_after }) result
+  compacting old new outside out_after result done = record {
     decided = done.carries.decided;
     exprs = Ok [];
     exprs_read = refl;
     sizes = done.sizes;
     compacted = λ is. done.comes;
-    given = (took_nothing most_input given).0;
+    given = (took_nothing most_input outside.input).0;
     read = [];
     a = compacts_as done.sizes;
     is = refl;
     store = reads_free (found_open (known old)) true (compacts_as done.sizes) _ (opened_as (known old) (crash old))
         (opened_as (known new) (crash new)) done.carries.decided done.carries.does;
     ready = done.carries.ready;
-    input = (took_nothing most_input given).1;
+    input = (took_nothing most_input outside.input).1;
     is_read = all_read [] done.carries.decided;
+    peers = record { link = refl; door = refl };
     answers = done.carries.answers;
   }

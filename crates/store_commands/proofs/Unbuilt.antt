@@ -6,7 +6,7 @@ use Rattle.cli_words.specs.declared.command.Command.TheVariants as command
 use Rattle.cli_words.specs.declared.command.Edit.{Edit}
 use Rattle.cli_words.specs.declared.command.Edit.TheVariants as edit
 use Rattle.link.proofs.Taking.{took_nothing}
-use Rattle.link.specs.Streams.{Input, Output}
+use Rattle.outside.specs.Known.{OutsideKnown}
 use Rattle.replica_state.specs.Held.{no_lists}
 use Rattle.command_lines.specs.Endings.{Answered, ending_of}
 use Rattle.command_lines.specs.declared.outcome.Outcome.{Outcome}
@@ -92,7 +92,7 @@ built_ends (command.View view) outcome is = not_yet outcome is
 
 -- ---- the run
 
-module _ (given : Command) (seed : ℕ) (store : Store) (image : Option Image) (input : Input) (out : Output) where
+module _ (given : Command) (seed : ℕ) (store : Store) (image : Option Image) (outside : OutsideKnown) where
   abbrev met : Occasion
   met = record {
     command = given;
@@ -101,11 +101,11 @@ module _ (given : Command) (seed : ℕ) (store : Store) (image : Option Image) (
     seed = seed;
     found = found_or store.found;
     lists = no_lists [] [];
-    given = (took_nothing most_input input).0;
+    given = (took_nothing most_input outside.input).0;
   }
 
-  same : LeavesUntouched given (record { store = store; image = image; input = input })
-      (record { store = store; image = image; input = input })
+  same : LeavesUntouched given (record { store = store; image = image; outside = outside })
+      (record { store = store; image = image; outside = outside })
   same not = (record { found = refl; crash = λ k o crashed. crashed; moment = refl; faults = refl; bytes = refl }, refl, refl)
 
   at_rest : (false ≡ true) ⊎ IsSettled (in_short (found_or store.found)) store
@@ -114,9 +114,9 @@ module _ (given : Command) (seed : ℕ) (store : Store) (image : Option Image) (
 
   not_built : (outcome : Outcome) → built given ≡ Err outcome → IsRead [] [] outcome
       → ending_of outcome ≡ Answered
-      → Answers [] out out outcome (Err outcome)
-      → Carried given seed (record { store = store; image = image; input = input })
-      (record { store = store; image = image; input = input }) out out (Err outcome)
+      → Answers [] outside.output outside.output outcome (Err outcome)
+      → Carried given seed (record { store = store; image = image; outside = outside })
+      (record { store = store; image = image; outside = outside }) (Err outcome)
   unfolding left_alone
   not_built outcome is read kind prints =
       let none : opens_for given (found_or store.found) (no_lists [] []) ≡ Err outcome = rw is refl in
@@ -151,16 +151,17 @@ module _ (given : Command) (seed : ℕ) (store : Store) (image : Option Image) (
               bytes = λ no shut. refl;
             };
           };
-          takes = (took_nothing most_input input).1;
+          takes = (took_nothing most_input outside.input).1;
           is_read = rw none read;
         };
         untouched = same;
+        peers = record { link = refl; door = refl };
         answers = prints;
       }
 
   pub unbuilt : (outcome : Outcome) → built given ≡ Err outcome
-      → Carried given seed (record { store = store; image = image; input = input })
-      (record { store = store; image = image; input = input }) out out (Err outcome)
+      → Carried given seed (record { store = store; image = image; outside = outside })
+      (record { store = store; image = image; outside = outside }) (Err outcome)
   unbuilt outcome is =
       ⊎_elim
       (λ refused. rw refused (not_built (Refused NotBuilt) (rw refused at is) refl refl (refl, refl)))

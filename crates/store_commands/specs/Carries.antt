@@ -4,7 +4,8 @@ use Rattle.u1_base.specs.Causes.{Rose}
 use Rattle.cli_words.specs.declared.command.Command.{Command}
 use Rattle.cli_words.specs.declared.command.Command.TheVariants.{Compact}
 use Rattle.conflicts.specs.State.{Text}
-use Rattle.link.specs.Streams.{Input, Output, Takes}
+use Rattle.link.specs.Streams.{Output, Takes}
+use Rattle.outside.specs.Known.{LeavesPeers, OutsideKnown}
 use Rattle.replica_state.specs.Held.{Lists}
 use Rattle.replica_core.specs.Replica.{Found as Left, Known, Stored}
 use Rattle.command_lines.specs.Endings.{Ending, Finished, ending_of}
@@ -33,18 +34,18 @@ abbrev pub found_open : Known → Found
 found_open known = Stands (standing_in known)
 
 -- a command, from the opening of its store on, but for its last line
-pub record Carried (command : Command) (seed : ℕ) (before after : Seen) (out_before out_after : Output)
-    (result : Result (Unit {0}) Outcome) : Type 0 where
+pub record Carried (command : Command) (seed : ℕ) (before after : Seen) (result : Result (Unit {0}) Outcome)
+    : Type 0 where
   pub decided : Outcome
   pub a : Answer
   pub decides : Decides command seed before after a decided
   pub untouched : LeavesUntouched command before after
-  pub answers : Answers a.text out_before out_after decided result
+  pub peers : LeavesPeers before.outside after.outside
+  pub answers : Answers a.text before.outside.output after.outside.output decided result
 
 -- a command over a store that is what it wants; but where a disk failed `stays` holds
 pub record InStore (command : Command) (seed : ℕ) (stays : Type 0) (found : Found) (lists : Lists)
-    (image_before image_after : Option Image) (before after : Store)
-    (input_before input_after : Input) (out_before out_after : Output)
+    (image_before image_after : Option Image) (before after : Store) (outside_before outside_after : OutsideKnown)
     (result : Result (Unit {0}) Outcome) : Type 0 where
   pub decided : Outcome
   pub exprs : Result (List Text) Outcome
@@ -55,12 +56,13 @@ pub record InStore (command : Command) (seed : ℕ) (stays : Type 0) (found : Fo
   pub read : List ℕ
   pub a : Answer
   pub is : a ≡ go_on (takes (reads_input command) given) (λ content. does seed exprs sizes command lists content)
-  pub store : Does found true a ((reads_input command ≡ true) × Rose input_before.faults input_after.faults)
-      before after decided
+  pub store : Does found true a
+      ((reads_input command ≡ true) × Rose outside_before.input.faults outside_after.input.faults) before after decided
   pub ready : decided ≢ DiskFault → stays
-  pub input : Takes most_input given read input_before input_after
+  pub input : Takes most_input given read outside_before.input outside_after.input
   pub is_read : IsRead (due_of (Ok lists) (reads_input command) given) read decided
-  pub answers : Answers a.text out_before out_after decided result
+  pub peers : LeavesPeers outside_before outside_after
+  pub answers : Answers a.text outside_before.output outside_after.output decided result
 
 -- a command over an open replica, that answers this
 module _ {R : Type 0} (known : R → Known) (is_open : R → Type 0) (crash : R → ℕ → Left Stored → Type 0) where

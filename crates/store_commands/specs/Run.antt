@@ -3,7 +3,8 @@ use Rattle.std.specs.Prelude.{◌≡◌, ◌⊎◌, ℕ, Bool, true, false, is_o
 use Rattle.u1_base.specs.Causes.{Rose}
 use Rattle.cli_words.specs.declared.command.Command.{Command}
 use Rattle.cli_words.specs.declared.command.Command.TheVariants.{Compact}
-use Rattle.link.specs.Streams.{Input, Output, Takes}
+use Rattle.link.specs.Streams.{Input, Takes}
+use Rattle.outside.specs.Known.{LeavesPeers, OutsideKnown}
 use Rattle.replica_core.specs.Replica.{Found as Left, Stored}
 use Rattle.replica_state.specs.Held.{Lists}
 use Rattle.command_lines.specs.Endings.{Ending, DiskFailed, OutOfMemory, ending_of}
@@ -17,11 +18,11 @@ use Rattle.store_commands.specs.Found.{HasLists, IsTold, IsUntouched, Store}
 use Rattle.store_commands.specs.Leaves.{Does, IsRead}
 use Rattle.store_commands.specs.Prints.{Prints, printed}
 
--- the store, its image, where contracts can see it, and the input at a moment
+-- the store, its image, where contracts can see it, and the objects outside at a moment
 pub record Seen : Type 1 where
   pub store : Store
   pub image : Option Image
-  pub input : Input
+  pub outside : OutsideKnown
 
 -- a read failed of an input that was due
 abbrev pub IsUnread : Occasion → Input → Input → Type 0
@@ -67,8 +68,8 @@ pub record Decides (command : Command) (seed : ℕ) (before after : Seen) (a : A
   pub opened : Bool
   pub read : List ℕ
   pub answers : IsAnswered o opened read a decided
-  pub does : Does o.found opened a (IsUnread o before.input after.input) before.store after.store decided
-  pub takes : Takes most_input o.given read before.input after.input
+  pub does : Does o.found opened a (IsUnread o before.outside.input after.outside.input) before.store after.store decided
+  pub takes : Takes most_input o.given read before.outside.input after.outside.input
   pub is_read : IsRead (due o) read decided
 
 -- the store is as it was
@@ -83,13 +84,15 @@ pub record IsSame (before after : Store) : Type 0 where
 abbrev pub LeavesUntouched : Command → Seen → Seen → Type 0
 LeavesUntouched command before after =
     is_ok (built command) ≡ false
-    → IsSame before.store after.store × (after.image ≡ before.image) × (after.input ≡ before.input)
+    → IsSame before.store after.store × (after.image ≡ before.image)
+    × (after.outside.input ≡ before.outside.input)
 
--- a run: a decision, and what is printed of it
-pub record Runs (command : Command) (seed : ℕ) (before after : Seen) (out_before out_after : Output)
-    (result : Outcome) : Type 0 where
+-- A run: a decision, and what is printed of it. No command has to do with a peer: none asks the link, and none takes a
+-- connection.
+pub record Runs (command : Command) (seed : ℕ) (before after : Seen) (result : Outcome) : Type 0 where
   pub decided : Outcome
   pub a : Answer
   pub decides : Decides command seed before after a decided
   pub untouched : LeavesUntouched command before after
-  pub prints : Prints (printed a decided) out_before out_after decided result
+  pub peers : LeavesPeers before.outside after.outside
+  pub prints : Prints (printed a decided) before.outside.output after.outside.output decided result

@@ -1,5 +1,6 @@
 //! A command from the opening of its store on, but for its last line.
 ghost use Rattle.std.specs.Prelude.{◌≡◌, Err, Ok, true, false, if◌then◌else◌};
+ghost use Rattle.outside.specs.Known.{outside_known};
 ghost use Rattle.replica_state.specs.Held.{lists_of};
 ghost use Rattle.store_commands.specs.Answer.{built, built_edit, has_exprs, is_limit};
 ghost use Rattle.store_commands.specs.Answer.{makes_store};
@@ -14,26 +15,37 @@ use crate::{Ended, Store};
 use cli_words::{Command, Edit};
 use command_lines::{Outcome, Refusal, UsageKind};
 use link::{Sink, Source};
+use outside::Outside;
 use std::alloc::Global;
+use sync_link::{Acceptor, Link};
 use u1_base::Text;
 use u1_base::limits::{GREATEST_IMAGE_LIMIT, LEAST_IMAGE_LIMIT, MOST_KEY_TEXTS};
 
 /// Does the command over the store, and prints its text.
-pub fn carry_out<T: Store, S: Source, K: Sink>(
+pub fn carry_out<T: Store, S: Source, K: Sink, L: Link, A: Acceptor>(
     alloc: Global,
     command: &Command,
     seed: u128,
     store: T,
-    input: &mut S,
-    out: &mut K,
+    outside: &mut Outside<S, K, L, A>,
 ) -> (Ended, T)
     ensures { Carried command.now seed
-        (record { store = T.known store; image = T.image store; input = S.known input.old })
-        (record { store = T.known result.1; image = T.image result.1; input = S.known input.new })
-        (K.known out.old) (K.known out.new) result.0 }
+        (record {
+          store = T.known store;
+          image = T.image store;
+          outside = outside_known S.known K.known L.known A.known
+              A.Conn.Source.known A.Conn.Sink.known outside.old;
+        })
+        (record {
+          store = T.known result.1;
+          image = T.image result.1;
+          outside = outside_known S.known K.known L.known A.known
+              A.Conn.Source.known A.Conn.Sink.known outside.new;
+        })
+        result.0 }
 {
     match check_built(command) {
-        Ok(()) => carry_out_built(alloc, command, seed, store, input, out),
+        Ok(()) => carry_out_built(alloc, command, seed, store, outside),
         Err(outcome) => (Err(outcome), store),
     }
 }
@@ -92,61 +104,78 @@ fn has_exprs(exprs: &[Text]) -> bool
     !exprs.is_empty() && exprs.len() <= MOST_KEY_TEXTS
 }
 
-fn carry_out_built<T: Store, S: Source, K: Sink>(
+fn carry_out_built<T: Store, S: Source, K: Sink, L: Link, A: Acceptor>(
     alloc: Global,
     command: &Command,
     seed: u128,
     store: T,
-    input: &mut S,
-    out: &mut K,
+    outside: &mut Outside<S, K, L, A>,
 ) -> (Ended, T)
     requires { built command.now ≡ Ok tt }
     ensures { Carried command.now seed
-        (record { store = T.known store; image = T.image store; input = S.known input.old })
-        (record { store = T.known result.1; image = T.image result.1; input = S.known input.new })
-        (K.known out.old) (K.known out.new) result.0 }
+        (record {
+          store = T.known store;
+          image = T.image store;
+          outside = outside_known S.known K.known L.known A.known
+              A.Conn.Source.known A.Conn.Sink.known outside.old;
+        })
+        (record {
+          store = T.known result.1;
+          image = T.image result.1;
+          outside = outside_known S.known K.known L.known A.known
+              A.Conn.Source.known A.Conn.Sink.known outside.new;
+        })
+        result.0 }
 {
     match command {
-        Command::Init { name, uid, limit } => init(alloc, seed, name, uid, *limit, store, out),
+        Command::Init { name, uid, limit } => init(alloc, seed, name, uid, *limit, store, outside),
         Command::Show(_)
         | Command::Edit(_)
         | Command::Compact
         | Command::Online(_)
         | Command::Work { .. }
-        | Command::View(_) => open_and_do(alloc, command, seed, store, input, out),
+        | Command::View(_) => open_and_do(alloc, command, seed, store, outside),
     }
 }
 
 // Opens the store that is there, and does the command in it.
-fn open_and_do<T: Store, S: Source, K: Sink>(
+fn open_and_do<T: Store, S: Source, K: Sink, L: Link, A: Acceptor>(
     alloc: Global,
     command: &Command,
     seed: u128,
     store: T,
-    input: &mut S,
-    out: &mut K,
+    outside: &mut Outside<S, K, L, A>,
 ) -> (Ended, T)
     requires built { built command.now ≡ Ok tt }
     requires opens { makes_store command.now ≡ false }
     ensures { Carried command.now seed
-        (record { store = T.known store; image = T.image store; input = S.known input.old })
-        (record { store = T.known result.1; image = T.image result.1; input = S.known input.new })
-        (K.known out.old) (K.known out.new) result.0 }
+        (record {
+          store = T.known store;
+          image = T.image store;
+          outside = outside_known S.known K.known L.known A.known
+              A.Conn.Source.known A.Conn.Sink.known outside.old;
+        })
+        (record {
+          store = T.known result.1;
+          image = T.image result.1;
+          outside = outside_known S.known K.known L.known A.known
+              A.Conn.Source.known A.Conn.Sink.known outside.new;
+        })
+        result.0 }
 {
     match store.open(alloc) {
-        Ok(opened) => do_in_opened(alloc, command, seed, opened, input, out),
+        Ok(opened) => do_in_opened(alloc, command, seed, opened, outside),
         Err((fault, store)) => (Err(Outcome::from(fault)), store),
     }
 }
 
 // Does the command in an open store, and closes it.
-fn do_in_opened<T: Store, S: Source, K: Sink>(
+fn do_in_opened<T: Store, S: Source, K: Sink, L: Link, A: Acceptor>(
     alloc: Global,
     command: &Command,
     seed: u128,
     opened: T::Opened,
-    input: &mut S,
-    out: &mut K,
+    outside: &mut Outside<S, K, L, A>,
 ) -> (Ended, T)
     requires built { built command.now ≡ Ok tt }
     requires opens { makes_store command.now ≡ false }
@@ -157,21 +186,24 @@ fn do_in_opened<T: Store, S: Source, K: Sink>(
         (T.image_in opened) (T.image result.1)
         (opened_as (T.Opened.Replica.known opened) (T.Opened.Replica.crash opened))
         (T.known result.1)
-        (S.known input.old) (S.known input.new) (K.known out.old) (K.known out.new) result.0 }
+        (outside_known S.known K.known L.known A.known A.Conn.Source.known A.Conn.Sink.known
+        outside.old)
+        (outside_known S.known K.known L.known A.known A.Conn.Source.known A.Conn.Sink.known
+        outside.new)
+        result.0 }
 {
     let mut opened = opened;
-    let ended = do_in_open::<T, S, K>(alloc, command, seed, &mut opened, input, out);
+    let ended = do_in_open::<T, S, K, L, A>(alloc, command, seed, &mut opened, outside);
     (ended, T::close(opened))
 }
 
 // Does the command in a store that stays open.
-fn do_in_open<T: Store, S: Source, K: Sink>(
+fn do_in_open<T: Store, S: Source, K: Sink, L: Link, A: Acceptor>(
     alloc: Global,
     command: &Command,
     seed: u128,
     opened: &mut T::Opened,
-    input: &mut S,
-    out: &mut K,
+    outside: &mut Outside<S, K, L, A>,
 ) -> Ended
     requires built { built command.now ≡ Ok tt }
     requires opens { makes_store command.now ≡ false }
@@ -182,12 +214,16 @@ fn do_in_open<T: Store, S: Source, K: Sink>(
         (T.image_in opened.old) (T.image_in opened.new)
         (opened_as (T.Opened.Replica.known opened.old) (T.Opened.Replica.crash opened.old))
         (opened_as (T.Opened.Replica.known opened.new) (T.Opened.Replica.crash opened.new))
-        (S.known input.old) (S.known input.new) (K.known out.old) (K.known out.new) result }
+        (outside_known S.known K.known L.known A.known A.Conn.Source.known A.Conn.Sink.known
+        outside.old)
+        (outside_known S.known K.known L.known A.known A.Conn.Source.known A.Conn.Sink.known
+        outside.new)
+        result }
 {
     match command {
-        Command::Show(show) => show_in(alloc, show, opened, out),
-        Command::Edit(edit) => edit_in(alloc, edit, seed, opened, input, out),
-        Command::Compact => compact::<T, K>(opened, out),
+        Command::Show(show) => show_in(alloc, show, opened, &mut outside.out),
+        Command::Edit(edit) => edit_in(alloc, edit, seed, opened, outside),
+        Command::Compact => compact::<T, K>(opened, &mut outside.out),
         // built and makes_store say that it is none of these
         Command::Init { .. } | Command::Online(_) | Command::Work { .. } | Command::View(_) => {
             Err(Outcome::Refused(Refusal::NotBuilt))

@@ -1,6 +1,7 @@
 //! A command in a store that is what it wants.
 ghost use Rattle.std.specs.Prelude.{◌≡◌, Ok, Option};
 ghost use Rattle.cli_words.specs.declared.command.Command.TheVariants as command;
+ghost use Rattle.outside.specs.Known.{outside_known};
 ghost use Rattle.replica_state.specs.Held.{lists_of};
 ghost use Rattle.store_commands.specs.Answer.{built_edit};
 ghost use Rattle.store_commands.specs.Carries.{Carries, InStore, found_open};
@@ -29,18 +30,19 @@ use cli_words::{Edit, Show};
 use command_lines::Outcome;
 use content::Content;
 use link::{Sink, Source, read_at_most};
+use outside::Outside;
 use replica_core::Replica;
 use std::alloc::Global;
+use sync_link::{Acceptor, Link};
 use u1_base::limits::MOST_CONTENT_BYTES;
 
 /// Does a command that makes a step over an open replica.
-pub fn edit_in<R: Replica, S: Source, K: Sink>(
+pub fn edit_in<R: Replica, S: Source, K: Sink, L: Link, A: Acceptor>(
     alloc: Global,
     edit: &Edit,
     seed: u128,
     replica: &mut R,
-    input: &mut S,
-    out: &mut K,
+    outside: &mut Outside<S, K, L, A>,
 ) -> Ended
     requires built { built_edit edit.now ≡ Ok tt }
     requires open { R.is_open replica.old }
@@ -51,27 +53,46 @@ pub fn edit_in<R: Replica, S: Source, K: Sink>(
         before after
         (opened_as (R.known replica.old) (R.crash replica.old))
         (opened_as (R.known replica.new) (R.crash replica.new))
-        (S.known input.old) (S.known input.new) (K.known out.old) (K.known out.new) result }
+        (outside_known S.known K.known L.known A.known A.Conn.Source.known A.Conn.Sink.known
+        outside.old)
+        (outside_known S.known K.known L.known A.known A.Conn.Source.known A.Conn.Sink.known
+        outside.new)
+        result }
 {
     match edit {
         Edit::Create { id } => {
-            let content = take(alloc, input)?;
-            create(alloc, seed, id, &content, replica, out)
+            let content = take(alloc, &mut outside.input)?;
+            create(alloc, seed, id, &content, replica, &mut outside.out)
         }
         Edit::Put { id, rev } => {
-            let content = take(alloc, input)?;
-            put(alloc, seed, id, rev.as_ref(), &content, replica, out)
+            let content = take(alloc, &mut outside.input)?;
+            put(
+                alloc,
+                seed,
+                id,
+                rev.as_ref(),
+                &content,
+                replica,
+                &mut outside.out,
+            )
         }
-        Edit::Delete { id, rev } => delete(alloc, seed, id, rev, replica, out),
+        Edit::Delete { id, rev } => delete(alloc, seed, id, rev, replica, &mut outside.out),
         Edit::Resolve { id, revs } => {
-            let content = take(alloc, input)?;
-            resolve(alloc, seed, id, revs, &content, replica, out)
+            let content = take(alloc, &mut outside.input)?;
+            resolve(alloc, seed, id, revs, &content, replica, &mut outside.out)
         }
-        Edit::ResolveDeleted { id, revs } => resolve_deleted(alloc, seed, id, revs, replica, out),
+        Edit::ResolveDeleted { id, revs } => resolve_deleted(
+            alloc,
+            seed,
+            id,
+            revs,
+            replica,
+            &mut outside.out,
+        ),
         Edit::IndexCreate { name, exprs } => {
-            index_create(alloc, name, exprs.as_slice(), replica, out)
+            index_create(alloc, name, exprs.as_slice(), replica, &mut outside.out)
         }
-        Edit::IndexDelete { name } => index_delete(name, replica, out),
+        Edit::IndexDelete { name } => index_delete(name, replica, &mut outside.out),
     }
 }
 

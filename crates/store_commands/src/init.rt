@@ -1,7 +1,7 @@
 //! `init`: makes a store.
 ghost use Rattle.std.specs.Prelude.{◌≡◌, ◌≤◌, IfOk, Ok};
 ghost use Rattle.cli_words.specs.declared.command.Command.TheVariants as command;
-ghost use Rattle.link.specs.Streams.{Input};
+ghost use Rattle.outside.specs.Known.{outside_known};
 ghost use Rattle.store_commands.specs.Carries.{Carried};
 ghost use Rattle.store_commands.specs.inner.Carries.{CarriesMaking, TellsMade};
 ghost use Rattle.store_commands.specs.Answer.{built};
@@ -12,28 +12,39 @@ ghost use Rattle.u1_base.specs.declared.limits.TheConstants.{LEAST_IMAGE_LIMIT};
 use crate::{Ended, Store};
 use command_lines::{Outcome, print_init};
 use disks::MakeFault;
-use link::Sink;
+use link::{Sink, Source};
+use outside::Outside;
 use std::alloc::Global;
+use sync_link::{Acceptor, Link};
 use u1_base::limits::GREATEST_IMAGE_LIMIT;
 use u1_base::{DbName, IdKind, Memory, ReplicaUid};
 
 /// Makes the store of the database, for the replica of the given uid, or of one that is made of
 /// the seed.
-pub fn init<T: Store, K: Sink>(
+pub fn init<T: Store, S: Source, K: Sink, L: Link, A: Acceptor>(
     alloc: Global,
     seed: u128,
     name: &DbName,
     uid: &Option<ReplicaUid>,
     limit: Option<u64>,
     store: T,
-    out: &mut K,
+    outside: &mut Outside<S, K, L, A>,
 ) -> (Ended, T)
     requires { built (command.Init name.now uid.now limit) ≡ Ok tt }
-    // whatever the input is: it is left alone
-    ensures { (input : Input) → Carried (command.Init name.now uid.now limit) seed
-        (record { store = T.known store; image = T.image store; input = input })
-        (record { store = T.known result.1; image = T.image result.1; input = input })
-        (K.known out.old) (K.known out.new) result.0 }
+    ensures { Carried (command.Init name.now uid.now limit) seed
+        (record {
+          store = T.known store;
+          image = T.image store;
+          outside = outside_known S.known K.known L.known A.known
+              A.Conn.Source.known A.Conn.Sink.known outside.old;
+        })
+        (record {
+          store = T.known result.1;
+          image = T.image result.1;
+          outside = outside_known S.known K.known L.known A.known
+              A.Conn.Source.known A.Conn.Sink.known outside.new;
+        })
+        result.0 }
 {
     match uid_for(alloc, seed, uid) {
         Ok(uid) => make(
@@ -42,7 +53,7 @@ pub fn init<T: Store, K: Sink>(
             &uid,
             limit.unwrap_or(GREATEST_IMAGE_LIMIT),
             store,
-            out,
+            &mut outside.out,
         ),
         Err(Memory) => (Err(Outcome::Memory), store),
     }

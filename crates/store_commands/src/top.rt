@@ -4,6 +4,7 @@ ghost use Rattle.command_lines.specs.LastLines.{last_line};
 ghost use Rattle.store_commands.specs.Complete.{RunsWhole};
 ghost use Rattle.command_lines.specs.Outcomes.{print_end};
 ghost use Rattle.command_lines.specs.declared.outcome.Outcome.TheVariants.{Memory};
+ghost use Rattle.outside.specs.Known.{outside_known};
 ghost use Rattle.store_commands.specs.Prints.{Prints, outcome_of};
 ghost use Rattle.store_commands.specs.inner.Prints.{PutsWhole};
 
@@ -12,26 +13,38 @@ use crate::{Ended, Store};
 use cli_words::Command;
 use command_lines::{Outcome, PrintFault, print_last_line};
 use link::{Sink, Source};
+use outside::Outside;
 use std::alloc::Global;
+use sync_link::{Acceptor, Link};
 
 /// Does the command over the store, and prints its lines, or else why it gave no answer.
 ///
-/// Ids are made of the seed. The store is handed back beside the outcome.
-pub fn run_over<T: Store, S: Source, K: Sink>(
+/// Ids are made of the seed. The store is handed back beside the outcome. No command asks the link
+/// or takes a connection of the door.
+pub fn run_over<T: Store, S: Source, K: Sink, L: Link, A: Acceptor>(
     alloc: Global,
     command: &Command,
     seed: u128,
     store: T,
-    input: &mut S,
-    out: &mut K,
+    outside: &mut Outside<S, K, L, A>,
 ) -> (Outcome, T)
     ensures { RunsWhole command.now seed
-        (record { store = T.known store; image = T.image store; input = S.known input.old })
-        (record { store = T.known result.1; image = T.image result.1; input = S.known input.new })
-        (K.known out.old) (K.known out.new) result.0 }
+        (record {
+          store = T.known store;
+          image = T.image store;
+          outside = outside_known S.known K.known L.known A.known
+              A.Conn.Source.known A.Conn.Sink.known outside.old;
+        })
+        (record {
+          store = T.known result.1;
+          image = T.image result.1;
+          outside = outside_known S.known K.known L.known A.known
+              A.Conn.Source.known A.Conn.Sink.known outside.new;
+        })
+        result.0 }
 {
-    let (ended, store) = carry_out(alloc, command, seed, store, input, out);
-    (finish(ended, out), store)
+    let (ended, store) = carry_out(alloc, command, seed, store, outside);
+    (finish(ended, &mut outside.out), store)
 }
 
 /// Ends a run that came so far: prints the last line of its outcome, and hands on what the output

@@ -6,9 +6,13 @@
 use cli_words::{Command, WordsFault, read_words};
 use command_lines::Outcome;
 use link::{MemSink, MemSource, read_at_most};
+use outside::{NoDoor, Outside};
 use std::alloc::Global;
 use store_commands::{MemStore, run_over};
+use sync_link::{MemLink, Replies};
 use u1_base::{Bytes, Memory, Numbers, Text, Texts};
+
+type Around = Outside<MemSource, MemSink, MemLink, NoDoor>;
 
 // The words of a command after the directory, its input, what it prints, and what is left of the
 // input.
@@ -62,19 +66,18 @@ fn walk(alloc: Global, store: MemStore, rows: &[Row]) -> (bool, MemStore) {
 }
 
 fn step(alloc: Global, store: MemStore, row: &Row) -> (bool, MemStore) {
-    match source_of(alloc, row.1) {
-        Ok(mut input) => step_from(alloc, store, row, &mut input),
+    match around(alloc, row.1) {
+        Ok(mut outside) => step_from(alloc, store, row, &mut outside),
         Err(Memory) => (false, store),
     }
 }
 
-fn step_from(alloc: Global, store: MemStore, row: &Row, input: &mut MemSource) -> (bool, MemStore) {
+fn step_from(alloc: Global, store: MemStore, row: &Row, outside: &mut Around) -> (bool, MemStore) {
     let (line, _, printed, left) = *row;
-    let mut out = MemSink::new(alloc, Numbers::new(alloc));
-    let (outcome, store) = run_line(alloc, line, store, input, &mut out);
+    let (outcome, store) = run_line(alloc, line, store, outside);
     let good = has_ended(&outcome)
-        && out.bytes() == printed.as_bytes()
-        && leaves(alloc, input, left);
+        && outside.out.bytes() == printed.as_bytes()
+        && leaves(alloc, &mut outside.input, left);
     (good, store)
 }
 
@@ -94,6 +97,16 @@ fn leaves(alloc: Global, input: &mut MemSource, left: &str) -> bool {
     }
 }
 
+// What stands outside: this input, an empty output, and no peer.
+fn around(alloc: Global, text: &str) -> Result<Around, Memory> {
+    Ok(Outside {
+        input: source_of(alloc, text)?,
+        out: MemSink::new(alloc, Numbers::new(alloc)),
+        link: MemLink::new(Replies::new(alloc), 1, Numbers::new(alloc)),
+        door: NoDoor,
+    })
+}
+
 fn source_of(alloc: Global, text: &str) -> Result<MemSource, Memory> {
     let mut bytes = Bytes::new(alloc);
     bytes.extend(text.as_bytes())?;
@@ -106,11 +119,10 @@ fn run_line(
     alloc: Global,
     line: &str,
     store: MemStore,
-    input: &mut MemSource,
-    out: &mut MemSink,
+    outside: &mut Around,
 ) -> (Outcome, MemStore) {
     match command_of(alloc, line) {
-        Ok(command) => run_over(alloc, &command, 0, store, input, out),
+        Ok(command) => run_over(alloc, &command, 0, store, outside),
         Err(_) => (Outcome::Memory, store),
     }
 }

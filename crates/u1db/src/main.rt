@@ -16,6 +16,7 @@ use crate::usage::usage;
 use command_lines::{Outcome, outcome_status};
 use disk_model::FileFault;
 use link::{StdSink, StdSource};
+use outside::{NoDoor, Outside};
 use replica_cli::run;
 use std::alloc::Global;
 use std::env::{self, Args};
@@ -25,11 +26,15 @@ use std::random::RandomSource;
 use std::rt::{Stdin, Stdout};
 use store_commands::finish;
 use store_files::{FolderLock, StoreFiles, files_in, lock_folder};
-use u1_base::{Memory, Text, Texts};
+use sync_link::{MemLink, Replies};
+use u1_base::{Memory, Numbers, Text, Texts};
 
 /// The standard output. What is printed is handed on in pieces of 4 to 8 KiB, and the rest at the
 /// end.
 type Printed = StdSink<InPieces<BufWriter<Output<Stdout>>>>;
+
+/// What a run reads from and prints to.
+type Around = Outside<StdSource<Stdin>, Printed, MemLink, NoDoor>;
 
 fn main(rt: HostRuntime) -> ExitCode {
     // Held until the end, so that no file of the store takes the number of a standard stream.
@@ -84,9 +89,19 @@ fn in_folder(words: &[Text]) -> &[Text] {
 
 fn do_words(rt: &HostRuntime, words: &[Text]) -> Outcome {
     match printed(rt) {
-        Ok(mut out) => carry_out(rt, words, &mut out),
+        Ok(out) => do_around(rt, words, out),
         Err(Memory) => Outcome::Memory,
     }
+}
+
+fn do_around(rt: &HostRuntime, words: &[Text], out: Printed) -> Outcome {
+    let mut outside = Outside {
+        input: StdSource::new(rt.stdin()),
+        out,
+        link: MemLink::new(Replies::new(rt.alloc()), 1, Numbers::new(rt.alloc())),
+        door: NoDoor,
+    };
+    carry_out(rt, words, &mut outside)
 }
 
 fn printed(rt: &HostRuntime) -> Result<Printed, Memory> {
@@ -98,15 +113,15 @@ fn printed(rt: &HostRuntime) -> Result<Printed, Memory> {
 }
 
 // Runs the command with what it needs, or tells what of it the system did not give.
-fn carry_out(rt: &HostRuntime, words: &[Text], out: &mut Printed) -> Outcome {
+fn carry_out(rt: &HostRuntime, words: &[Text], outside: &mut Around) -> Outcome {
     let Ok(needs) = needs_of(rt.alloc(), words) else {
         return Outcome::Memory;
     };
     match seed_for(rt, needs) {
-        Ok(seed) => run_alone(rt, words, needs, seed, out),
+        Ok(seed) => run_alone(rt, words, needs, seed, outside),
         Err(error) => {
             say(rt, failed(rt.alloc(), "random bytes", Some(error)));
-            finish(Err(Outcome::SourceFault), out)
+            finish(Err(Outcome::SourceFault), &mut outside.out)
         }
     }
 }
@@ -126,14 +141,14 @@ fn run_alone(
     words: &[Text],
     needs: Needs,
     seed: u128,
-    out: &mut Printed,
+    outside: &mut Around,
 ) -> Outcome {
     let held = lock_for(rt, words, needs);
     match &held {
-        Ok(_) => run_in_folder(rt, words, seed, out),
+        Ok(_) => run_in_folder(rt, words, seed, outside),
         Err(fault) => {
             say(rt, file_fault(rt.alloc(), folder_of(words), fault));
-            finish(Err(Outcome::DiskFault), out)
+            finish(Err(Outcome::DiskFault), &mut outside.out)
         }
     }
 }
@@ -151,9 +166,9 @@ fn lock_for(
 }
 
 // Without words no file is ever used.
-fn run_in_folder(rt: &HostRuntime, words: &[Text], seed: u128, out: &mut Printed) -> Outcome {
+fn run_in_folder(rt: &HostRuntime, words: &[Text], seed: u128, outside: &mut Around) -> Outcome {
     match files_in(rt, folder_of(words)) {
-        Ok(files) => run_on_files(rt, words, seed, files, out),
+        Ok(files) => run_on_files(rt, words, seed, files, outside),
         Err(Memory) => Outcome::Memory,
     }
 }
@@ -163,11 +178,10 @@ fn run_on_files(
     words: &[Text],
     seed: u128,
     files: StoreFiles<HostRuntime>,
-    out: &mut Printed,
+    outside: &mut Around,
 ) -> Outcome {
-    let mut input = StdSource::new(rt.stdin());
-    let (outcome, files) = run(rt.alloc(), words, seed, files, &mut input, out);
-    explain(rt, words, &outcome, &files, &input, out);
+    let (outcome, files) = run(rt.alloc(), words, seed, files, outside);
+    explain(rt, words, &outcome, &files, outside);
     outcome
 }
 
@@ -177,8 +191,7 @@ fn explain(
     words: &[Text],
     outcome: &Outcome,
     files: &StoreFiles<HostRuntime>,
-    input: &StdSource<Stdin>,
-    out: &Printed,
+    outside: &Around,
 ) {
     let alloc = rt.alloc();
     match outcome {
@@ -189,8 +202,8 @@ fn explain(
         ),
         Outcome::StoreFull { need, limit } => say(rt, full(alloc, words, *need, *limit)),
         Outcome::DiskFault => say(rt, disk_fault(alloc, words, files)),
-        Outcome::SourceFault => say(rt, failed(alloc, "standard input", input.fault())),
-        Outcome::SinkFault => say(rt, failed(alloc, "standard output", out.fault())),
+        Outcome::SourceFault => say(rt, failed(alloc, "standard input", outside.input.fault())),
+        Outcome::SinkFault => say(rt, failed(alloc, "standard output", outside.out.fault())),
         _ => {}
     }
 }

@@ -1,11 +1,11 @@
 -- One run more, and the end of the list.
-use Rattle.std.proofs.Common.{◌≡◌, ℕ, [], ◌∷◌, ◌++◌, List, length, map, refl, sym, ◌∙◌, ap, subst, append-nil}
+use Rattle.std.proofs.Common.{◌≡◌, [], ◌∷◌, ◌++◌, List, length, map, refl, sym, ◌∙◌, ap, subst, append-nil}
 use Rattle.std.proofs.Common.{append_assoc, arith, rules}
 use Rattle.std.proofs.lemmas.Grind.{common_steps}
 use Rattle.std.proofs.lemmas.List.{length-append}
 use Rattle.std.specs.Vec.Iter.{into_iter_items}
 use Rattle.command_lines.specs.declared.outcome.Outcome.{Outcome}
-use Rattle.replica_cli.specs.Run.{Runs, around}
+use Rattle.outside.specs.Known.{outside_known}
 use Rattle.run_lists.specs.Lists.{RunInTurn, asked, between}
 use Rattle.run_lists.proofs.list.run_each.Goals as goal
 
@@ -17,7 +17,9 @@ loop-request-init g c =
       room = first_of (search rules, grind (arith, common_steps));
       left = sym all;
       so_far = λ after others x.
-          let start = between g.D.Disk.known c.args.disks (g.K.Sink.known c.args.out.now) in
+          let known = outside_known g.S.Source.known g.K.Sink.known g.L.Link.known g.A.Acceptor.known
+          g.A.Conn.Source.known g.A.Conn.Sink.known in
+          let start = between g.D.Disk.known c.args.disks (known c.args.outside.now) in
           subst (λ (os : List Outcome). RunInTurn g.D.Disk.tells
           (map (asked g.S.Source.known) c.args.requests.items) start after (os ++ others)) (sym c.in-Ok.ensures.items)
           (subst (λ rs. RunInTurn g.D.Disk.tells (map (asked g.S.Source.known) rs) start after others) all x);
@@ -35,16 +37,12 @@ pub loop-request-preserved : goal.loop-request-preserved
 loop-request-preserved g c =
     let i = c.loop-request.invariant in
     let tells = g.D.Disk.tells in
-    let middle = between g.D.Disk.known c.run-outcome.result.1 (g.K.Sink.known c.run-outcome.new.out) in
-    let start = between g.D.Disk.known c.args.disks (g.K.Sink.known c.args.out.now) in
-    let now = between g.D.Disk.known c.loop-request.disks (g.K.Sink.known c.loop-request.out) in
-    let before = around g.D.Disk.known c.loop-request.disks (g.S.Source.known c.in-Some.request.input)
-    (g.K.Sink.known c.loop-request.out) in
-    let after_it = around g.D.Disk.known c.run-outcome.result.1 (g.S.Source.known c.run-outcome.new.input)
-    (g.K.Sink.known c.run-outcome.new.out) in
-    let outcome = c.run-outcome.result.0 in
-    let runs = subst (λ (words : List (List ℕ)). Runs tells words c.in-Some.request.seed before after_it outcome)
-    c.as_slice.ensures c.run-outcome.ensures in
+    let known = outside_known g.S.Source.known g.K.Sink.known g.L.Link.known g.A.Acceptor.known
+    g.A.Conn.Source.known g.A.Conn.Sink.known in
+    let middle = between g.D.Disk.known c.run_one-outcome.result.1 (known c.run_one-outcome.new.outside) in
+    let start = between g.D.Disk.known c.args.disks (known c.args.outside.now) in
+    let now = between g.D.Disk.known c.loop-request.disks (known c.loop-request.outside) in
+    let outcome = c.run_one-outcome.result.0 in
     record {
       count = omega (
         arith,
@@ -58,7 +56,7 @@ loop-request-preserved g c =
       so_far = λ after others x.
           let one = subst (λ rs. RunInTurn tells (map (asked g.S.Source.known) rs) now after (outcome ∷ others))
           (sym c.in-Some.ensures.steps.0)
-          (middle, (record { read = g.S.Source.known c.run-outcome.new.input; runs = runs }), x) in
+          (middle, c.run_one-outcome.ensures, x) in
           subst (λ (os : List Outcome). RunInTurn tells
           (map (asked g.S.Source.known) c.args.requests.items) start after os)
           (sym (append_assoc c.loop-request.outcomes.items (outcome ∷ []) others)
@@ -70,8 +68,10 @@ pub returns-clause-runs : goal.returns-clause-runs
 returns-clause-runs g c =
     let i = c.loop-request.invariant in
     let tells = g.D.Disk.tells in
-    let start = between g.D.Disk.known c.args.disks (g.K.Sink.known c.args.out.now) in
-    let now = between g.D.Disk.known c.loop-request.disks (g.K.Sink.known c.loop-request.out) in
+    let known = outside_known g.S.Source.known g.K.Sink.known g.L.Link.known g.A.Acceptor.known
+    g.A.Conn.Source.known g.A.Conn.Sink.known in
+    let start = between g.D.Disk.known c.args.disks (known c.args.outside.now) in
+    let now = between g.D.Disk.known c.loop-request.disks (known c.loop-request.outside) in
     let none : into_iter_items c.loop-request.request-iterator ≡ [] =
     first_of (search rules, grind (arith, common_steps)) in
     subst (λ (os : List Outcome). RunInTurn tells (map (asked g.S.Source.known) c.args.requests.items) start now os)

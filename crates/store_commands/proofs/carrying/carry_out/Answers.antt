@@ -7,4 +7,4 @@ pub returns-in-Ok : goal.returns-in-Ok
 returns-in-Ok g c = c.carry_out_built.ensures
 
 pub returns-in-Err : goal.returns-in-Err
-returns-in-Err g c = unbuilt c.args.command.now c.args.seed _ _ _ _ _ (sym c.in-Err.ensures)
+returns-in-Err g c = unbuilt c.args.command.now c.args.seed _ _ _ _ (sym c.in-Err.ensures)

@@ -10,7 +10,7 @@ returns-in-Compact g c =
     let r = g.T.Opened.Replica in
     rw c.in-Compact.is
     (compacting r.known r.is_open r.crash g.T.Store.image_in c.args.seed (lists_of (r.known c.args.opened.now).state) _ _
-    _ _ _ _ c.compact.ensures)
+    _ _ _ c.compact.ensures)
 
 pub returns-in-Show : goal.returns-in-Show
 returns-in-Show g c =
@@ -18,4 +18,4 @@ returns-in-Show g c =
     rw c.in-Show.is
     (without_input r.known r.is_open r.crash g.met.T.Opened.Replica.settled (command.Show c.in-Show.show) c.args.seed
     (Ok []) refl (λ h. cc) (lists_of (r.known c.args.opened.now).state) _ _
-    _ _ _ _ _ _ _ refl refl c.show_in.ensures)
+    _ _ _ _ _ _ refl refl c.show_in.ensures)

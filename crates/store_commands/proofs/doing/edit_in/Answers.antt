@@ -15,7 +15,7 @@ returns-in_err-content-in-Create g c before after =
     rw (p.1, p.2, c.in-Create.is)
     (untaken r.known r.is_open r.crash g.met.R.Replica.settled (Edit (edit.Create c.in-Create.id)) c.args.seed (Ok []) refl
     (λ h. cc) (lists_of (r.known c.args.replica.now).state) before after
-    c.args.replica.now _ _ _ c.requires.open refl _ c.in_err-content-in-Create.ensures)
+    c.args.replica.now _ _ c.requires.open refl _ c.in_err-content-in-Create.ensures)
 
 pub returns-in_ok-content-in-Create : goal.returns-in_ok-content-in-Create
 returns-in_ok-content-in-Create g c before after =
@@ -23,7 +23,7 @@ returns-in_ok-content-in-Create g c before after =
     rw c.in-Create.is
     (with_input r.known r.is_open r.crash g.met.R.Replica.settled (Edit (edit.Create c.in-Create.id)) c.args.seed
     (Ok []) refl (λ h. cc) (lists_of (r.known c.args.replica.now).state) before after
-    _ _ _ _ _ _ _ _ _ refl c.in_ok-content-in-Create.ensures refl c.create.ensures)
+    _ _ _ _ _ _ _ _ refl c.in_ok-content-in-Create.ensures refl c.create.ensures)
 
 pub returns-in_err-content-in-Put : goal.returns-in_err-content-in-Put
 returns-in_err-content-in-Put g c before after =
@@ -33,7 +33,7 @@ returns-in_err-content-in-Put g c before after =
     rw (p.1, p.2, c.in-Put.is)
     (untaken r.known r.is_open r.crash g.met.R.Replica.settled (Edit (edit.Put c.in-Put.id c.in-Put.rev)) c.args.seed
     (Ok []) refl (λ h. cc) (lists_of (r.known c.args.replica.now).state) before after
-    c.args.replica.now _ _ _ c.requires.open refl _ c.in_err-content-in-Put.ensures)
+    c.args.replica.now _ _ c.requires.open refl _ c.in_err-content-in-Put.ensures)
 
 pub returns-in_ok-content-in-Put : goal.returns-in_ok-content-in-Put
 returns-in_ok-content-in-Put g c before after =
@@ -41,7 +41,7 @@ returns-in_ok-content-in-Put g c before after =
     rw c.in-Put.is
     (with_input r.known r.is_open r.crash g.met.R.Replica.settled (Edit (edit.Put c.in-Put.id c.in-Put.rev)) c.args.seed
     (Ok []) refl (λ h. cc) (lists_of (r.known c.args.replica.now).state) before after
-    _ _ _ _ _ _ _ _ _ refl c.in_ok-content-in-Put.ensures refl (rw c.as_ref.ensures.value at c.put.ensures))
+    _ _ _ _ _ _ _ _ refl c.in_ok-content-in-Put.ensures refl (rw c.as_ref.ensures.value at c.put.ensures))
 
 pub returns-in_err-content-in-Resolve : goal.returns-in_err-content-in-Resolve
 returns-in_err-content-in-Resolve g c before after =
@@ -52,7 +52,7 @@ returns-in_err-content-in-Resolve g c before after =
     (untaken r.known r.is_open r.crash g.met.R.Replica.settled
     (Edit (edit.Resolve c.in-Resolve.id c.in-Resolve.revs)) c.args.seed (Ok []) refl (λ h. cc)
     (lists_of (r.known c.args.replica.now).state) before after
-    c.args.replica.now _ _ _ c.requires.open refl _ c.in_err-content-in-Resolve.ensures)
+    c.args.replica.now _ _ c.requires.open refl _ c.in_err-content-in-Resolve.ensures)
 
 pub returns-in_ok-content-in-Resolve : goal.returns-in_ok-content-in-Resolve
 returns-in_ok-content-in-Resolve g c before after =
@@ -61,7 +61,7 @@ returns-in_ok-content-in-Resolve g c before after =
     (with_input r.known r.is_open r.crash g.met.R.Replica.settled
     (Edit (edit.Resolve c.in-Resolve.id c.in-Resolve.revs)) c.args.seed (Ok []) refl (λ h. cc)
     (lists_of (r.known c.args.replica.now).state) before after
-    _ _ _ _ _ _ _ _ _ refl c.in_ok-content-in-Resolve.ensures refl c.resolve.ensures)
+    _ _ _ _ _ _ _ _ refl c.in_ok-content-in-Resolve.ensures refl c.resolve.ensures)
 
 pub returns-in-Delete : goal.returns-in-Delete
 returns-in-Delete g c before after =
@@ -70,7 +70,7 @@ returns-in-Delete g c before after =
     (without_input r.known r.is_open r.crash g.met.R.Replica.settled
     (Edit (edit.Delete c.in-Delete.id c.in-Delete.rev)) c.args.seed (Ok []) refl (λ h. cc)
     (lists_of (r.known c.args.replica.now).state) before after
-    _ _ _ _ _ _ _ refl refl c.delete.ensures)
+    _ _ _ _ _ _ refl refl c.delete.ensures)
 
 pub returns-in-ResolveDeleted : goal.returns-in-ResolveDeleted
 returns-in-ResolveDeleted g c before after =
@@ -79,7 +79,7 @@ returns-in-ResolveDeleted g c before after =
     (without_input r.known r.is_open r.crash g.met.R.Replica.settled
     (Edit (edit.ResolveDeleted c.in-ResolveDeleted.id c.in-ResolveDeleted.revs)) c.args.seed (Ok []) refl (λ h. cc)
     (lists_of (r.known c.args.replica.now).state) before after
-    _ _ _ _ _ _ _ refl refl c.resolve_deleted.ensures)
+    _ _ _ _ _ _ refl refl c.resolve_deleted.ensures)
 
 pub returns-in-IndexDelete : goal.returns-in-IndexDelete
 returns-in-IndexDelete g c before after =
@@ -88,7 +88,7 @@ returns-in-IndexDelete g c before after =
     (without_input r.known r.is_open r.crash g.met.R.Replica.settled
     (Edit (edit.IndexDelete c.in-IndexDelete.name)) c.args.seed (Ok []) refl (λ h. cc)
     (lists_of (r.known c.args.replica.now).state) before after
-    _ _ _ _ _ _ _ refl refl c.index_delete.ensures)
+    _ _ _ _ _ _ refl refl c.index_delete.ensures)
 
 pub index_create-requires : goal.index_create-requires
 index_create-requires g c =
@@ -103,4 +103,4 @@ returns-in-IndexCreate g c before after =
     (without_input r.known r.is_open r.crash g.met.R.Replica.settled
     (Edit (edit.IndexCreate c.in-IndexCreate.name c.in-IndexCreate.exprs)) c.args.seed done.0 done.1 (λ h. cc)
     (lists_of (r.known c.args.replica.now).state) before after
-    _ _ _ _ _ _ _ refl refl done.2)
+    _ _ _ _ _ _ refl refl done.2)

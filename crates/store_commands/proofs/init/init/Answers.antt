@@ -11,12 +11,12 @@ make-requires g c =
     record { least = rw c.unwrap_or.ensures both.0; greatest = rw c.unwrap_or.ensures both.1 }
 
 pub returns-in-Ok : goal.returns-in-Ok
-returns-in-Ok g c = λ input.
+returns-in-Ok g c =
     let m = c.make.ensures in
-    made_so c.args.name.now c.args.uid.now c.args.limit c.args.seed _ _ _ _ input _ _ _ c.requires m.made
+    made_so c.args.name.now c.args.uid.now c.args.limit c.args.seed _ _ _ _ _ _ _ c.requires m.made
     (rw (c.in-Ok.ensures, c.unwrap_or.ensures) at m.makes) (rw c.in-Ok.ensures at m.tells)
 
 pub returns-in-Err : goal.returns-in-Err
-returns-in-Err g c = λ input.
-    made_so c.args.name.now c.args.uid.now c.args.limit c.args.seed _ _ _ _ input _ _ _ c.requires (Err Memory)
+returns-in-Err g c =
+    made_so c.args.name.now c.args.uid.now c.args.limit c.args.seed _ _ _ _ _ _ _ c.requires (Err Memory)
     (left_alone _, refl) (refl, refl)
